@@ -1,10 +1,6 @@
 -- Events at which an applicant neither leaves VO nor goes there.
 use Rattle.std.proofs.Common.{◌≡◌, Bool, refl}
-use Rattle.applicant.specs.declared.Applicant.{Applicant}
-use Rattle.applicant.specs.declared.Applicant.TheVariants.{Vo}
-use Rattle.applicant.specs.declared.AppEvent.{AppEvent}
-use Rattle.applicant.specs.declared.AppEvent.TheVariants.{RxIn, RxMt, RxLv, RxLeaveAll, Periodic}
-use Rattle.applicant.specs.Table.{next, is_observer}
+use Rattle.applicant.specs.{Applicant, Vo, AppEvent, RxIn, RxMt, RxLv, RxLeaveAll, Periodic, next, is_observer}
 
 -- an applicant is in VO after an event exactly where it was before
 abbrev pub KeepsObserver : AppEvent → Type 0

@@ -1,11 +1,9 @@
 -- The Applicant's table, after IEEE Std 802.1Q-2018, 10.7.7 (Table 10-3), for full participants on
 -- point-to-point links, and how a participant's user drives it.
 use Rattle.std.specs.Prelude.{Bool, true, false, if◌then◌else◌}
-use Rattle.applicant.specs.declared.Applicant.{Applicant}
+use Rattle.applicant.specs.declared.{Applicant.Applicant, AppEvent.AppEvent, Say.Say}
 use Rattle.applicant.specs.declared.Applicant.TheVariants.{Vo, Vp, Vn, An, Aa, Qa, La}
-use Rattle.applicant.specs.declared.AppEvent.{AppEvent}
 use Rattle.applicant.specs.declared.AppEvent.TheVariants.{NewReq, JoinReq, LvReq, RxIn, RxMt, RxLv, RxLeaveAll, Periodic, Tx, TxLeaveAll, TxLeaveAllFull}
-use Rattle.applicant.specs.declared.Say.{Say}
 use Rattle.applicant.specs.declared.Say.TheVariants.{Quiet, New, Join, Lv}
 
 -- what stands in a cell: from the state of its column to the new state and what is said

@@ -1,33 +1,10 @@
 -- Keys that ascend strictly: where a key stands, and what putting one in and taking one out leave.
-use Rattle.std.proofs.Common.{◌≡◌, ℕ, zero, suc, ◌<◌, ◌≤◌, Bool, true, false, not, if◌then◌else◌, List, [], ◌∷◌, length, get_or, refl, sym, ap, ◌∙◌, arith, add-one}
-use Rattle.std.specs.Prelude.{filter, Result, Ok, Err}
-use Rattle.std.specs.declared.cmp.Ordering.{Ordering}
-use Rattle.std.specs.declared.cmp.Ordering.TheVariants.{Less, Equal, Greater}
-use Rattle.std.specs.Ordering.{is_eq, is_lt, ordering_index, ordering_reverse}
-use Rattle.std.specs.Cmp.{IsTotalOrder}
-use Rattle.std.proofs.lemmas.Cmp.{alike_right}
-use Rattle.std.specs.List.{AllByRecursion}
-use Rattle.std.specs.List.Sorted.{IsPartitionPoint, IsNonDecreasingBy, IsSortedBy, IsBinarySearchResult, IsSearchInRange}
-use Rattle.std.proofs.lemmas.List.Sorted.{searchable_from_sorted}
-use Rattle.attribute_propagation.specs.Dirty.{IsAscending, is_awaiting, with_key, marked_at, without_key, IsFoundAt, IsMissingAt, IsPlace}
-
-Each-map : {X : Type 0} (P Q : X → Type 0) → ((x : X) → P x → Q x) → (xs : List X) → AllByRecursion P xs → AllByRecursion Q xs
-Each-map P Q f [] h = tt
-Each-map P Q f (x ∷ xs) h = (f x h.0, Each-map P Q f xs h.1)
-
-Each-at : {X : Type 0} (P : X → Type 0) (xs : List X) → AllByRecursion P xs → (i : ℕ) (d : X) → i < length xs → P (get_or xs i d)
-Each-at P [] h i d below = absurd (omega arith)
-Each-at P (x ∷ xs) h zero d below = h.0
-Each-at P (x ∷ xs) h (suc i) d below = Each-at P xs h.1 i d (omega arith)
-
--- what holds of both holds of the chosen one
-chosen : {X : Type 0} (b : Bool) (P : X → Type 0) (x y : X) → P x → P y → P (if b then x else y)
-chosen true P x y h k = h
-chosen false P x y h k = k
-
-Each-filter : {X : Type 0} (P : X → Type 0) (p : X → Bool) (xs : List X) → AllByRecursion P xs → AllByRecursion P (filter p xs)
-Each-filter P p [] h = tt
-Each-filter P p (x ∷ xs) h = chosen (p x) (AllByRecursion P) (x ∷ filter p xs) (filter p xs) (h.0, Each-filter P p xs h.1) (Each-filter P p xs h.1)
+use Rattle.std.proofs.Common.{◌≡◌, ℕ, zero, suc, ◌<◌, ◌≤◌, false, not, List, [], ◌∷◌, length, get_or, refl, sym, ap, ◌∙◌, arith, add-one}
+use Rattle.std.specs.Prelude.{Result, Ok, Err}
+use Rattle.std.specs.{declared.cmp.Ordering.Ordering, declared.cmp.Ordering.TheVariants.Less, declared.cmp.Ordering.TheVariants.Equal, declared.cmp.Ordering.TheVariants.Greater, Ordering.is_eq, Ordering.is_lt, Ordering.ordering_index, Ordering.ordering_reverse, Cmp.IsTotalOrder, List.AllByRecursion, List.Sorted.IsPartitionPoint, List.Sorted.IsNonDecreasingBy, List.Sorted.IsSortedBy, List.Sorted.IsBinarySearchResult, List.Sorted.IsSearchInRange}
+use Rattle.std.proofs.lemmas.{Cmp.alike_right, List.Sorted.searchable_from_sorted}
+use Rattle.srp_base.proofs.{Lists.each_filter as Each-filter, Lists.Each-map, Lists.Each-at, Bools.chosen}
+use Rattle.attribute_propagation.specs.{IsAscending, is_awaiting, with_key, marked_at, without_key, IsFoundAt, IsMissingAt, IsPlace}
 
 module _ {K : Type 0} {cmp : K → K → Ordering} (o : IsTotalOrder cmp) where
   -- keys above k

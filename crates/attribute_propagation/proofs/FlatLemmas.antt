@@ -1,7 +1,7 @@
 -- A place other than one is true: as a test, and as a fact.
-use Rattle.std.proofs.Common.{◌≡◌, ◌≢◌, ◌↔◌, ℕ, zero, suc, Bool, true, false, ◌||◌, List, [], ◌∷◌, refl, IsTrue, arith}
+use Rattle.std.proofs.Common.{◌≡◌, ◌≢◌, ◌↔◌, ℕ, zero, suc, Bool, true, false, List, [], ◌∷◌, refl, IsTrue, arith}
 use Rattle.std.specs.Prelude.{slice_get, Some}
-use Rattle.attribute_propagation.specs.Flat.{is_any, elsewhere, IsElsewhere}
+use Rattle.attribute_propagation.specs.{is_any, elsewhere, IsElsewhere}
 
 any_at : (places : List Bool) → is_any places ≡ true → (i : ℕ) × (slice_get places i ≡ Some true)
 any_at [] h = cc
@@ -21,10 +21,6 @@ some_elsewhere zero (b ∷ places) h = let at = any_at places h in (suc at.0, λ
 some_elsewhere (suc p) (true ∷ places) h = (0, λ e. absurd (omega arith), refl)
 some_elsewhere (suc p) (false ∷ places) h =
     let at = some_elsewhere p places h in (suc at.0, λ e. at.1 (omega arith), at.2)
-
-or_true : (b : Bool) → (b || true) ≡ true
-or_true true = refl
-or_true false = refl
 
 pub elsewhere_some : (p : ℕ) (places : List Bool) (i : ℕ) → i ≢ p → slice_get places i ≡ Some true → elsewhere p places ≡ true
 elsewhere_some p [] i ne at = cc

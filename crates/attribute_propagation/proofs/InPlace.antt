@@ -1,10 +1,8 @@
 -- Sets that are changed in place, one after the other.
 use Rattle.std.proofs.Common.{◌≡◌, ◌≤◌, ◌<◌, ◌+◌, ℕ, zero, suc, Bool, if◌then◌else◌, List, [], ◌∷◌, length, map, get_or, set, refl, ap, sym, subst, ◌∙◌, arith}
 use Rattle.std.specs.Prelude.{◌==◌}
-use Rattle.std.specs.List.{AllByRecursion}
-use Rattle.std.specs.declared.cmp.Ordering.{Ordering}
-use Rattle.attribute_propagation.specs.Dirty.{KeySet, all_marked}
-use Rattle.attribute_propagation.specs.Ports.{HasRoom, keys_in, marked_from, marked_everywhere}
+use Rattle.std.specs.{List.AllByRecursion, declared.cmp.Ordering.Ordering}
+use Rattle.attribute_propagation.specs.{KeySet, all_marked, HasRoom, keys_in, marked_from, marked_everywhere}
 
 module _ {K : Type 0} where
   -- the first so many of these sets, the first at place n, have become others, each as its place asks; the rest are as they were

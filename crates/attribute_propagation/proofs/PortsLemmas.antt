@@ -1,17 +1,10 @@
 -- What keys that are put in make of each set; where no key is, the sets stay as they are.
-use Rattle.std.proofs.Common.{◌≡◌, ◌+◌, ℕ, zero, suc, Bool, true, false, ◌||◌, if◌then◌else◌, List, [], ◌∷◌, length, map, refl, ap, ◌∙◌, arith}
+use Rattle.std.proofs.Common.{◌≡◌, ◌+◌, ℕ, zero, suc, Bool, true, false, if◌then◌else◌, List, [], ◌∷◌, length, refl, ap, ◌∙◌, arith}
 use Rattle.std.specs.Prelude.{◌==◌, Some, option_map, slice_get}
-use Rattle.std.specs.List.{list_any}
-use Rattle.std.specs.declared.cmp.Ordering.{Ordering}
+use Rattle.std.specs.{declared.cmp.Ordering.Ordering, Cmp.IsTotalOrder}
 use Rattle.std.proofs.lemmas.Option.{slice_get-map}
-use Rattle.std.specs.Cmp.{IsTotalOrder}
-use Rattle.attribute_propagation.specs.Dirty.{all_marked}
-use Rattle.attribute_propagation.specs.Ports.{HasTold, marked_from, marked_everywhere}
+use Rattle.attribute_propagation.specs.{all_marked, HasTold, marked_from, marked_everywhere}
 use Rattle.attribute_propagation.proofs.AwaitingLemmas.{awaiting-all_marked}
-
-pub list_any-map : {X Y : Type 0} (p : Y → Bool) (f : X → Y) (xs : List X) → list_any p (map f xs) ≡ list_any (λ x. p (f x)) xs
-list_any-map p f [] = refl
-list_any-map p f (x ∷ xs) = ap (λ b. p (f x) || b) (list_any-map p f xs)
 
 module _ {K : Type 0} (cmp : K → K → Ordering) where
   same : (b : Bool) (set : List K) → (if b then set else set) ≡ set

@@ -1,9 +1,7 @@
 -- The link ports of a node, and the keys that await settling at each, port by port.
 use Rattle.std.specs.Prelude.{◌≡◌, ◌≤◌, ℕ, ◌+◌, ◌-◌, ◌==◌, Bool, not, ◌||◌, if◌then◌else◌, List, [], ◌∷◌, length, map, min, Option, Some, None, option_map, slice_get}
-use Rattle.std.specs.List.{AllByRecursion, list_all, list_any}
-use Rattle.std.specs.declared.cmp.Ordering.{Ordering}
-use Rattle.srp_base.specs.declared.numbers.PortNo.{PortNo}
-use Rattle.srp_base.specs.declared.ports.PortSetup.{PortSetup}
+use Rattle.std.specs.{List.AllByRecursion, List.list_all, List.list_any, declared.cmp.Ordering.Ordering}
+use Rattle.srp_base.specs.declared.{numbers.PortNo.PortNo, ports.PortSetup.PortSetup}
 use Rattle.attribute_propagation.specs.Dirty.{KeySet, all_marked, is_awaiting}
 
 -- the place of a link port in a list that has something for each, counted from 0

@@ -1,24 +1,12 @@
 -- From the node with its noted steps to the node alone.
 use Rattle.std.proofs.Common.{◌≡◌, Bool, true, false, cond, List, [], ◌∷◌, ◌++◌, map, sym, refl, ap, ◌∙◌, subst, Result, Ok, Err, IfOk, OnErr}
 use Rattle.std.proofs.lemmas.List.{append-nil, append_assoc}
-use Rattle.node_core.specs.State.{NodeState, ports_of}
-use Rattle.node_core.specs.Step.{node_step}
-use Rattle.node_core.specs.declared.types.NodeEvent.{NodeEvent}
-use Rattle.node_core.specs.declared.types.NodeEvent.TheVariants.{Port}
-use Rattle.node_core.specs.declared.types.NodeStep.{NodeStep}
-use Rattle.turn_lock.specs.History.{ask_of, answer_of, last_state, IsHistory}
-use Rattle.turn_lock.specs.Calls.{HasCalled, HasLooked}
-use Rattle.turn_lock.specs.Closing.{HasClosed}
-use Rattle.turn_lock.specs.Passes.{Lock}
-use Rattle.turn_lock.specs.Refusal.{IsRefused}
-use Rattle.turn_lock.specs.declared.close.CloseErr.{CloseErr}
-use Rattle.turn_lock.specs.declared.close.CloseErr.TheVariants.{MissingPass, NoMemory}
-use Rattle.bridge_book.specs.Refusal.{IsOfHub}
-use Rattle.bridge_book.specs.declared.notice.Notice.{Notice}
-use Rattle.bridge_book.specs.declared.notice.Told.{Told}
-use Rattle.bridge_book.specs.declared.shared.PortAsk.{PortAsk}
-use Rattle.bridge_book.specs.Steps.{Shared, is_port, told_nothing, port_does, node_does, shared_does}
-use Rattle.bridge_book.specs.Hub.{Hub, Steps, PortPass, IsHubLock, step_of, notice_in, HasClosedHub}
+use Rattle.node_core.specs.{State.NodeState, State.ports_of, Step.node_step}
+use Rattle.node_core.specs.declared.{types.NodeEvent.NodeEvent, types.NodeEvent.TheVariants.Port, types.NodeStep.NodeStep}
+use Rattle.turn_lock.specs.{History.ask_of, History.answer_of, History.last_state, History.IsHistory, Calls.HasCalled, Calls.HasLooked, Closing.HasClosed, Passes.Lock, Refusal.IsRefused}
+use Rattle.turn_lock.specs.declared.{close.CloseErr.CloseErr, close.CloseErr.TheVariants.MissingPass, close.CloseErr.TheVariants.NoMemory}
+use Rattle.bridge_book.specs.{IsOfHub, Notice, Told, PortAsk, Shared, is_port, told_nothing, port_does, node_does, shared_does, PortPass, IsHubLock, step_of, notice_in, HasClosedHub}
+use Rattle.bridge_book.specs.Hub.{Hub, Steps}
 
 -- the node after a history, and what was noted
 pub node_after : (shared : Shared) (history : Steps) → (last_state shared_does shared history).node ≡ last_state node_does shared.node history

@@ -1,18 +1,10 @@
 -- What contracts see of a hub, and what is left of it once it is closed, or isn't.
 use Rattle.std.specs.Prelude.{◌≡◌, ℕ, ◌<◌, ◌≤◌, true, List, [], map, All}
-use Rattle.srp_base.specs.declared.numbers.PortNo.{PortNo}
-use Rattle.srp_base.specs.declared.numbers.NodeNo.{NodeNo}
+use Rattle.srp_base.specs.declared.{numbers.PortNo.PortNo, numbers.NodeNo.NodeNo}
 use Rattle.node_core.specs.State.{NodeState, ports_of}
-use Rattle.node_core.specs.declared.types.NodeStep.{NodeStep}
-use Rattle.node_core.specs.declared.types.PortStep.{PortStep}
-use Rattle.turn_lock.specs.History.{Entry, Log, ask_of, answer_of, calls_of, last_state, IsHistory}
-use Rattle.turn_lock.specs.Passes.{Lock, PassOf, is_given}
-use Rattle.turn_lock.specs.Calls.{HasCalled}
-use Rattle.turn_lock.specs.Closing.{HasCallsOf}
-use Rattle.node_core.specs.declared.types.StepReply.{StepReply}
-use Rattle.bridge_book.specs.declared.notice.Notice.{Notice}
-use Rattle.bridge_book.specs.declared.notice.Told.{Told}
-use Rattle.bridge_book.specs.declared.shared.PortAsk.{PortAsk}
+use Rattle.node_core.specs.declared.{types.NodeStep.NodeStep, types.PortStep.PortStep, types.StepReply.StepReply}
+use Rattle.turn_lock.specs.{History.Entry, History.Log, History.ask_of, History.answer_of, History.calls_of, History.last_state, History.IsHistory, Passes.Lock, Passes.PassOf, Passes.is_given, Calls.HasCalled, Closing.HasCallsOf}
+use Rattle.bridge_book.specs.declared.{notice.Notice.Notice, notice.Told.Told, shared.PortAsk.PortAsk}
 use Rattle.bridge_book.specs.Steps.{Shared, node_does, noted}
 
 -- a hub: what a gate is told of its node, and the lock round the node

@@ -1,3 +1,9 @@
 pub mod Hub
 pub mod Refusal
 pub mod Steps
+pub use Hub.*
+pub use Refusal.*
+pub use Steps.*
+pub use Rattle.bridge_book.specs.declared.notice.Notice.{Notice}
+pub use Rattle.bridge_book.specs.declared.notice.Told.{Told}
+pub use Rattle.bridge_book.specs.declared.shared.PortAsk.{PortAsk}

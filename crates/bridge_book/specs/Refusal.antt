@@ -1,14 +1,10 @@
 -- Why a hub stays open.
 use Rattle.std.specs.Prelude.{◌≡◌, List}
 use Rattle.turn_lock.specs.Passes.{IsLowestMissing}
-use Rattle.bridge_book.specs.Steps.{Shared}
-use Rattle.bridge_book.specs.Hub.{Hub, PortPass, IsHubLock}
-use Rattle.bridge_book.specs.declared.shared.PortAsk.{PortAsk}
-use Rattle.bridge_book.specs.declared.notice.Told.{Told}
+use Rattle.bridge_book.specs.{Steps.Shared, Hub.Hub, Hub.PortPass, Hub.IsHubLock}
+use Rattle.bridge_book.specs.declared.{shared.PortAsk.PortAsk, notice.Told.Told, hub.HubCloseErr.HubCloseErr, hub.HubCloseErr.TheVariants.MissingPass, hub.HubCloseErr.TheVariants.NoMemory}
 use Rattle.turn_lock.specs.declared.close.CloseErr.{CloseErr}
 use Rattle.turn_lock.specs.declared.close.CloseErr.TheVariants as closing
-use Rattle.bridge_book.specs.declared.hub.HubCloseErr.{HubCloseErr}
-use Rattle.bridge_book.specs.declared.hub.HubCloseErr.TheVariants.{MissingPass, NoMemory}
 
 -- what is handed back is what was given; a pass is said to be missing only where it is, and it is the lowest such one
 abbrev pub IsRefusedHub : Hub → List PortPass → HubCloseErr → Type 0

@@ -1,22 +1,11 @@
 -- A step of a node that its ports share, as one thread makes it, and as it is noted.
 use Rattle.std.specs.Prelude.{ℕ, Bool, cond, ◌&&◌, nat_lt, nat_le, List, [], ◌∷◌, ◌++◌, Option, Some, None, slice_get}
-use Rattle.srp_base.specs.declared.numbers.PortNo.{PortNo}
-use Rattle.srp_base.specs.declared.mrp.App.{App}
+use Rattle.srp_base.specs.declared.{numbers.PortNo.PortNo, mrp.App.App}
 use Rattle.attribute_propagation.specs.Ports.{place_of}
-use Rattle.node_core.specs.Leaving.{has_leave_all, is_leave_all_at}
-use Rattle.node_core.specs.State.{NodeState, ports_of, box_at}
-use Rattle.node_core.specs.Step.{node_step}
-use Rattle.node_core.specs.declared.types.NodeEvent.TheVariants.{Port}
-use Rattle.node_core.specs.declared.types.NodeStep.{NodeStep}
-use Rattle.node_core.specs.declared.types.PortStep.{PortStep}
-use Rattle.node_core.specs.declared.types.PortStep.TheVariants.{Work, Send}
-use Rattle.node_core.specs.declared.types.StepReply.{StepReply}
-use Rattle.node_core.specs.declared.types.StepReply.TheVariants.{Nothing, Sent}
-use Rattle.node_core.specs.declared.types.Wire.{Wire}
-use Rattle.bridge_book.specs.declared.notice.Notice.{Notice}
+use Rattle.node_core.specs.{Leaving.has_leave_all, Leaving.is_leave_all_at, State.NodeState, State.ports_of, State.box_at, Step.node_step}
+use Rattle.node_core.specs.declared.{types.NodeEvent.TheVariants.Port, types.NodeStep.NodeStep, types.PortStep.PortStep, types.PortStep.TheVariants.Work, types.PortStep.TheVariants.Send, types.StepReply.StepReply, types.StepReply.TheVariants.Nothing, types.StepReply.TheVariants.Sent, types.Wire.Wire}
+use Rattle.bridge_book.specs.declared.{notice.Notice.Notice, notice.Told.Told, shared.PortAsk.PortAsk}
 use Rattle.bridge_book.specs.declared.notice.Notice.TheVariants.{Quiet, Took, Said}
-use Rattle.bridge_book.specs.declared.notice.Told.{Told}
-use Rattle.bridge_book.specs.declared.shared.PortAsk.{PortAsk}
 
 -- a node, the steps that were made of it with their answers, and what each of them did to the PDUs on its port's link
 pub record Shared : Type 0 where

@@ -2,12 +2,10 @@
 
 ghost use Rattle.std.specs.Prelude.{◌≡◌, ◌<◌, true, IfOk, IfErr, OnErr, All};
 ghost use Rattle.node_core.specs.State.{ports_of};
-ghost use Rattle.turn_lock.specs.Passes.{first_passes};
-ghost use Rattle.turn_lock.specs.Calls.{HasCalled, HasLooked};
+ghost use Rattle.turn_lock.specs.{Passes.first_passes, Calls.HasCalled, Calls.HasLooked, Refusal.IsRefused};
 ghost use Rattle.bridge_book.specs.Steps.{is_port, node_does};
 ghost use Rattle.bridge_book.specs.Hub.{first_node, port_of, ask_by, HasStepped, HasClosedHub};
 ghost use Rattle.bridge_book.specs.Refusal.{IsOfHub, IsRefusedHub};
-ghost use Rattle.turn_lock.specs.Refusal.{IsRefused};
 
 use crate::gate::Gate;
 use crate::notice::{Notice, Told};

@@ -2,9 +2,7 @@
 
 ghost use Rattle.std.specs.Prelude.{◌≡◌, slice_get, IfOk, OnErr};
 ghost use Rattle.attribute_propagation.specs.Ports.{IsLinkPort, place_of};
-ghost use Rattle.node_core.specs.Leaving.{has_leave_all};
-ghost use Rattle.node_core.specs.State.{ports_of, box_at};
-ghost use Rattle.node_core.specs.Wires.{IsShort};
+ghost use Rattle.node_core.specs.{Leaving.has_leave_all, State.ports_of, State.box_at, Wires.IsShort};
 ghost use Rattle.node_core.specs.declared.types.StepReply.{StepReply as reply_type};
 ghost use Rattle.bridge_book.specs.Steps.{notice_of, notice_of_first, notice_of_saying, with_reply, port_does, told_nothing};
 

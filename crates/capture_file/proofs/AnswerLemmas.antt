@@ -1,13 +1,8 @@
 -- What `read_capture` answers, from what is read of the file.
 use Rattle.std.specs.Prelude.{IfSome, option_map}
 use Rattle.std.proofs.Common.{Vec, Global, ◌≡◌, ℕ, ◌-◌, List, length, Option, Some, None, Result, Ok, Err, sym, ap, subst, ◌∙◌}
-use Rattle.capture_file.specs.declared.capture.Capture.{Capture}
-use Rattle.capture_file.specs.declared.capture.Record.{Record}
-use Rattle.capture_file.specs.declared.error.CaptureErr.{CaptureErr}
+use Rattle.capture_file.specs.{Capture, Record, CaptureErr, Packet, packets_in, capture_in, magic_of, Spells, BreaksAt, HasOtherLink, Outcome, IsReading, read_as, placed_in, reading, cause_told}
 use Rattle.capture_file.specs.declared.error.CaptureErr.TheVariants as errors
-use Rattle.capture_file.specs.Packets.{Packet, packets_in, capture_in}
-use Rattle.capture_file.specs.Grammar.{magic_of, Spells, BreaksAt, HasOtherLink, Outcome, IsReading}
-use Rattle.capture_file.specs.Reading.{read_as, placed_in, reading, cause_told}
 use Rattle.capture_file.proofs.Holds.{reading_holds}
 
 pub placed_ok : (octets : List ℕ) (packets : List Packet) (left : Option ℕ) → read_as (magic_of octets) octets ≡ Ok (packets, left) → reading octets ≡ Ok (packets, option_map (λ n. length octets - n) left)

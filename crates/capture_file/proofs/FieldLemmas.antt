@@ -1,8 +1,7 @@
 -- Numbers in the front of some octets.
 use Rattle.std.proofs.Common.{◌≡◌, ℕ, ◌+◌, ◌≤◌, List, [], ◌∷◌, ◌++◌, length, take, drop, refl, sym, ap, ◌∙◌, arith}
 use Rattle.std.proofs.lemmas.List.{length-drop, length-take-le, drop-append-le, take-append-drop}
-use Rattle.capture_file.specs.declared.setting.ByteOrder.{ByteOrder}
-use Rattle.capture_file.specs.Fields.{first_four, field}
+use Rattle.capture_file.specs.{ByteOrder, first_four, field}
 
 first_four_front : (order : ByteOrder) (octets more : List ℕ) → 4 ≤ length octets → first_four order (octets ++ more) ≡ first_four order octets
 unfolding first_four

@@ -1,24 +1,12 @@
 -- What is read of a file is what the grammar says of it.
 use Rattle.std.specs.Prelude.{nat_lt}
 use Rattle.std.proofs.Common.{◌≡◌, ℕ, zero, suc, ◌-◌, ◌<◌, ◌≤◌, Bool, true, false, cond, List, [], ◌∷◌, ◌++◌, length, take, drop, Option, Some, None, option_map, Result, Ok, Err, refl, sym, ap, subst, ◌∙◌, append_assoc, append-nil, length-append, arith}
-use Rattle.std.proofs.lemmas.Bool.Decides.{nat_tests}
-use Rattle.std.proofs.lemmas.List.{take-append-drop, length-drop, length-take-le}
-use Rattle.capture_file.specs.declared.error.CaptureErr.{CaptureErr}
+use Rattle.std.proofs.lemmas.{Bool.Decides.nat_tests, List.take-append-drop, List.length-drop, List.length-take-le}
+use Rattle.capture_file.specs.{CaptureErr, FileForm, Pcap, Pcapng, LinkType, Magic, Setting, Packet, IsPiece, Meant, meaning, after, packets_meant, is_read_on, link_numbered, field, magic_of, head_size, head_link, pcap_setting, setting_of, setting_in, Piece, IsWhole, AreWhole, setting_after, pieces_octets, pieces_packets, Reaches, Spells, NoneBegins, BreaksAt, Outcome, IsReading, piece_at, with_meant, pieces_in, behind_head, read_as, placed_in, reading}
 use Rattle.capture_file.specs.declared.error.CaptureErr.TheVariants as errors
-use Rattle.capture_file.specs.declared.setting.FileForm.{FileForm}
-use Rattle.capture_file.specs.declared.setting.FileForm.TheVariants.{Pcap, Pcapng}
-use Rattle.capture_file.specs.declared.setting.LinkType.{LinkType}
-use Rattle.capture_file.specs.declared.setting.Magic.{Magic}
-use Rattle.capture_file.specs.declared.setting.Setting.{Setting}
-use Rattle.capture_file.specs.Packets.{Packet}
-use Rattle.capture_file.specs.Pieces.{IsPiece, Meant, meaning, after, packets_meant, is_read_on}
 use Rattle.capture_file.specs.Pieces.Meant.{Frame, Section, Described, OtherLink, PassedOver}
-use Rattle.capture_file.specs.Settings.{link_numbered}
-use Rattle.capture_file.specs.Fields.{field}
-use Rattle.capture_file.specs.Grammar.{magic_of, head_size, head_link, pcap_setting, setting_of, setting_in, Piece, IsWhole, AreWhole, setting_after, pieces_octets, pieces_packets, Reaches, Spells, NoneBegins, BreaksAt, Outcome, IsReading}
 use Rattle.capture_file.specs.Grammar.BreaksAt.{in_head, in_piece}
 use Rattle.capture_file.specs.Grammar.HasOtherLink.{in_head as link_in_head, in_piece as link_in_piece}
-use Rattle.capture_file.specs.Reading.{piece_at, with_meant, pieces_in, behind_head, read_as, placed_in, reading}
 use Rattle.capture_file.proofs.PieceLoops.{Begins, begins, sized, piece_reads, pieces_step, pieces_stop, pieces_end}
 
 -- ---- pieces from a setting on

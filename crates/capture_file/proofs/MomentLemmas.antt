@@ -1,6 +1,6 @@
 -- The units of a resolution, kept below 2 ^ 128.
 use Rattle.std.proofs.Common.{◌≡◌, ℕ, ◌-◌, ◌*◌, ◌/◌, ◌<◌, ◌≤◌, ◌^◌, min, ◌⊎◌, inl, inr, sym, ap, ◌∙◌, arith}
-use Rattle.capture_file.specs.Settings.{ns_of}
+use Rattle.capture_file.specs.{ns_of}
 
 either : (p m : ℕ) → ((p ≤ m) × (min p m ≡ p)) ⊎ ((m < p) × (min p m ≡ m))
 either p m = grind arith

@@ -1,9 +1,7 @@
 -- Options, one after another.
-use Rattle.std.proofs.lemmas.Bool.Decides.{nat_tests}
+use Rattle.std.proofs.lemmas.{Bool.Decides.nat_tests, List.length-drop, List.drop_at}
 use Rattle.std.proofs.Common.{◌≢◌, ◌≡◌, ℕ, zero, suc, ◌<◌, ◌≤◌, false, ◌==◌, List, [], ◌∷◌, ◌++◌, length, length-append, drop, Option, Some, None, if◌then◌else◌, nat_le, refl, ap, ◌∙◌, arith}
-use Rattle.std.proofs.lemmas.List.{length-drop, drop_at}
-use Rattle.capture_file.specs.declared.setting.ByteOrder.{ByteOrder}
-use Rattle.capture_file.specs.Options.{padded, option_at, octet_value, resolution_in, IsOtherOption}
+use Rattle.capture_file.specs.{ByteOrder, padded, option_at, octet_value, resolution_in, IsOtherOption}
 
 -- octets that are to be passed first and are there
 pub passes : (order : ByteOrder) (n : ℕ) (octets : List ℕ) → n ≤ length octets → resolution_in order n octets ≡ resolution_in order 0 (drop n octets)

@@ -1,16 +1,10 @@
 -- Pieces, one after another.
 use Rattle.std.specs.Prelude.{IfSome}
 use Rattle.std.proofs.Common.{◌≡◌, ℕ, zero, suc, ◌-◌, ◌<◌, ◌≤◌, true, List, [], ◌∷◌, ◌++◌, length, take, drop, Option, Some, None, option_map, option_and_then, Ok, Err, refl, sym, ap, ◌∙◌, append_assoc, append-nil, arith}
-use Rattle.std.proofs.lemmas.List.{take_at}
-use Rattle.std.proofs.lemmas.Option.{some_pair_parts}
-use Rattle.capture_file.specs.declared.error.CaptureErr.{CaptureErr}
+use Rattle.std.proofs.lemmas.{List.take_at, Option.some_pair_parts}
+use Rattle.capture_file.specs.{CaptureErr, Setting, Packet, IsPiece, Meant, meaning, after, packets_meant, is_read_on, Outcome, size_of, piece_at, with_meant, pieces_in, cause_told, Refuses}
 use Rattle.capture_file.specs.declared.error.CaptureErr.TheVariants as errors
-use Rattle.capture_file.specs.declared.setting.Setting.{Setting}
-use Rattle.capture_file.specs.Packets.{Packet}
-use Rattle.capture_file.specs.Pieces.{IsPiece, Meant, meaning, after, packets_meant, is_read_on}
 use Rattle.capture_file.specs.Pieces.Meant.{Frame, Section, Described, OtherLink, PassedOver}
-use Rattle.capture_file.specs.Grammar.{Outcome}
-use Rattle.capture_file.specs.Reading.{size_of, piece_at, with_meant, pieces_in, cause_told, Refuses}
 use Rattle.capture_file.proofs.SizeLemmas.{piece_takes, piece_again}
 
 -- ---- a piece

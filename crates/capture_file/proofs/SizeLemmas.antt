@@ -1,16 +1,7 @@
 -- How many octets a piece takes: what the size says is a piece, and a piece has its size.
 use Rattle.std.proofs.Common.{◌≡◌, ℕ, ◌+◌, ◌-◌, ◌%◌, ◌<◌, ◌≤◌, ◌&&◌, nat_le, ◌==◌, cond, List, ◌++◌, length, take, Option, Some, None, refl, sym, ap, subst, ◌∙◌, eq-eqb, length-append, arith}
-use Rattle.std.proofs.lemmas.Bool.{and_parts, leb-true, le-leb, eqb-true}
-use Rattle.std.proofs.lemmas.List.{length-take-le}
-use Rattle.std.proofs.lemmas.Option.{cond_some}
-use Rattle.capture_file.specs.declared.setting.ByteOrder.{ByteOrder}
-use Rattle.capture_file.specs.declared.setting.ByteOrder.TheVariants.{Little, Big}
-use Rattle.capture_file.specs.declared.setting.FileForm.{FileForm}
-use Rattle.capture_file.specs.declared.setting.FileForm.TheVariants.{Pcap, Pcapng}
-use Rattle.capture_file.specs.declared.setting.Setting.{Setting}
-use Rattle.capture_file.specs.Fields.{field}
-use Rattle.capture_file.specs.Pieces.{IsRecord, IsBlock, IsPieceOf, order_in}
-use Rattle.capture_file.specs.Reading.{record_size, block_size, size_of}
+use Rattle.std.proofs.lemmas.{Bool.and_parts, Bool.leb-true, Bool.le-leb, Bool.eqb-true, List.length-take-le, Option.cond_some}
+use Rattle.capture_file.specs.{ByteOrder, Little, Big, FileForm, Pcap, Pcapng, Setting, field, IsRecord, IsBlock, IsPieceOf, order_in, record_size, block_size, size_of}
 use Rattle.capture_file.proofs.FieldLemmas.{field_front, field_take}
 
 -- ---- records

@@ -1,19 +1,12 @@
 -- What the grammar says of a file is what is read of it.
 use Rattle.std.specs.Prelude.{nat_lt}
 use Rattle.std.proofs.Common.{◌≡◌, ℕ, ◌-◌, ◌≤◌, true, false, List, [], ◌∷◌, ◌++◌, length, take, drop, Option, Some, None, option_map, Result, Ok, Err, refl, sym, ap, ◌∙◌, append_assoc, append-nil, length-append, arith}
-use Rattle.std.proofs.lemmas.Bool.Decides.{nat_tests}
-use Rattle.std.proofs.lemmas.List.{drop_at, take-append-drop}
-use Rattle.capture_file.specs.declared.error.CaptureErr.{CaptureErr}
+use Rattle.std.proofs.lemmas.{Bool.Decides.nat_tests, List.drop_at, List.take-append-drop}
+use Rattle.capture_file.specs.{CaptureErr, Magic, Setting, Packet, IsPiece, Meant, meaning, after, packets_meant, is_read_on, magic_of, head_size, setting_in, Piece, AreWhole, setting_after, pieces_octets, pieces_packets, Reaches, Spells, NoneBegins, BreaksAt, HasOtherLink, Outcome, IsReading, piece_at, with_meant, pieces_in, behind_head, read_as, placed_in, reading}
 use Rattle.capture_file.specs.declared.error.CaptureErr.TheVariants as errors
-use Rattle.capture_file.specs.declared.setting.Magic.{Magic}
-use Rattle.capture_file.specs.declared.setting.Setting.{Setting}
-use Rattle.capture_file.specs.Packets.{Packet}
-use Rattle.capture_file.specs.Pieces.{IsPiece, Meant, meaning, after, packets_meant, is_read_on}
 use Rattle.capture_file.specs.Pieces.Meant.{Frame, Section, Described, OtherLink, PassedOver}
-use Rattle.capture_file.specs.Grammar.{magic_of, head_size, setting_in, Piece, AreWhole, setting_after, pieces_octets, pieces_packets, Reaches, Spells, NoneBegins, BreaksAt, HasOtherLink, Outcome, IsReading}
 use Rattle.capture_file.specs.Grammar.BreaksAt.{in_head, in_piece}
 use Rattle.capture_file.specs.Grammar.HasOtherLink.{in_head as link_in_head, in_piece as link_in_piece}
-use Rattle.capture_file.specs.Reading.{piece_at, with_meant, pieces_in, behind_head, read_as, placed_in, reading}
 use Rattle.capture_file.proofs.PieceLoops.{begins, sized, piece_reads, pieces_step, pieces_stop, pieces_end, with_front}
 
 -- ---- pieces

@@ -3,23 +3,8 @@ use Rattle.std.specs.List.{AllByRecursion}
 use Rattle.std.specs.Prelude.{nat_lt, nat_le, ◌==◌, ◌*◌, ◌&&◌}
 use Rattle.std.proofs.Common.{◌≡◌, ℕ, zero, suc, ◌+◌, ◌-◌, ◌≤◌, Bool, true, false, cond, List, [], ◌∷◌, length, take, drop, slice_get, Option, Some, None, Result, Ok, Err, refl, subst, arith}
 use Rattle.std.proofs.lemmas.List.{length-take, length-drop, length-take-le}
-use Rattle.capture_file.specs.declared.capture.Record.{Record}
-use Rattle.capture_file.specs.declared.error.CaptureErr.{CaptureErr}
-use Rattle.capture_file.specs.declared.setting.ByteOrder.{ByteOrder}
-use Rattle.capture_file.specs.declared.setting.FileForm.{FileForm}
-use Rattle.capture_file.specs.declared.setting.FileForm.TheVariants.{Pcap, Pcapng}
-use Rattle.capture_file.specs.declared.setting.Interface.{Interface}
-use Rattle.capture_file.specs.declared.setting.LinkType.{LinkType}
-use Rattle.capture_file.specs.declared.setting.Magic.{Magic}
-use Rattle.capture_file.specs.declared.setting.Setting.{Setting}
-use Rattle.capture_file.specs.Fields.{field, half}
-use Rattle.capture_file.specs.Settings.{link_numbered}
-use Rattle.capture_file.specs.Options.{resolution_in}
-use Rattle.capture_file.specs.Packets.{Packet, packets_in}
-use Rattle.capture_file.specs.Pieces.{order_in, Meant, frame_of, section_meant, described, interface_options, interface_meant, enhanced_fits, enhanced_meant, kept, simple_frame, simple_meant, block_meant, meaning_of, meaning, after}
+use Rattle.capture_file.specs.{Record, CaptureErr, ByteOrder, FileForm, Pcap, Pcapng, Interface, LinkType, Magic, Setting, field, half, link_numbered, resolution_in, Packet, packets_in, order_in, Meant, frame_of, section_meant, described, interface_options, interface_meant, enhanced_fits, enhanced_meant, kept, simple_frame, simple_meant, block_meant, meaning_of, meaning, after, magic_of, head_size, setting_in, Outcome, piece_at, with_meant, told, pieces_in, behind_head, read_as, placed_in, reading}
 use Rattle.capture_file.specs.Pieces.Meant.{Frame, Section, Described, OtherLink, PassedOver}
-use Rattle.capture_file.specs.Grammar.{magic_of, head_size, setting_in, Outcome}
-use Rattle.capture_file.specs.Reading.{piece_at, with_meant, told, pieces_in, behind_head, read_as, placed_in, reading}
 use Rattle.capture_file.proofs.PieceLoops.{begins}
 
 -- what a piece says is no frame, or one of at most so many octets

@@ -2,20 +2,9 @@
 -- joins whole lists of octets.
 use Rattle.std.specs.Prelude.{◌≡◌, ℕ, ◌%◌, ◌<◌, ◌≤◌, ◌&&◌, true, ◌==◌, if◌then◌else◌, List, [], ◌∷◌, ◌++◌, length, Option, Some, None, Result, Ok, Err}
 use Rattle.std.specs.List.{flat_map}
-use Rattle.capture_file.specs.declared.error.CaptureErr.{CaptureErr}
+use Rattle.capture_file.specs.declared.{error.CaptureErr.CaptureErr, setting.ByteOrder.ByteOrder, setting.ByteOrder.TheVariants.Little, setting.ByteOrder.TheVariants.Big, setting.FileForm.FileForm, setting.FileForm.TheVariants.Pcap, setting.FileForm.TheVariants.Pcapng, setting.LinkType.LinkType, setting.Magic.Magic, setting.Setting.Setting}
 use Rattle.capture_file.specs.declared.error.CaptureErr.TheVariants as errors
-use Rattle.capture_file.specs.declared.setting.ByteOrder.{ByteOrder}
-use Rattle.capture_file.specs.declared.setting.ByteOrder.TheVariants.{Little, Big}
-use Rattle.capture_file.specs.declared.setting.FileForm.{FileForm}
-use Rattle.capture_file.specs.declared.setting.FileForm.TheVariants.{Pcap, Pcapng}
-use Rattle.capture_file.specs.declared.setting.LinkType.{LinkType}
-use Rattle.capture_file.specs.declared.setting.Magic.{Magic}
-use Rattle.capture_file.specs.declared.setting.Setting.{Setting}
-use Rattle.capture_file.specs.Fields.{field}
-use Rattle.capture_file.specs.Settings.{link_numbered, units_of}
-use Rattle.capture_file.specs.Packets.{Packet}
-use Rattle.capture_file.specs.Pieces.{IsPiece, Meant, meaning, after, packets_meant, is_read_on}
-use Rattle.capture_file.specs.Pieces.Meant.{OtherLink}
+use Rattle.capture_file.specs.{Fields.field, Settings.link_numbered, Settings.units_of, Packets.Packet, Pieces.IsPiece, Pieces.Meant, Pieces.meaning, Pieces.after, Pieces.packets_meant, Pieces.is_read_on, Pieces.Meant.OtherLink}
 
 -- ---- How a file begins
 

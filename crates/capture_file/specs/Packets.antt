@@ -1,8 +1,6 @@
 -- What a capture says, without where its octets lie in memory.
 use Rattle.std.specs.Prelude.{ℕ, List, map, Option}
-use Rattle.capture_file.specs.declared.capture.Record.{Record}
-use Rattle.capture_file.specs.declared.capture.Capture.{Capture}
-use Rattle.capture_file.specs.declared.setting.LinkType.{LinkType}
+use Rattle.capture_file.specs.declared.{capture.Record.Record, capture.Capture.Capture, setting.LinkType.LinkType}
 
 -- A frame as it was captured: the link type of its interface, the moment in ns, how many octets it had, and those that were kept.
 pub record Packet : Type 0 where

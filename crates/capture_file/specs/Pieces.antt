@@ -2,17 +2,8 @@
 -- its rules and what it means speak of numbers at offsets in it (draft-ietf-opsawg-pcap, draft-ietf-opsawg-pcapng). Which rules
 -- they are, the byte order and the interfaces are given by the setting that the pieces before it leave.
 use Rattle.std.specs.Prelude.{◌≡◌, ℕ, ◌+◌, ◌-◌, ◌*◌, ◌%◌, ◌≤◌, min, Bool, true, false, ◌&&◌, nat_le, ◌==◌, if◌then◌else◌, List, [], ◌∷◌, ◌++◌, length, take, drop, slice_get, Option, Some, None}
-use Rattle.capture_file.specs.declared.setting.ByteOrder.{ByteOrder}
-use Rattle.capture_file.specs.declared.setting.ByteOrder.TheVariants.{Little, Big}
-use Rattle.capture_file.specs.declared.setting.FileForm.{FileForm}
-use Rattle.capture_file.specs.declared.setting.FileForm.TheVariants.{Pcap, Pcapng}
-use Rattle.capture_file.specs.declared.setting.LinkType.{LinkType}
-use Rattle.capture_file.specs.declared.setting.Interface.{Interface}
-use Rattle.capture_file.specs.declared.setting.Setting.{Setting}
-use Rattle.capture_file.specs.Fields.{field, half}
-use Rattle.capture_file.specs.Settings.{link_numbered, units_of, moment}
-use Rattle.capture_file.specs.Options.{resolution_in}
-use Rattle.capture_file.specs.Packets.{Packet}
+use Rattle.capture_file.specs.declared.{setting.ByteOrder.ByteOrder, setting.ByteOrder.TheVariants.Little, setting.ByteOrder.TheVariants.Big, setting.FileForm.FileForm, setting.FileForm.TheVariants.Pcap, setting.FileForm.TheVariants.Pcapng, setting.LinkType.LinkType, setting.Interface.Interface, setting.Setting.Setting}
+use Rattle.capture_file.specs.{Fields.field, Fields.half, Settings.link_numbered, Settings.units_of, Settings.moment, Options.resolution_in, Packets.Packet}
 
 -- ---- Where a piece ends
 

@@ -1,21 +1,10 @@
 -- Reading a capture file from left to right. That this is the grammar is the law `reading_is_the_grammar`.
 use Rattle.std.specs.Prelude.{◌≡◌, IfSome, ℕ, zero, suc, ◌+◌, ◌-◌, ◌%◌, ◌&&◌, nat_le, nat_lt, ◌==◌, if◌then◌else◌, List, [], ◌∷◌, ◌++◌, length, take, drop, Option, Some, None, option_map, option_and_then, Result, Ok, Err}
 use Rattle.srp_base.specs.Results.{Gives}
-use Rattle.capture_file.specs.declared.capture.Capture.{Capture}
-use Rattle.capture_file.specs.declared.error.CaptureErr.{CaptureErr}
+use Rattle.capture_file.specs.declared.{capture.Capture.Capture, error.CaptureErr.CaptureErr, said.Said.Said, setting.ByteOrder.ByteOrder, setting.FileForm.FileForm, setting.FileForm.TheVariants.Pcap, setting.FileForm.TheVariants.Pcapng, setting.Magic.Magic, setting.Setting.Setting}
 use Rattle.capture_file.specs.declared.error.CaptureErr.TheVariants as errors
-use Rattle.capture_file.specs.declared.said.Said.{Said}
 use Rattle.capture_file.specs.declared.said.Said.TheVariants as said
-use Rattle.capture_file.specs.declared.setting.ByteOrder.{ByteOrder}
-use Rattle.capture_file.specs.declared.setting.FileForm.{FileForm}
-use Rattle.capture_file.specs.declared.setting.FileForm.TheVariants.{Pcap, Pcapng}
-use Rattle.capture_file.specs.declared.setting.Magic.{Magic}
-use Rattle.capture_file.specs.declared.setting.Setting.{Setting}
-use Rattle.capture_file.specs.Fields.{field}
-use Rattle.capture_file.specs.Packets.{packet_in, capture_in}
-use Rattle.capture_file.specs.Pieces.{order_in, Meant, meaning, after, packets_meant}
-use Rattle.capture_file.specs.Pieces.Meant.{Frame, Section, Described, OtherLink, PassedOver}
-use Rattle.capture_file.specs.Grammar.{magic_of, head_size, setting_in, Outcome}
+use Rattle.capture_file.specs.{Fields.field, Packets.packet_in, Packets.capture_in, Pieces.order_in, Pieces.Meant, Pieces.meaning, Pieces.after, Pieces.packets_meant, Pieces.Meant.Frame, Pieces.Meant.Section, Pieces.Meant.Described, Pieces.Meant.OtherLink, Pieces.Meant.PassedOver, Grammar.magic_of, Grammar.head_size, Grammar.setting_in, Grammar.Outcome}
 
 -- ---- a piece
 

@@ -1,23 +1,14 @@
 -- What holds of a port with caps as each bit time begins.
 use Rattle.std.proofs.Common.{◌≡◌, ℕ, zero, suc, ◌+◌, ◌-◌, ◌*◌, ◌<◌, ◌≤◌, Bool, true, false, refl, sym, ◌∙◌, ap, subst, inl, inr, arith}
-use Rattle.std.specs.Prelude.{ℤ, pos, negsuc, ◌+ℤ◌, ◌≤ℤ◌, ◌<ℤ◌, int_le, not, ◌&&◌}
+use Rattle.std.specs.Prelude.{ℤ, pos, ◌+ℤ◌, ◌≤ℤ◌, ◌<ℤ◌, int_le, not, ◌&&◌}
 use Rattle.std.proofs.Math.Nat.{mul-le-mul_left}
-use Rattle.std.proofs.lemmas.Bool.{cases_Bool, and_parts, cond-true, cond-false, true≢false, false≢true}
-use Rattle.std.proofs.lemmas.Int.{ints}
+use Rattle.std.proofs.lemmas.{Bool.cases_Bool, Bool.and_parts, Bool.cond-true, Bool.cond-false, Bool.true≢false, Bool.false≢true, Int.ints}
+use Rattle.srp_base.proofs.{Bools.held_from as not_true, Arithmetic.at_least_zero}
 use Rattle.srp_base.specs.Bandwidth.{bits_of}
-use Rattle.credit_shaper.specs.declared.shaper.Traffic.{Traffic}
+use Rattle.credit_shaper.specs.declared.{shaper.Traffic.Traffic, shaper.Line.Line, shaper.Line.TheVariants.Free, shaper.Line.TheVariants.Sends, port.PortInput.PortInput}
 use Rattle.credit_shaper.specs.declared.shaper.Traffic.TheVariants.{A, B, Other}
-use Rattle.credit_shaper.specs.declared.shaper.Line.{Line}
-use Rattle.credit_shaper.specs.declared.shaper.Line.TheVariants.{Free, Sends}
-use Rattle.credit_shaper.specs.declared.port.PortInput.{PortInput}
-use Rattle.credit_shaper.specs.Credit.{credit_after, does_send}
-use Rattle.credit_shaper.specs.Port.{IsPortInput, IsFrameSize}
-use Rattle.credit_shaper.specs.Trace.{port_at}
-use Rattle.credit_shaper.specs.Bounds.{credit_a_at, credit_b_at, slope_a_at, slope_b_at, is_on_line}
-use Rattle.credit_shaper.specs.Steps.{is_waiting, was_on_line, bits_left, bits_ahead, Starts}
-use Rattle.class_b_bound.specs.BitTimes.{BitLaws}
-use Rattle.class_b_bound.specs.Bound.{HasCaps}
-use Rattle.class_b_bound.specs.Waits.{is_kept_waiting, waited}
+use Rattle.credit_shaper.specs.{Credit.credit_after, Credit.does_send, Port.IsPortInput, Port.IsFrameSize, Trace.port_at, Bounds.credit_a_at, Bounds.credit_b_at, Bounds.slope_a_at, Bounds.slope_b_at, Bounds.is_on_line, Steps.is_waiting, Steps.was_on_line, Steps.bits_left, Steps.bits_ahead, Steps.Starts}
+use Rattle.class_b_bound.specs.{BitLaws, HasCaps, is_kept_waiting, waited}
 use Rattle.class_b_bound.proofs.StepLemmas.{Begins, HasSlopes, IsCounted, step_a, step_b, step_other, step_rest}
 
 -- ---- the frame on the line goes on
@@ -90,14 +81,6 @@ start_other gap cap most sa sb m gone k next wa wb x y size s w short_a short_b 
     let up : pos 0 ≤ℤ y = seen.2 in absurd (omega (arith, ints, below, up)))
 
 -- ---- in the words of an input
-
-at_least_zero : (c : ℤ) → int_le (pos 0) c ≡ true → pos 0 ≤ℤ c
-at_least_zero (pos n) e = omega (arith, ints)
-at_least_zero (negsuc n) e = absurd (false≢true e)
-
-not_true : (b : Bool) → not b ≡ true → b ≡ false
-not_true true e = absurd (false≢true e)
-not_true false e = refl
 
 -- what a bit time in which class B is kept waiting has
 pub record IsKept (input : PortInput) (t : ℕ) : Type 0 where

@@ -3,20 +3,13 @@ use Rattle.std.proofs.Common.{◌≡◌, ℕ, zero, suc, ◌+◌, ◌-◌, ◌*�
 use Rattle.std.specs.Prelude.{ℤ, pos, ◌+ℤ◌, ◌-ℤ◌, ◌≤ℤ◌}
 use Rattle.std.specs.Int.{div_ceil}
 use Rattle.std.proofs.Math.Nat.{mul-le-mul_left, mod-lt}
-use Rattle.std.proofs.lemmas.Nat.{div-add-mod'}
-use Rattle.std.proofs.lemmas.Bool.{cases_lt}
-use Rattle.std.proofs.lemmas.Grind.{div_ceil_times}
-use Rattle.std.proofs.lemmas.Int.{ints}
+use Rattle.std.proofs.lemmas.{Nat.div-add-mod', Bool.cases_lt, Grind.div_ceil_times, Int.ints}
 use Rattle.srp_base.specs.declared.bandwidth.Rate.{Rate}
 use Rattle.srp_base.specs.declared.bandwidth.Rate.TheVariants.{M100, G1, G10}
 use Rattle.srp_base.specs.Bandwidth.{bits_of}
-use Rattle.credit_shaper.specs.declared.shaper.Traffic.TheVariants.{B}
-use Rattle.credit_shaper.specs.declared.port.PortInput.{PortInput}
-use Rattle.credit_shaper.specs.Bounds.{credit_b_at}
-use Rattle.credit_shaper.specs.Steps.{was_on_line, bits_left}
-use Rattle.class_b_bound.specs.BitTimes.{BitLaws}
-use Rattle.class_b_bound.specs.Bound.{AreCaps, HasCaps, wait_of, bound_of, tight_bound_of, IsCreditBWithin}
-use Rattle.class_b_bound.specs.Waits.{is_kept_waiting, HasWait, IsWorstWait, waited}
+use Rattle.credit_shaper.specs.declared.{shaper.Traffic.TheVariants.B, port.PortInput.PortInput}
+use Rattle.credit_shaper.specs.{Bounds.credit_b_at, Steps.was_on_line, Steps.bits_left}
+use Rattle.class_b_bound.specs.{BitLaws, AreCaps, HasCaps, wait_of, bound_of, tight_bound_of, IsCreditBWithin, is_kept_waiting, HasWait, IsWorstWait, waited}
 use Rattle.class_b_bound.proofs.BeginLemmas.{BeginsAt, begins, waited-yes}
 
 -- ---- quotients

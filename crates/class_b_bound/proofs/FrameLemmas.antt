@@ -2,17 +2,9 @@
 use Rattle.std.proofs.Common.{◌≡◌, ℕ, zero, suc, ◌+◌, ◌-◌, ◌<◌, ◌≤◌, ◌⊎◌, true, false, Option, Some, None, refl, sym, ◌∙◌, ap, subst, inl, inr, arith}
 use Rattle.std.specs.Prelude.{All, is_some}
 use Rattle.std.proofs.lemmas.Bool.{cases_Bool, cases_eq, true≢false, false≢true}
-use Rattle.credit_shaper.specs.declared.shaper.Traffic.{Traffic}
-use Rattle.credit_shaper.specs.declared.shaper.Traffic.TheVariants.{B}
-use Rattle.credit_shaper.specs.declared.port.Arrival.{Arrival}
-use Rattle.credit_shaper.specs.declared.port.Departure.{Departure}
-use Rattle.credit_shaper.specs.declared.port.PortInput.{PortInput}
-use Rattle.credit_shaper.specs.Credit.{does_send}
-use Rattle.credit_shaper.specs.Port.{IsPortInput}
-use Rattle.credit_shaper.specs.Trace.{departure_at}
-use Rattle.credit_shaper.specs.Departures.{sent_of, DepartsAt}
-use Rattle.credit_shaper.specs.Steps.{head_at, Starts}
-use Rattle.class_b_bound.specs.Waits.{is_kept_waiting, HasWait, IsLongestWait, IsWaitOf, IsWorstWait, worst_wait_of}
+use Rattle.credit_shaper.specs.declared.{shaper.Traffic.Traffic, shaper.Traffic.TheVariants.B, port.Arrival.Arrival, port.Departure.Departure, port.PortInput.PortInput}
+use Rattle.credit_shaper.specs.{Credit.does_send, Port.IsPortInput, Trace.departure_at, Departures.sent_of, Departures.DepartsAt, Steps.head_at, Steps.Starts}
+use Rattle.class_b_bound.specs.{is_kept_waiting, HasWait, IsLongestWait, IsWaitOf, IsWorstWait, worst_wait_of}
 use Rattle.class_b_bound.proofs.BeginLemmas.{kept_of}
 
 -- what is known of the heads of queues and of starts

@@ -2,22 +2,14 @@
 use Rattle.std.proofs.Common.{◌≡◌, ℕ, zero, suc, ◌+◌, ◌-◌, ◌*◌, ◌<◌, ◌≤◌, Bool, true, false, cond, List, [], ◌∷◌, length, get_or, drop, refl, sym, ◌∙◌, ap, subst, inl, inr, arith}
 use Rattle.std.specs.Prelude.{ℤ, pos, negsuc, ◌+ℤ◌, ◌≤ℤ◌, ◌<ℤ◌, int_le, nat_le, not, ◌&&◌, max, min, unsigned_abs}
 use Rattle.std.proofs.Math.Nat.{mul-le-mul_right}
-use Rattle.std.proofs.lemmas.Bool.{cases_lt, le-leb, lt-leb, cond-false}
-use Rattle.std.proofs.lemmas.Int.{ints}
+use Rattle.std.proofs.lemmas.{Bool.cases_lt, Bool.le-leb, Bool.lt-leb, Bool.cond-false, Int.ints}
+use Rattle.srp_base.proofs.Arithmetic.{not_zero as below_is, above_is}
 use Rattle.srp_base.specs.Bandwidth.{bits_of}
-use Rattle.credit_shaper.specs.declared.shaper.Traffic.TheVariants.{B}
-use Rattle.credit_shaper.specs.declared.port.PortInput.{PortInput}
-use Rattle.credit_shaper.specs.declared.piece.Piece.{Piece}
-use Rattle.credit_shaper.specs.Credit.{credit_after_bits, does_send}
-use Rattle.credit_shaper.specs.Pieces.{IsPiece, IsAlike, ArePieces}
-use Rattle.credit_shaper.specs.Bounds.{credit_b_at}
-use Rattle.credit_shaper.specs.Trace.{port_in}
+use Rattle.credit_shaper.specs.declared.{shaper.Traffic.TheVariants.B, port.PortInput.PortInput, piece.Piece.Piece}
+use Rattle.credit_shaper.specs.{Credit.credit_after_bits, Credit.does_send, Pieces.IsPiece, Pieces.IsAlike, Pieces.ArePieces, Bounds.credit_b_at, Trace.port_in}
 use Rattle.class_b_bound.specs.declared.waits.Waits.{Waits}
-use Rattle.class_b_bound.specs.Waits.{is_kept_waiting, IsWorstWait, HasWait, waited}
-use Rattle.class_b_bound.specs.Walk.{IsWaits, keeps_b}
-use Rattle.class_b_bound.proofs.BeginLemmas.{waited-yes, waited-no}
-use Rattle.class_b_bound.proofs.BoundLemmas.{run_waited}
-use Rattle.class_b_bound.proofs.WaitLemmas.{wait_of_count}
+use Rattle.class_b_bound.specs.{is_kept_waiting, IsWorstWait, HasWait, waited, IsWaits, keeps_b}
+use Rattle.class_b_bound.proofs.{BeginLemmas.waited-yes, BeginLemmas.waited-no, BoundLemmas.run_waited, WaitLemmas.wait_of_count}
 
 -- a credit that waits and doesn't send rises by its slope
 credit_rises : (n rate slope : ℕ) (c : ℤ) → credit_after_bits n rate slope false true c ≡ c +ℤ pos (n * slope)
@@ -156,14 +148,6 @@ worst_of input w end waits =
     }
 
 -- ---- the code's steps
-
-pub above_is : (c : ℤ) → pos 0 ≤ℤ c → int_le (pos 0) c ≡ true
-above_is (pos n) up = le-leb 0 n (omega arith)
-above_is (negsuc n) up = absurd (omega (arith, ints, up))
-
-pub below_is : (c : ℤ) → c <ℤ pos 0 → int_le (pos 0) c ≡ false
-below_is (pos n) under = absurd (omega (arith, ints, under))
-below_is (negsuc n) under = refl
 
 -- before the number of bit times in which a credit rises to 0 it is negative, and from then on it isn't
 pub short_is : (c : ℤ) (slope bits needed n : ℕ) → c <ℤ pos 0 → unsigned_abs c ≤ needed * slope → needed * slope < unsigned_abs c + slope → n < bits

@@ -1,24 +1,14 @@
 -- A wait ends with the start of a class B frame, or with the end; and each bit time's count is a wait.
 use Rattle.std.proofs.Common.{◌≡◌, ℕ, zero, suc, ◌+◌, ◌-◌, ◌<◌, ◌≤◌, ◌⊎◌, Bool, true, false, refl, sym, ◌∙◌, ap, subst, inl, inr, arith}
-use Rattle.std.specs.Prelude.{ℤ, pos, negsuc, ◌≤ℤ◌, int_le, not, ◌&&◌}
-use Rattle.std.proofs.lemmas.Bool.{cases_Bool, cases_eq, cases_lt, true≢false, false≢true, le-leb}
-use Rattle.std.proofs.lemmas.Int.{ints}
+use Rattle.std.specs.Prelude.{ℤ, pos, ◌≤ℤ◌, int_le, not, ◌&&◌}
+use Rattle.std.proofs.lemmas.{Bool.cases_Bool, Bool.cases_eq, Bool.cases_lt, Bool.true≢false, Bool.false≢true, Int.ints}
+use Rattle.srp_base.proofs.Arithmetic.{above_is as zero_at_least}
 use Rattle.srp_base.specs.Bandwidth.{bits_of}
-use Rattle.credit_shaper.specs.declared.shaper.Traffic.{Traffic}
+use Rattle.credit_shaper.specs.declared.{shaper.Traffic.Traffic, port.PortInput.PortInput}
 use Rattle.credit_shaper.specs.declared.shaper.Traffic.TheVariants.{A, B, Other}
-use Rattle.credit_shaper.specs.declared.port.PortInput.{PortInput}
-use Rattle.credit_shaper.specs.Credit.{credit_after, does_send}
-use Rattle.credit_shaper.specs.Port.{IsPortInput}
-use Rattle.credit_shaper.specs.Bounds.{credit_b_at, slope_b_at, is_on_line}
-use Rattle.credit_shaper.specs.Steps.{is_waiting, Starts}
-use Rattle.class_b_bound.specs.BitTimes.{BitLaws}
-use Rattle.class_b_bound.specs.Waits.{is_kept_waiting, HasWait, IsWorstWait, waited, most_waited, worst_wait_of}
-use Rattle.class_b_bound.proofs.BeginLemmas.{IsKept, kept_of, waited-yes, waited-no}
-use Rattle.class_b_bound.proofs.BoundLemmas.{run_waited}
-
-zero_at_least : (c : ℤ) → pos 0 ≤ℤ c → int_le (pos 0) c ≡ true
-zero_at_least (pos n) up = le-leb 0 n (omega arith)
-zero_at_least (negsuc n) up = absurd (omega (arith, ints, up))
+use Rattle.credit_shaper.specs.{Credit.credit_after, Credit.does_send, Port.IsPortInput, Bounds.credit_b_at, Bounds.slope_b_at, Bounds.is_on_line, Steps.is_waiting, Steps.Starts}
+use Rattle.class_b_bound.specs.{BitLaws, is_kept_waiting, HasWait, IsWorstWait, waited, most_waited, worst_wait_of}
+use Rattle.class_b_bound.proofs.{BeginLemmas.IsKept, BeginLemmas.kept_of, BeginLemmas.waited-yes, BeginLemmas.waited-no, BoundLemmas.run_waited}
 
 -- class B waits with credit, so it is kept waiting unless a frame of it is on the line
 on_line_if : (waits line : Bool) (c : ℤ) → waits ≡ true → pos 0 ≤ℤ c → (waits && (int_le (pos 0) c && not line)) ≡ false → line ≡ true

@@ -2,24 +2,12 @@
 use Rattle.std.proofs.Common.{◌≡◌, ℕ, zero, suc, ◌+◌, ◌-◌, ◌*◌, ◌<◌, ◌≤◌, Bool, true, false, cond, List, [], ◌∷◌, get_or, refl, sym, ◌∙◌, ap, subst, inl, inr, arith}
 use Rattle.std.specs.Prelude.{All, AllPairs, count_by, sum_by, nat_le, nat_lt, ◌&&◌, ◌||◌, min, max, ℤ, pos, ◌+ℤ◌, ◌-ℤ◌, ◌≤ℤ◌}
 use Rattle.std.specs.List.{range_with_len, list_any}
-use Rattle.std.proofs.lemmas.Bool.{cases_Bool, cases_lt, le-leb, lt-leb, lt-ltb, le-ltb, ltb-true, and_parts}
-use Rattle.std.proofs.lemmas.Int.{ints, clamps}
-use Rattle.std.proofs.lemmas.List.Elements.{All-head, All-tail, All-cons}
-use Rattle.std.proofs.lemmas.List.Sums.{sum_by-cons}
+use Rattle.std.proofs.lemmas.{Bool.cases_Bool, Bool.cases_lt, Bool.le-leb, Bool.lt-leb, Bool.lt-ltb, Bool.le-ltb, Bool.ltb-true, Bool.and_parts, Int.ints, Int.clamps, List.Elements.All-head, List.Elements.All-tail, List.Elements.All-cons, List.Sums.sum_by-cons}
+use Rattle.srp_base.proofs.Arithmetic.{mul_add, spent_sum}
 use Rattle.srp_base.specs.Bandwidth.{bits_of}
-use Rattle.credit_shaper.specs.declared.shaper.Traffic.TheVariants.{B}
-use Rattle.credit_shaper.specs.declared.port.SlopeChange.{SlopeChange}
-use Rattle.credit_shaper.specs.declared.port.PortInput.{PortInput}
-use Rattle.credit_shaper.specs.declared.port.Departure.{Departure}
-use Rattle.credit_shaper.specs.Credit.{credit_after}
-use Rattle.credit_shaper.specs.Port.{last_change, no_slopes}
-use Rattle.credit_shaper.specs.Departures.{departs_as, is_sending}
-use Rattle.credit_shaper.specs.Bounds.{credit_b_at, slope_b_at, is_on_line}
-use Rattle.credit_shaper.specs.Steps.{is_waiting}
-use Rattle.class_b_bound.specs.declared.bound.BoundB.{BoundB}
-use Rattle.class_b_bound.specs.Bound.{IsCreditBWithin}
-use Rattle.class_b_bound.specs.Window.{bits_b, area_b, IsWindowBWithin}
-use Rattle.class_b_bound.specs.Overlap.{overlap, taken_by, bits_over, area_over}
+use Rattle.credit_shaper.specs.declared.{shaper.Traffic.TheVariants.B, port.SlopeChange.SlopeChange, port.PortInput.PortInput, port.Departure.Departure}
+use Rattle.credit_shaper.specs.{Credit.credit_after, Port.last_change, Port.no_slopes, Departures.departs_as, Departures.is_sending, Bounds.credit_b_at, Bounds.slope_b_at, Bounds.is_on_line, Steps.is_waiting}
+use Rattle.class_b_bound.specs.{BoundB, IsCreditBWithin, bits_b, area_b, IsWindowBWithin, overlap, taken_by, bits_over, area_over}
 
 -- ---- what class B takes is what the slopes give, and what its credit falls by
 
@@ -39,14 +27,6 @@ spent : (input : PortInput) → HasSteps input → (t : ℕ)
 spent input steps t =
     subst (λ (c : ℤ). (c +ℤ pos (bits_of input.rate * cond (is_on_line input B t) 1 0)) ≤ℤ (credit_b_at input t +ℤ pos (slope_b_at input t)))
     (sym (steps t)) (spent_by (bits_of input.rate) (slope_b_at input t) (is_on_line input B t) (is_waiting input B t) (credit_b_at input t))
-
-mul_add : (k m n : ℕ) → k * (m + n) ≡ k * m + k * n
-mul_add k m n = omega arith
-
--- two parts of a window
-spent_sum : (x y z : ℤ) (p q r a b s : ℕ) → (y +ℤ pos p) ≤ℤ (x +ℤ pos a) → (z +ℤ pos q) ≤ℤ (y +ℤ pos b)
-    → r ≡ p + q → s ≡ a + b → (z +ℤ pos r) ≤ℤ (x +ℤ pos s)
-spent_sum x y z p q r a b s first rest e f = omega (arith, ints, first, rest, e, f)
 
 spent_over : (input : PortInput) → HasSteps input → (from n : ℕ)
     → (credit_b_at input (from + n) +ℤ pos (bits_of input.rate * count_by (is_on_line input B) (range_with_len from n)))

@@ -4,8 +4,7 @@ use Rattle.std.specs.Int.{div_ceil}
 use Rattle.srp_base.specs.declared.bandwidth.Rate.{Rate}
 use Rattle.srp_base.specs.Bandwidth.{bits_of}
 use Rattle.credit_shaper.specs.declared.port.PortInput.{PortInput}
-use Rattle.credit_shaper.specs.Port.{IsPortInput}
-use Rattle.credit_shaper.specs.Bounds.{KeepCaps, credit_b_at}
+use Rattle.credit_shaper.specs.{Port.IsPortInput, Bounds.KeepCaps, Bounds.credit_b_at}
 use Rattle.class_b_bound.specs.declared.bound.BoundB.{BoundB}
 
 -- class A's cap isn't above the cap of both classes, and that is below the rate

@@ -5,12 +5,8 @@
 --     it is on the line                             B B
 --     it is kept waiting           1 2 3 4 5 6 7 8 9        a wait of 9 bit times
 use Rattle.std.specs.Prelude.{◌≡◌, ℕ, zero, suc, ◌+◌, ◌<◌, ◌≤◌, ◌⊎◌, Bool, true, not, ◌&&◌, Some, pos, int_le, max, if◌then◌else◌}
-use Rattle.credit_shaper.specs.declared.shaper.Traffic.TheVariants.{B}
-use Rattle.credit_shaper.specs.declared.port.Arrival.{Arrival}
-use Rattle.credit_shaper.specs.declared.port.PortInput.{PortInput}
-use Rattle.credit_shaper.specs.Bounds.{credit_b_at, is_on_line}
-use Rattle.credit_shaper.specs.Departures.{DepartsAt}
-use Rattle.credit_shaper.specs.Steps.{head_at, is_waiting}
+use Rattle.credit_shaper.specs.declared.{shaper.Traffic.TheVariants.B, port.Arrival.Arrival, port.PortInput.PortInput}
+use Rattle.credit_shaper.specs.{Bounds.credit_b_at, Bounds.is_on_line, Departures.DepartsAt, Steps.head_at, Steps.is_waiting}
 
 -- whether class B is kept waiting in a bit time: a frame of it waits, its credit isn't negative, and none
 -- of it is on the line

@@ -1,8 +1,6 @@
 -- How the longest wait is found from piece to piece. No public contract names these words.
 use Rattle.std.specs.Prelude.{◌≡◌, ℕ, ◌*◌, ◌≤◌, Bool, not, ◌&&◌, pos, ◌+ℤ◌, int_le}
-use Rattle.credit_shaper.specs.declared.shaper.Traffic.TheVariants.{B}
-use Rattle.credit_shaper.specs.declared.port.PortInput.{PortInput}
-use Rattle.credit_shaper.specs.declared.piece.Piece.{Piece}
+use Rattle.credit_shaper.specs.declared.{shaper.Traffic.TheVariants.B, port.PortInput.PortInput, piece.Piece.Piece}
 use Rattle.credit_shaper.specs.Credit.{does_send}
 use Rattle.class_b_bound.specs.declared.waits.Waits.{Waits}
 use Rattle.class_b_bound.specs.Waits.{waited}

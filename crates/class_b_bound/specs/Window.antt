@@ -1,11 +1,9 @@
 -- What class B takes of the line in a window, and what its slope gives there.
 use Rattle.std.specs.Prelude.{ℕ, ◌*◌, count_by, sum_by, pos, ◌+ℤ◌, ◌-ℤ◌, ◌≤ℤ◌}
 use Rattle.srp_base.specs.Bandwidth.{bits_of}
-use Rattle.credit_shaper.specs.declared.shaper.Traffic.TheVariants.{B}
-use Rattle.credit_shaper.specs.declared.port.PortInput.{PortInput}
+use Rattle.credit_shaper.specs.declared.{shaper.Traffic.TheVariants.B, port.PortInput.PortInput}
 use Rattle.credit_shaper.specs.Bounds.{bit_times, is_on_line, slope_b_at}
-use Rattle.class_b_bound.specs.declared.bound.BoundB.{BoundB}
-use Rattle.class_b_bound.specs.declared.window.WindowB.{WindowB}
+use Rattle.class_b_bound.specs.declared.{bound.BoundB.BoundB, window.WindowB.WindowB}
 
 -- how many bit times from one to before another have a class B frame on the line
 abbrev pub bits_b : PortInput → ℕ → ℕ → ℕ

@@ -4,11 +4,8 @@
 ghost use Rattle.std.specs.Prelude.{◌≡◌, ℕ, suc, ◌+◌, ◌-◌, ◌*◌, ◌<◌, ◌≤◌, true, false, pos, ◌≤ℤ◌};
 ghost use Rattle.srp_base.specs.declared.bandwidth.Rate.{Rate};
 ghost use Rattle.srp_base.specs.Bandwidth.{bits_of};
-ghost use Rattle.credit_shaper.specs.declared.shaper.Traffic.TheVariants.{B};
-ghost use Rattle.credit_shaper.specs.declared.port.PortInput.{PortInput};
-ghost use Rattle.credit_shaper.specs.Port.{IsPortInput};
-ghost use Rattle.credit_shaper.specs.Bounds.{credit_b_at};
-ghost use Rattle.credit_shaper.specs.Steps.{Starts};
+ghost use Rattle.credit_shaper.specs.declared.{shaper.Traffic.TheVariants.B, port.PortInput.PortInput};
+ghost use Rattle.credit_shaper.specs.{Port.IsPortInput, Bounds.credit_b_at, Steps.Starts};
 ghost use Rattle.class_b_bound.specs.BitTimes.{BitLaws};
 ghost use Rattle.class_b_bound.specs.Bound.{AreCaps, HasCaps, bound_of, tight_bound_of, IsCreditBWithin};
 ghost use Rattle.class_b_bound.specs.Waits.{is_kept_waiting, HasWait, IsLongestWait, IsWorstWait, worst_wait_of};

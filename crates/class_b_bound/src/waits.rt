@@ -2,10 +2,7 @@
 
 ghost use Rattle.std.specs.Prelude.{◌≡◌, ℕ, ◌+◌, ◌*◌, ◌^◌, ◌<◌, ◌≤◌, pos, ◌+ℤ◌, int_le, nat_le, if◌then◌else◌, ◌-◌, IfOk};
 ghost use Rattle.credit_shaper.specs.declared.port.PortInput.{PortInput};
-ghost use Rattle.credit_shaper.specs.Port.{IsPortInput};
-ghost use Rattle.credit_shaper.specs.Bounds.{KeepCaps};
-ghost use Rattle.credit_shaper.specs.Credit.{IsWithin, IsInRange};
-ghost use Rattle.credit_shaper.specs.Pieces.{ArePieces, IsPiece};
+ghost use Rattle.credit_shaper.specs.{Port.IsPortInput, Bounds.KeepCaps, Credit.IsWithin, Credit.IsInRange, Pieces.ArePieces, Pieces.IsPiece};
 ghost use Rattle.class_b_bound.specs.Bound.{AreCaps, bound_of, tight_bound_of};
 ghost use Rattle.class_b_bound.specs.Waits.{IsLongestWait, IsWorstWait, worst_wait_of};
 ghost use Rattle.class_b_bound.specs.Walk.{IsWaits, keeps_b};

@@ -1,8 +1,7 @@
 //! What class B takes of the line in a window.
 
 ghost use Rattle.std.specs.Prelude.{◌≡◌, ◌+◌, ◌-◌, ◌*◌, ◌^◌, ◌<◌, ◌≤◌, All, AllPairs, sum_by};
-ghost use Rattle.credit_shaper.specs.Port.{IsPortInput};
-ghost use Rattle.credit_shaper.specs.Trace.{departures_of};
+ghost use Rattle.credit_shaper.specs.{Port.IsPortInput, Trace.departures_of};
 ghost use Rattle.class_b_bound.specs.Overlap.{area_over, bits_over, overlap};
 ghost use Rattle.class_b_bound.specs.Window.{window_of};
 

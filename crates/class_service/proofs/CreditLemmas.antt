@@ -1,20 +1,13 @@
 -- What a class's credit is over a window: what its slope gives and what its frames take.
 use Rattle.std.proofs.Common.{◌≡◌, ℕ, zero, suc, ◌+◌, ◌-◌, ◌*◌, ◌≤◌, ◌⊎◌, inl, inr, Bool, true, false, cond, [], ◌∷◌, ◌++◌, refl, sym, ◌∙◌, ap, subst, arith}
 use Rattle.std.specs.Prelude.{◌||◌, sum_by, ℤ, pos, ◌+ℤ◌, ◌-ℤ◌, ◌≤ℤ◌, int_lt}
-use Rattle.std.specs.Int.{int_min}
-use Rattle.std.specs.List.{range_with_len}
-use Rattle.std.proofs.lemmas.Bool.{cases_Bool, true≢false, false≢true}
-use Rattle.std.proofs.lemmas.Int.{ints, clamps}
-use Rattle.std.proofs.lemmas.List.Sums.{sum_by_push}
+use Rattle.std.specs.{Int.int_min, List.range_with_len}
+use Rattle.std.proofs.lemmas.{Bool.cases_Bool, Bool.true≢false, Bool.false≢true, Int.ints, Int.clamps, List.Sums.sum_by_push}
+use Rattle.srp_base.proofs.Arithmetic.{mul_add}
 use Rattle.srp_base.specs.Bandwidth.{bits_of}
-use Rattle.credit_shaper.specs.declared.shaper.Traffic.{Traffic}
-use Rattle.credit_shaper.specs.declared.port.PortInput.{PortInput}
-use Rattle.credit_shaper.specs.Credit.{credit_after}
-use Rattle.credit_shaper.specs.Bounds.{is_on_line, bit_times}
-use Rattle.credit_shaper.specs.Steps.{is_waiting}
-use Rattle.class_service.specs.Class.{IsClass, credit_at, slope_at, is_busy, IsBusy, bits_in, area_in}
-use Rattle.class_service.specs.Service.{IsCreditKept, IsServed, TakesNoMore, IsFresh, LosesNone}
-use Rattle.class_service.specs.BitTimes.{CreditLaws}
+use Rattle.credit_shaper.specs.declared.{shaper.Traffic.Traffic, port.PortInput.PortInput}
+use Rattle.credit_shaper.specs.{Credit.credit_after, Bounds.is_on_line, Bounds.bit_times, Steps.is_waiting}
+use Rattle.class_service.specs.{IsClass, credit_at, slope_at, is_busy, IsBusy, bits_in, area_in, IsCreditKept, IsServed, TakesNoMore, IsFresh, LosesNone, CreditLaws}
 
 -- ---- sums over bit times grow at their end
 
@@ -69,9 +62,6 @@ spent_by : (rate slope : ℕ) (sends waits : Bool) (c : ℤ)
 spent_by rate slope true waits c = omega (arith, ints)
 spent_by rate slope false true c = omega (arith, ints)
 spent_by rate slope false false c = omega (arith, ints, clamps)
-
-mul_add : (k m n : ℕ) → k * (m + n) ≡ k * m + k * n
-mul_add k m n = omega arith
 
 -- ---- a window with one bit time more
 

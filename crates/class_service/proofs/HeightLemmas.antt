@@ -2,24 +2,13 @@
 use Rattle.std.proofs.Common.{◌≡◌, ℕ, zero, suc, ◌+◌, ◌-◌, ◌*◌, ◌<◌, ◌≤◌, inl, inr, Bool, true, false, refl, sym, ◌∙◌, ap, subst, arith}
 use Rattle.std.specs.Prelude.{ℤ, pos, ◌+ℤ◌, ◌-ℤ◌, ◌≤ℤ◌, ◌<ℤ◌}
 use Rattle.std.proofs.Math.Nat.{mul-le-mul_left}
-use Rattle.std.proofs.lemmas.Bool.{cases_Bool, cases_lt, true≢false, false≢true}
-use Rattle.std.proofs.lemmas.Int.{ints}
+use Rattle.std.proofs.lemmas.{Bool.cases_Bool, Bool.cases_lt, Bool.true≢false, Bool.false≢true, Int.ints}
 use Rattle.srp_base.specs.Bandwidth.{bits_of}
-use Rattle.credit_shaper.specs.declared.shaper.Traffic.{Traffic}
+use Rattle.credit_shaper.specs.declared.{shaper.Traffic.Traffic, shaper.Line.Line, shaper.Line.TheVariants.Free, shaper.Line.TheVariants.Sends, port.PortInput.PortInput}
 use Rattle.credit_shaper.specs.declared.shaper.Traffic.TheVariants.{A, B, Other}
-use Rattle.credit_shaper.specs.declared.shaper.Line.{Line}
-use Rattle.credit_shaper.specs.declared.shaper.Line.TheVariants.{Free, Sends}
-use Rattle.credit_shaper.specs.declared.port.PortInput.{PortInput}
-use Rattle.credit_shaper.specs.Credit.{credit_after, does_send}
-use Rattle.credit_shaper.specs.Port.{IsPortInput}
-use Rattle.credit_shaper.specs.Trace.{port_in}
-use Rattle.credit_shaper.specs.Bounds.{credit_a_at, credit_b_at, slope_a_at, slope_b_at, is_on_line, IsStretch, IsCreditAWithin}
-use Rattle.credit_shaper.specs.Steps.{is_waiting, was_on_line, bits_left, bits_ahead, GoesOn, Starts}
-use Rattle.class_service.specs.Class.{IsClass, credit_at, slope_at}
-use Rattle.class_service.specs.Range.{HaveMostSlopes, HasRoom, high_of}
-use Rattle.class_service.specs.BitTimes.{CreditLaws, LineLaws}
-use Rattle.class_service.proofs.RangeLemmas.{rises, from_short}
-use Rattle.class_service.proofs.RiseLemmas.{times, Rises, rises_first, rises_a, starts_a, rises_b, rises_other, rises_short, high_by}
+use Rattle.credit_shaper.specs.{Credit.credit_after, Credit.does_send, Port.IsPortInput, Trace.port_in, Bounds.credit_a_at, Bounds.credit_b_at, Bounds.slope_a_at, Bounds.slope_b_at, Bounds.is_on_line, Bounds.IsStretch, Bounds.IsCreditAWithin, Steps.is_waiting, Steps.was_on_line, Steps.bits_left, Steps.bits_ahead, Steps.GoesOn, Steps.Starts}
+use Rattle.class_service.specs.{IsClass, credit_at, slope_at, HaveMostSlopes, HasRoom, high_of, CreditLaws, LineLaws}
+use Rattle.class_service.proofs.{RangeLemmas.rises, RangeLemmas.from_short, RiseLemmas.times, RiseLemmas.Rises, RiseLemmas.rises_first, RiseLemmas.rises_a, RiseLemmas.starts_a, RiseLemmas.rises_b, RiseLemmas.rises_other, RiseLemmas.rises_short, RiseLemmas.high_by}
 
 -- ---- a class's next credit
 

@@ -2,25 +2,11 @@
 -- to the line, and each bit time in which the line sends takes one.
 use Rattle.std.proofs.Common.{◌≡◌, ℕ, zero, suc, ◌+◌, ◌-◌, ◌<◌, ◌≤◌, ◌⊎◌, inl, inr, Bool, true, false, cond, List, [], ◌∷◌, ◌++◌, get_or, Option, Some, None, refl, sym, ◌∙◌, ap, subst, arith}
 use Rattle.std.specs.Prelude.{All, nat_le, nat_lt, ◌==◌, filter, sum_by, is_some}
-use Rattle.std.proofs.lemmas.Bool.{cases_Bool, cases_lt, cases_eq, cond-true, cond-false, le-leb, lt-leb, lt-ltb, le-ltb, eq-eqb, ne_eqb, eqb-true, or_parts, true≢false}
-use Rattle.std.proofs.lemmas.List.Elements.{All-head, All-tail, All-cons, All-append, All-filter, filter-append, filter_passes}
-use Rattle.std.proofs.lemmas.List.Sums.{sum_by-cons, sum_by-append}
-use Rattle.credit_shaper.specs.declared.shaper.Traffic.{Traffic}
+use Rattle.std.proofs.lemmas.{Bool.cases_Bool, Bool.cases_lt, Bool.cases_eq, Bool.cond-true, Bool.cond-false, Bool.le-leb, Bool.lt-leb, Bool.lt-ltb, Bool.le-ltb, Bool.eq-eqb, Bool.ne_eqb, Bool.eqb-true, Bool.or_parts, Bool.true≢false, List.Elements.All-head, List.Elements.All-tail, List.Elements.All-cons, List.Elements.All-append, List.Elements.All-filter, List.Elements.filter-append, List.Elements.filter_passes, List.Sums.sum_by-cons, List.Sums.sum_by-append}
+use Rattle.credit_shaper.specs.declared.{shaper.Traffic.Traffic, shaper.Line.Line, shaper.Line.TheVariants.Free, shaper.Line.TheVariants.Sends, port.Arrival.Arrival, port.PortInput.PortInput}
 use Rattle.credit_shaper.specs.declared.shaper.Traffic.TheVariants.{A, B, Other}
-use Rattle.credit_shaper.specs.declared.shaper.Line.{Line}
-use Rattle.credit_shaper.specs.declared.shaper.Line.TheVariants.{Free, Sends}
-use Rattle.credit_shaper.specs.declared.port.Arrival.{Arrival}
-use Rattle.credit_shaper.specs.declared.port.PortInput.{PortInput}
-use Rattle.credit_shaper.specs.Credit.{traffic_number, does_send}
-use Rattle.credit_shaper.specs.Port.{IsPortInput, is_of, arrivals_at}
-use Rattle.credit_shaper.specs.Trace.{Port, head_of, does_wait, turn_of, without_head, starts, sends_frame, with_start, with_arrivals, port_at, port_in}
-use Rattle.credit_shaper.specs.Bounds.{is_on_line}
-use Rattle.credit_shaper.specs.Steps.{is_waiting, bits_left, bits_ahead, Starts}
-use Rattle.credit_shaper.specs.Departures.{arrivals_before}
-use Rattle.class_service.specs.Class.{IsIdleBefore, bits_in}
-use Rattle.class_service.specs.Range.{HasLongest}
-use Rattle.class_service.specs.Owed.{bits_among, bits_to_send, HasNoneBefore}
-use Rattle.class_service.specs.BitTimes.{LineLaws}
+use Rattle.credit_shaper.specs.{Credit.traffic_number, Credit.does_send, Port.IsPortInput, Port.is_of, Port.arrivals_at, Trace.Port, Trace.head_of, Trace.does_wait, Trace.turn_of, Trace.without_head, Trace.starts, Trace.sends_frame, Trace.with_start, Trace.with_arrivals, Trace.port_at, Trace.port_in, Bounds.is_on_line, Steps.is_waiting, Steps.bits_left, Steps.bits_ahead, Steps.Starts, Departures.arrivals_before}
+use Rattle.class_service.specs.{IsIdleBefore, bits_in, HasLongest, bits_among, bits_to_send, HasNoneBefore, LineLaws}
 use Rattle.class_service.proofs.CreditLemmas.{bit_of, bits_more, sum_none}
 
 -- ---- the bits of a traffic among some frames

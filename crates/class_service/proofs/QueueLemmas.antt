@@ -3,22 +3,10 @@
 use Rattle.std.proofs.Common.{◌≡◌, ℕ, zero, suc, ◌+◌, ◌<◌, ◌≤◌, ◌⊎◌, inl, inr, Bool, true, false, cond, List, [], ◌∷◌, ◌++◌, length, get_or, refl, sym, ◌∙◌, ap, subst, arith, append-nil, length-append}
 use Rattle.std.specs.Prelude.{All, AllPairs, nat_le, nat_lt, filter, count_by, sum_by}
 use Rattle.std.specs.List.{Contains}
-use Rattle.std.proofs.lemmas.Bool.{cases_Bool, cases_lt, cond-true, cond-false, le-leb, lt-leb, lt-ltb, le-ltb, eq-eqb, ltb-true}
-use Rattle.std.proofs.lemmas.List.Elements.{All-head, All-tail, All-cons, All-filter, All-contains, All-contains_itself, filter-append, filter_passes, Contains-append_right}
-use Rattle.std.proofs.lemmas.List.Sums.{sum_by-cons, sum_by-append, length-filter}
-use Rattle.std.proofs.lemmas.List.Kept.{AllPairs-filter}
-use Rattle.credit_shaper.specs.declared.shaper.Traffic.{Traffic}
-use Rattle.credit_shaper.specs.declared.port.Arrival.{Arrival}
-use Rattle.credit_shaper.specs.declared.port.PortInput.{PortInput}
-use Rattle.credit_shaper.specs.declared.port.Departure.{Departure}
-use Rattle.credit_shaper.specs.Credit.{traffic_number}
-use Rattle.credit_shaper.specs.Port.{IsPortInput, IsNotAfter, IsFrameSize, is_of}
-use Rattle.credit_shaper.specs.Trace.{does_wait, departure_at, port_at}
-use Rattle.credit_shaper.specs.Steps.{is_waiting}
-use Rattle.credit_shaper.specs.Departures.{sent_of, left_of, departs_as, IsDepartureOf, DepartInOrder, AgreeBefore, arrivals_before, started_before}
-use Rattle.class_service.specs.Class.{IsIdleBefore, bits_in}
-use Rattle.class_service.specs.Owed.{bits_among, arrivals_from, HasPlace, starts_before, HasNotStarted, StartsAt}
-use Rattle.class_service.specs.BitTimes.{LineLaws, OrderLaws}
+use Rattle.std.proofs.lemmas.{Bool.cases_Bool, Bool.cases_lt, Bool.cond-true, Bool.cond-false, Bool.le-leb, Bool.lt-leb, Bool.lt-ltb, Bool.le-ltb, Bool.eq-eqb, Bool.ltb-true, List.Elements.All-head, List.Elements.All-tail, List.Elements.All-cons, List.Elements.All-filter, List.Elements.All-contains, List.Elements.All-contains_itself, List.Elements.filter-append, List.Elements.filter_passes, List.Elements.Contains-append_right, List.Sums.sum_by-cons, List.Sums.sum_by-append, List.Sums.length-filter, List.Kept.AllPairs-filter}
+use Rattle.credit_shaper.specs.declared.{shaper.Traffic.Traffic, port.Arrival.Arrival, port.PortInput.PortInput, port.Departure.Departure}
+use Rattle.credit_shaper.specs.{Credit.traffic_number, Port.IsPortInput, Port.IsNotAfter, Port.IsFrameSize, Port.is_of, Trace.does_wait, Trace.departure_at, Trace.port_at, Steps.is_waiting, Departures.sent_of, Departures.left_of, Departures.departs_as, Departures.IsDepartureOf, Departures.DepartInOrder, Departures.AgreeBefore, Departures.arrivals_before, Departures.started_before}
+use Rattle.class_service.specs.{IsIdleBefore, bits_in, bits_among, arrivals_from, HasPlace, starts_before, HasNotStarted, StartsAt, LineLaws, OrderLaws}
 use Rattle.class_service.proofs.PortLemmas.{among_split, none_waits, carried}
 
 -- ---- the input up to a bit time

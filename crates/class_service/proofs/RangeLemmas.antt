@@ -2,19 +2,12 @@
 use Rattle.std.proofs.Common.{◌≡◌, ℕ, zero, suc, ◌+◌, ◌-◌, ◌*◌, ◌<◌, ◌≤◌, ◌⊎◌, inl, inr, Bool, true, false, cond, refl, sym, ◌∙◌, ap, subst, arith}
 use Rattle.std.specs.Prelude.{ℤ, pos, ◌+ℤ◌, ◌-ℤ◌, ◌≤ℤ◌, ◌<ℤ◌}
 use Rattle.std.proofs.Math.Nat.{mul-le-mul_left}
-use Rattle.std.proofs.lemmas.Bool.{cases_Bool, cond-true, cond-false, eqb-true, true≢false}
-use Rattle.std.proofs.lemmas.Int.{ints, clamps}
+use Rattle.std.proofs.lemmas.{Bool.cases_Bool, Bool.cond-true, Bool.cond-false, Bool.eqb-true, Bool.true≢false, Int.ints, Int.clamps}
 use Rattle.srp_base.specs.Bandwidth.{bits_of}
-use Rattle.credit_shaper.specs.declared.shaper.Traffic.{Traffic}
+use Rattle.credit_shaper.specs.declared.{shaper.Traffic.Traffic, port.PortInput.PortInput}
 use Rattle.credit_shaper.specs.declared.shaper.Traffic.TheVariants.{A, B, Other}
-use Rattle.credit_shaper.specs.declared.port.PortInput.{PortInput}
-use Rattle.credit_shaper.specs.Credit.{traffic_number, credit_after, does_send}
-use Rattle.credit_shaper.specs.Port.{IsPortInput}
-use Rattle.credit_shaper.specs.Bounds.{is_on_line}
-use Rattle.credit_shaper.specs.Steps.{is_waiting, was_on_line, bits_left, bits_ahead, HasTurn, Starts}
-use Rattle.class_service.specs.Class.{IsClass, credit_at, slope_at}
-use Rattle.class_service.specs.Range.{HasLongest, HasLeastSlope, low_of}
-use Rattle.class_service.specs.BitTimes.{CreditLaws, LineLaws}
+use Rattle.credit_shaper.specs.{Credit.traffic_number, Credit.credit_after, Credit.does_send, Port.IsPortInput, Bounds.is_on_line, Steps.is_waiting, Steps.was_on_line, Steps.bits_left, Steps.bits_ahead, Steps.HasTurn, Steps.Starts}
+use Rattle.class_service.specs.{IsClass, credit_at, slope_at, HasLongest, HasLeastSlope, low_of, CreditLaws, LineLaws}
 use Rattle.class_service.proofs.PortLemmas.{same_traffic, ahead_some, starts_short}
 
 -- ---- a credit in one bit time

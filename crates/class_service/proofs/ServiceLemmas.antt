@@ -4,24 +4,15 @@ use Rattle.std.specs.Prelude.{◌==◌, ◌||◌, ◌&&◌, min, max, sum_by}
 use Rattle.std.specs.List.{list_all}
 use Rattle.std.proofs.Math.Nat.{mul-le-mul_left}
 use Rattle.std.proofs.Math.Seq.{drop-cons}
-use Rattle.std.proofs.lemmas.Bool.{ne_eqb}
-use Rattle.std.proofs.lemmas.List.Folds.{list_all-append}
-use Rattle.std.proofs.lemmas.List.FromFn.{length-range_with_len, get_or-range_with_len}
-use Rattle.std.proofs.lemmas.List.Elements.{All-from_get_or}
-use Rattle.std.proofs.lemmas.List.Sums.{AllPass-from_list_all, list_all-from_AllPass}
+use Rattle.std.proofs.lemmas.{Bool.ne_eqb, List.Folds.list_all-append, List.FromFn.length-range_with_len, List.FromFn.get_or-range_with_len, List.Elements.All-from_get_or, List.Sums.AllPass-from_list_all, List.Sums.list_all-from_AllPass}
 use Rattle.srp_base.specs.declared.bandwidth.Rate.{Rate}
 use Rattle.srp_base.specs.declared.bandwidth.Rate.TheVariants.{M100, G1, G10}
 use Rattle.srp_base.specs.Bandwidth.{bits_of}
-use Rattle.credit_shaper.specs.declared.shaper.Traffic.{Traffic}
+use Rattle.credit_shaper.specs.declared.{shaper.Traffic.Traffic, port.PortInput.PortInput, piece.Piece.Piece}
 use Rattle.credit_shaper.specs.declared.shaper.Traffic.TheVariants.{A, B, Other}
-use Rattle.credit_shaper.specs.declared.port.PortInput.{PortInput}
-use Rattle.credit_shaper.specs.declared.piece.Piece.{Piece}
-use Rattle.credit_shaper.specs.Credit.{does_send, IsInRange}
-use Rattle.credit_shaper.specs.Bounds.{is_on_line, bit_times}
-use Rattle.credit_shaper.specs.Pieces.{IsAlike, IsPiece, ArePieces}
+use Rattle.credit_shaper.specs.{Credit.does_send, Credit.IsInRange, Bounds.is_on_line, Bounds.bit_times, Pieces.IsAlike, Pieces.IsPiece, Pieces.ArePieces}
 use Rattle.class_service.specs.declared.service.Service.{Service}
-use Rattle.class_service.specs.Class.{IsClass, slope_at, is_busy, IsBusy, bits_in, area_in}
-use Rattle.class_service.specs.Window.{service_of, service_with, slope_in, waits_in}
+use Rattle.class_service.specs.{IsClass, slope_at, is_busy, IsBusy, bits_in, area_in, service_of, service_with, slope_in, waits_in}
 use Rattle.class_service.proofs.CreditLemmas.{bit_of, times_more, sum_more}
 
 -- ---- bit times that are alike

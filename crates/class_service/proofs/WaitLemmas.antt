@@ -2,28 +2,13 @@
 use Rattle.std.proofs.Common.{◌≡◌, ℕ, zero, suc, ◌+◌, ◌-◌, ◌*◌, ◌<◌, ◌≤◌, inl, inr, Bool, false, List, ◌∷◌, ◌++◌, refl, sym, ◌∙◌, ap, subst, arith}
 use Rattle.std.specs.Prelude.{All, ℤ, pos, ◌+ℤ◌, ◌-ℤ◌, ◌≤ℤ◌}
 use Rattle.std.proofs.Math.Nat.{mul-le-mul_left}
-use Rattle.std.proofs.lemmas.Bool.{cases_Bool, or_right, or_from, true≢false}
-use Rattle.std.proofs.lemmas.List.Elements.{All-contains, Contains-append_right}
-use Rattle.std.proofs.lemmas.Int.{ints, clamps}
+use Rattle.std.proofs.lemmas.{Bool.cases_Bool, Bool.or_right, Bool.or_from, Bool.true≢false, List.Elements.All-contains, List.Elements.Contains-append_right, Int.ints, Int.clamps}
 use Rattle.srp_base.specs.Bandwidth.{bits_of}
-use Rattle.credit_shaper.specs.declared.shaper.Traffic.{Traffic}
+use Rattle.credit_shaper.specs.declared.{shaper.Traffic.Traffic, port.Arrival.Arrival, port.PortInput.PortInput}
 use Rattle.credit_shaper.specs.declared.shaper.Traffic.TheVariants.{A, B, Other}
-use Rattle.credit_shaper.specs.declared.port.Arrival.{Arrival}
-use Rattle.credit_shaper.specs.declared.port.PortInput.{PortInput}
-use Rattle.credit_shaper.specs.Credit.{credit_after}
-use Rattle.credit_shaper.specs.Port.{IsPortInput}
-use Rattle.credit_shaper.specs.Bounds.{is_on_line}
-use Rattle.credit_shaper.specs.Steps.{is_waiting, bits_left}
-use Rattle.class_service.specs.Class.{IsClass, credit_at, slope_at, is_busy, IsBusy, bits_in, area_in}
-use Rattle.class_service.specs.Service.{IsFresh, LosesNone}
-use Rattle.class_service.specs.Range.{idle_of}
-use Rattle.class_service.specs.Owed.{bits_among, arrivals_from, HasNoneBefore, HasPlace, HasNotStarted, StartsAt, HasOneSlope, IsWaitOwed, StartsInTime}
-use Rattle.class_service.specs.BitTimes.{CreditLaws, LineLaws, OrderLaws}
-use Rattle.class_service.proofs.CreditLemmas.{sum_more, sum_none, some_since, lost_on}
-use Rattle.class_service.proofs.PortLemmas.{none_waiting, none_starts}
-use Rattle.class_service.proofs.RangeLemmas.{Continues, on_line}
-use Rattle.class_service.proofs.QueueLemmas.{waits_until, bits_in_front, starts_or_left}
-use Rattle.class_service.proofs.HeightLemmas.{HasHighA, rises_no_higher}
+use Rattle.credit_shaper.specs.{Credit.credit_after, Port.IsPortInput, Bounds.is_on_line, Steps.is_waiting, Steps.bits_left}
+use Rattle.class_service.specs.{IsClass, credit_at, slope_at, is_busy, IsBusy, bits_in, area_in, IsFresh, LosesNone, idle_of, bits_among, arrivals_from, HasNoneBefore, HasPlace, HasNotStarted, StartsAt, HasOneSlope, IsWaitOwed, StartsInTime, CreditLaws, LineLaws, OrderLaws}
+use Rattle.class_service.proofs.{CreditLemmas.sum_more, CreditLemmas.sum_none, CreditLemmas.some_since, CreditLemmas.lost_on, PortLemmas.none_waiting, PortLemmas.none_starts, RangeLemmas.Continues, RangeLemmas.on_line, QueueLemmas.waits_until, QueueLemmas.bits_in_front, QueueLemmas.starts_or_left, HeightLemmas.HasHighA, HeightLemmas.rises_no_higher}
 
 -- ---- one slope
 

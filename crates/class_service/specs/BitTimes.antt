@@ -1,15 +1,8 @@
 -- The laws of a bit time that these laws stand on, those of credit_shaper. No public contract names them.
 use Rattle.std.specs.Prelude.{◌≡◌, ℕ, suc, ◌-◌, ◌<◌, ◌≤◌, pos, List, filter, All, AllPairs}
 use Rattle.srp_base.specs.Bandwidth.{bits_of}
-use Rattle.credit_shaper.specs.declared.shaper.Traffic.{Traffic}
-use Rattle.credit_shaper.specs.declared.port.Arrival.{Arrival}
-use Rattle.credit_shaper.specs.declared.port.PortInput.{PortInput}
-use Rattle.credit_shaper.specs.Credit.{credit_after}
-use Rattle.credit_shaper.specs.Port.{IsPortInput, is_of, arrivals_at}
-use Rattle.credit_shaper.specs.Trace.{port_at}
-use Rattle.credit_shaper.specs.Bounds.{slope_a_at, slope_b_at, is_on_line}
-use Rattle.credit_shaper.specs.Steps.{is_waiting, was_on_line, bits_left, bits_ahead, IsOneOfThree}
-use Rattle.credit_shaper.specs.Departures.{sent_of, left_of, departs_as, DepartInOrder, AgreeBefore, arrivals_before, started_before}
+use Rattle.credit_shaper.specs.declared.{shaper.Traffic.Traffic, port.Arrival.Arrival, port.PortInput.PortInput}
+use Rattle.credit_shaper.specs.{Credit.credit_after, Port.IsPortInput, Port.is_of, Port.arrivals_at, Trace.port_at, Bounds.slope_a_at, Bounds.slope_b_at, Bounds.is_on_line, Steps.is_waiting, Steps.was_on_line, Steps.bits_left, Steps.bits_ahead, Steps.IsOneOfThree, Departures.sent_of, Departures.left_of, Departures.departs_as, Departures.DepartInOrder, Departures.AgreeBefore, Departures.arrivals_before, Departures.started_before}
 use Rattle.class_service.specs.Class.{IsClass, credit_at, slope_at}
 
 -- each class's credit is 0 at first and goes on by its step

@@ -1,11 +1,9 @@
 -- What class A and class B alike have at a port: a credit, an idleSlope, frames that wait or are on the line (IEEE
 -- Std 802.1Q-2018, 8.6.8.2; whole bit times own).
 use Rattle.std.specs.Prelude.{◌≡◌, ℕ, suc, ◌<◌, ◌≤◌, Bool, true, false, ◌||◌, count_by, sum_by, ℤ, pos}
-use Rattle.credit_shaper.specs.declared.shaper.Traffic.{Traffic}
+use Rattle.credit_shaper.specs.declared.{shaper.Traffic.Traffic, port.PortInput.PortInput}
 use Rattle.credit_shaper.specs.declared.shaper.Traffic.TheVariants.{A, B, Other}
-use Rattle.credit_shaper.specs.declared.port.PortInput.{PortInput}
-use Rattle.credit_shaper.specs.Bounds.{credit_a_at, credit_b_at, slope_a_at, slope_b_at, is_on_line, bit_times}
-use Rattle.credit_shaper.specs.Steps.{is_waiting}
+use Rattle.credit_shaper.specs.{Bounds.credit_a_at, Bounds.credit_b_at, Bounds.slope_a_at, Bounds.slope_b_at, Bounds.is_on_line, Bounds.bit_times, Steps.is_waiting}
 
 -- a traffic has a credit: it is class A or class B
 abbrev pub IsClass : Traffic → Type 0

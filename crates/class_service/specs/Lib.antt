@@ -4,3 +4,9 @@ pub mod Range
 pub mod Owed
 pub mod Window
 pub mod BitTimes
+pub use Class.*
+pub use Service.*
+pub use Range.*
+pub use Owed.*
+pub use Window.*
+pub use BitTimes.*

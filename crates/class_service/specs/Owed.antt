@@ -1,16 +1,9 @@
 -- What a frame's wait is owed to: the frames of its class in front of it, which arrived since the class was last not busy.
 use Rattle.std.specs.Prelude.{◌≡◌, ℕ, ◌+◌, ◌-◌, ◌*◌, ◌<◌, ◌≤◌, ◌⊎◌, true, nat_le, List, ◌∷◌, ◌++◌, filter, All, count_by, sum_by, if◌then◌else◌}
 use Rattle.srp_base.specs.Bandwidth.{bits_of}
-use Rattle.credit_shaper.specs.declared.shaper.Traffic.{Traffic}
-use Rattle.credit_shaper.specs.declared.port.Arrival.{Arrival}
-use Rattle.credit_shaper.specs.declared.port.PortInput.{PortInput}
-use Rattle.credit_shaper.specs.Port.{is_of}
-use Rattle.credit_shaper.specs.Trace.{port_at}
-use Rattle.credit_shaper.specs.Bounds.{slope_a_at}
-use Rattle.credit_shaper.specs.Steps.{was_on_line, bits_left}
-use Rattle.credit_shaper.specs.Departures.{sent_of, DepartsAt, departs_as, started_before}
-use Rattle.class_service.specs.Class.{slope_at, IsIdleBefore}
-use Rattle.class_service.specs.Range.{HasRoom, idle_of}
+use Rattle.credit_shaper.specs.declared.{shaper.Traffic.Traffic, port.Arrival.Arrival, port.PortInput.PortInput}
+use Rattle.credit_shaper.specs.{Port.is_of, Trace.port_at, Bounds.slope_a_at, Steps.was_on_line, Steps.bits_left, Departures.sent_of, Departures.DepartsAt, Departures.departs_as, Departures.started_before}
+use Rattle.class_service.specs.{Class.slope_at, Class.IsIdleBefore, Range.HasRoom, Range.idle_of}
 
 -- the bits of the frames of a traffic among some
 abbrev pub bits_among : Traffic → List Arrival → ℕ

@@ -3,12 +3,9 @@
 use Rattle.std.specs.Prelude.{◌≡◌, ℕ, ◌+◌, ◌-◌, ◌*◌, ◌<◌, ◌≤◌, true, List, All, ℤ, pos, ◌-ℤ◌}
 use Rattle.std.specs.Int.{div_ceil}
 use Rattle.srp_base.specs.Bandwidth.{bits_of}
-use Rattle.credit_shaper.specs.declared.shaper.Traffic.{Traffic}
+use Rattle.credit_shaper.specs.declared.{shaper.Traffic.Traffic, port.Arrival.Arrival, port.PortInput.PortInput}
 use Rattle.credit_shaper.specs.declared.shaper.Traffic.TheVariants.{A, B, Other}
-use Rattle.credit_shaper.specs.declared.port.Arrival.{Arrival}
-use Rattle.credit_shaper.specs.declared.port.PortInput.{PortInput}
-use Rattle.credit_shaper.specs.Port.{is_of}
-use Rattle.credit_shaper.specs.Bounds.{slope_a_at, slope_b_at}
+use Rattle.credit_shaper.specs.{Port.is_of, Bounds.slope_a_at, Bounds.slope_b_at}
 use Rattle.class_service.specs.Class.{credit_at, slope_at}
 
 -- no frame of a traffic among these is longer than so many bits

@@ -2,9 +2,7 @@
 -- 802.1Q-2018, 8.6.8.2 and Annex L in outline; for every input, own).
 use Rattle.std.specs.Prelude.{◌≡◌, ℕ, ◌*◌, ◌≤◌, ℤ, pos, ◌+ℤ◌, ◌-ℤ◌, ◌≤ℤ◌}
 use Rattle.srp_base.specs.Bandwidth.{bits_of}
-use Rattle.credit_shaper.specs.declared.shaper.Traffic.{Traffic}
-use Rattle.credit_shaper.specs.declared.shaper.Traffic.TheVariants.{B}
-use Rattle.credit_shaper.specs.declared.port.PortInput.{PortInput}
+use Rattle.credit_shaper.specs.declared.{shaper.Traffic.Traffic, shaper.Traffic.TheVariants.B, port.PortInput.PortInput}
 use Rattle.class_b_bound.specs.declared.bound.BoundB.{BoundB}
 use Rattle.class_service.specs.Class.{credit_at, bits_in, area_in, IsIdleBefore}
 

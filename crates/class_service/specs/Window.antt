@@ -1,12 +1,9 @@
 -- What a class has of a window, and how it is summed up from piece to piece.
 use Rattle.std.specs.Prelude.{ℕ, ◌+◌, ◌*◌, Bool, false, ◌||◌, ◌&&◌, ◌==◌, if◌then◌else◌}
 use Rattle.std.specs.List.{list_all}
-use Rattle.credit_shaper.specs.declared.shaper.Traffic.{Traffic}
+use Rattle.credit_shaper.specs.declared.{shaper.Traffic.Traffic, port.PortInput.PortInput, piece.Piece.Piece}
 use Rattle.credit_shaper.specs.declared.shaper.Traffic.TheVariants.{A, B, Other}
-use Rattle.credit_shaper.specs.declared.port.PortInput.{PortInput}
-use Rattle.credit_shaper.specs.declared.piece.Piece.{Piece}
-use Rattle.credit_shaper.specs.Credit.{does_send}
-use Rattle.credit_shaper.specs.Bounds.{bit_times}
+use Rattle.credit_shaper.specs.{Credit.does_send, Bounds.bit_times}
 use Rattle.class_service.specs.declared.service.Service.{Service}
 use Rattle.class_service.specs.Class.{is_busy, bits_in, area_in}
 

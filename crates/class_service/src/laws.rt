@@ -4,14 +4,8 @@
 
 ghost use Rattle.std.specs.Prelude.{◌≡◌, ℕ, ◌+◌, ◌*◌, ◌<◌, ◌≤◌, ◌⊎◌, true, List, ℤ, pos, ◌≤ℤ◌};
 ghost use Rattle.srp_base.specs.Bandwidth.{bits_of};
-ghost use Rattle.credit_shaper.specs.declared.shaper.Traffic.{Traffic};
-ghost use Rattle.credit_shaper.specs.declared.shaper.Traffic.TheVariants.{A, B};
-ghost use Rattle.credit_shaper.specs.declared.port.Arrival.{Arrival};
-ghost use Rattle.credit_shaper.specs.declared.port.PortInput.{PortInput};
-ghost use Rattle.credit_shaper.specs.Port.{IsPortInput};
-ghost use Rattle.credit_shaper.specs.Bounds.{hi_credit, lo_credit, IsStretch};
-ghost use Rattle.credit_shaper.specs.Departures.{arrivals_before};
-ghost use Rattle.credit_shaper.specs.Steps.{is_waiting};
+ghost use Rattle.credit_shaper.specs.declared.{shaper.Traffic.Traffic, shaper.Traffic.TheVariants.A, shaper.Traffic.TheVariants.B, port.Arrival.Arrival, port.PortInput.PortInput};
+ghost use Rattle.credit_shaper.specs.{Port.IsPortInput, Bounds.hi_credit, Bounds.lo_credit, Bounds.IsStretch, Departures.arrivals_before, Steps.is_waiting};
 ghost use Rattle.class_b_bound.specs.Bound.{HasCaps, bound_of, tight_bound_of};
 ghost use Rattle.class_service.specs.Class.{IsClass, credit_at, IsBusy, IsIdleBefore, bits_in};
 ghost use Rattle.class_service.specs.Service.{IsCreditKept, IsServed, IsServedB, TakesNoMore, IsFresh, LosesNone};

@@ -1,8 +1,7 @@
 //! What a class has of a window, found from piece to piece.
 
 ghost use Rattle.std.specs.Prelude.{◌≡◌, ◌^◌, ◌*◌, ◌<◌, ◌≤◌, ◌↔◌, IsTrue, IfOk};
-ghost use Rattle.credit_shaper.specs.Port.{IsPortInput};
-ghost use Rattle.credit_shaper.specs.Pieces.{ArePieces};
+ghost use Rattle.credit_shaper.specs.{Port.IsPortInput, Pieces.ArePieces};
 ghost use Rattle.class_service.specs.Class.{IsClass, IsBusy};
 ghost use Rattle.class_service.specs.Service.{IsCreditKept};
 ghost use Rattle.class_service.specs.Window.{service_of, service_with, slope_in, waits_in};

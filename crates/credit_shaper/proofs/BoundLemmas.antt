@@ -1,25 +1,14 @@
 -- Why class A's credit stays between its bounds.
 use Rattle.std.proofs.Common.{◌≡◌, ℕ, zero, suc, ◌+◌, ◌-◌, ◌*◌, ◌<◌, ◌≤◌, ◌⊎◌, Bool, true, false, cond, List, [], ◌∷◌, Option, Some, None, refl, sym, ◌∙◌, ap, subst, arith, inl, inr}
-use Rattle.std.specs.Prelude.{All, nat_le, ◌==◌, is_some, ◌&&◌, ℤ, pos, negsuc, ◌+ℤ◌, ◌≤ℤ◌, ◌<ℤ◌, int_le}
+use Rattle.std.specs.Prelude.{All, nat_le, ◌==◌, is_some, ◌&&◌, ℤ, pos, ◌+ℤ◌, ◌≤ℤ◌, ◌<ℤ◌, int_le}
 use Rattle.std.proofs.Math.Nat.{mul-le-mul_left}
-use Rattle.std.proofs.lemmas.Bool.{cases_Bool, cases_lt, cond-true, cond-false, le-leb, lt-leb, eqb-true, ne_eqb, eq-eqb, and_parts, true≢false, false≢true}
-use Rattle.std.proofs.lemmas.Int.{ints, clamps}
-use Rattle.std.proofs.lemmas.List.Elements.{All-head, All-tail, All-cons, All-append, All-filter}
+use Rattle.std.proofs.lemmas.{Bool.cases_Bool, Bool.cases_lt, Bool.cond-true, Bool.cond-false, Bool.le-leb, Bool.lt-leb, Bool.eqb-true, Bool.ne_eqb, Bool.eq-eqb, Bool.and_parts, Bool.true≢false, Bool.false≢true, Int.ints, Int.clamps, List.Elements.All-head, List.Elements.All-tail, List.Elements.All-cons, List.Elements.All-append, List.Elements.All-filter}
+use Rattle.srp_base.proofs.Arithmetic.{at_least_zero as zero_or_more}
 use Rattle.srp_base.specs.declared.bandwidth.Rate.{Rate}
 use Rattle.srp_base.specs.Bandwidth.{bits_of}
-use Rattle.credit_shaper.specs.declared.shaper.Traffic.{Traffic}
-use Rattle.credit_shaper.specs.declared.shaper.Traffic.TheVariants.{A, B, Other}
-use Rattle.credit_shaper.specs.declared.shaper.Line.TheVariants.{Sends}
-use Rattle.credit_shaper.specs.declared.shaper.Shaper.{Shaper}
-use Rattle.credit_shaper.specs.declared.port.Arrival.{Arrival}
-use Rattle.credit_shaper.specs.declared.port.PortInput.{PortInput}
-use Rattle.credit_shaper.specs.Credit.{traffic_number, credit_after, does_send}
-use Rattle.credit_shaper.specs.Port.{IsPortInput, IsFrameSize, is_of, arrivals_at}
-use Rattle.credit_shaper.specs.Trace.{Port, head_of, turn_of, does_wait, without_head, starts, with_start, with_arrivals, within_bit, port_at, port_in}
-use Rattle.credit_shaper.specs.Bounds.{slope_a_at, lo_credit, hi_credit, IsStretch, IsCreditAWithin}
-use Rattle.credit_shaper.proofs.CreditLemmas.{below_zero}
-use Rattle.credit_shaper.proofs.QueueLemmas.{traffic_of}
-use Rattle.credit_shaper.proofs.PortLemmas.{shaper-port_in, rate_is, slope_a_below}
+use Rattle.credit_shaper.specs.{Traffic, A, B, Other, Sends, Shaper, Arrival, PortInput, traffic_number, credit_after, does_send, IsPortInput, IsFrameSize, is_of, arrivals_at, head_of, turn_of, does_wait, without_head, starts, with_start, with_arrivals, within_bit, port_at, port_in, slope_a_at, lo_credit, hi_credit, IsStretch, IsCreditAWithin}
+use Rattle.credit_shaper.specs.Trace.{Port}
+use Rattle.credit_shaper.proofs.{CreditLemmas.below_zero, QueueLemmas.traffic_of, PortLemmas.shaper-port_in, PortLemmas.rate_is, PortLemmas.slope_a_below}
 
 -- the credit as a bit time begins, by how many bits of the frame on the line are left, of class A or not
 record Begins (gap most rem : ℕ) (sends : Bool) (c : ℤ) : Type 0 where
@@ -82,10 +71,6 @@ turn_cases s w =
             ],
           )
     ]
-
-zero_or_more : (c : ℤ) → int_le (pos 0) c ≡ true → pos 0 ≤ℤ c
-zero_or_more (pos n) e = omega (arith, ints)
-zero_or_more (negsuc n) e = absurd (false≢true e)
 
 -- the first frame of a queue is of its traffic
 pub head_traffic : (traffic : Traffic) (w : List Arrival) (x : Arrival) → head_of traffic w ≡ Some x → x.traffic ≡ traffic

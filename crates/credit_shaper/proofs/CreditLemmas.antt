@@ -1,15 +1,11 @@
 -- What a class's credit is after some bit times.
 use Rattle.std.proofs.Common.{◌≡◌, ℕ, zero, suc, ◌+◌, ◌*◌, ◌<◌, ◌≤◌, Bool, true, false, refl, sym, ◌∙◌, arith}
 use Rattle.std.specs.Prelude.{ℤ, pos, ◌+ℤ◌, ◌-ℤ◌, ◌<ℤ◌, negsuc, unsigned_abs, int_le}
-use Rattle.std.proofs.lemmas.Bool.{true≢false, le-leb}
+use Rattle.std.proofs.lemmas.{Bool.true≢false, Bool.le-leb, Int.ints, Int.clamps}
 use Rattle.std.proofs.Math.Nat.{mul-le-mul_right}
 use Rattle.std.specs.Int.{int_min}
-use Rattle.std.proofs.lemmas.Int.{ints, clamps}
 use Rattle.srp_base.specs.Bandwidth.{bits_of}
-use Rattle.credit_shaper.specs.declared.shaper.Traffic.TheVariants.{A, B}
-use Rattle.credit_shaper.specs.declared.shaper.Line.{Line}
-use Rattle.credit_shaper.specs.declared.shaper.Shaper.{Shaper}
-use Rattle.credit_shaper.specs.Credit.{does_send, credit_after_bits, after_bits}
+use Rattle.credit_shaper.specs.{A, B, Line, Shaper, does_send, credit_after_bits, after_bits}
 
 pub credit-sends : (n rate slope : ℕ) (waits : Bool) (c : ℤ)
     → credit_after_bits n rate slope true waits c ≡ c +ℤ pos (n * slope) -ℤ pos (n * rate)

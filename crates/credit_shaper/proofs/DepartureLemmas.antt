@@ -2,26 +2,11 @@
 use Rattle.std.proofs.Common.{◌≡◌, ℕ, zero, suc, ◌+◌, ◌-◌, ◌<◌, ◌≤◌, Bool, true, false, cond, List, [], ◌∷◌, ◌++◌, get_or, Option, Some, None, refl, sym, ◌∙◌, ap, subst, arith, inl, inr, append-nil, append_assoc}
 use Rattle.std.specs.Prelude.{All, AllPairs, nat_le, nat_lt, ◌==◌, filter, ◌&&◌, ◌||◌}
 use Rattle.std.specs.List.{list_any}
-use Rattle.std.proofs.lemmas.Bool.{cases_Bool, cases_lt, cases_eq, cases_order, cond-true, cond-false, le-leb, lt-leb, lt-ltb, le-ltb, eqb-true, ne_eqb, eq-eqb, and_left, and_right}
-use Rattle.std.proofs.lemmas.List.Folds.{list_any-append}
-use Rattle.std.proofs.lemmas.List.Elements.{All-head, All-tail, All-append, All-push, filter-append, filter_passes}
-use Rattle.std.proofs.lemmas.List.Kept.{AllPairs-cons, AllPairs-filter}
-use Rattle.std.proofs.lemmas.List.Quantifiers.{all_pairs_push}
-use Rattle.credit_shaper.specs.declared.shaper.Traffic.{Traffic}
-use Rattle.credit_shaper.specs.declared.shaper.Line.TheVariants.{Free, Sends}
-use Rattle.credit_shaper.specs.declared.port.SlopeChange.{SlopeChange}
-use Rattle.credit_shaper.specs.declared.port.Arrival.{Arrival}
-use Rattle.credit_shaper.specs.declared.port.PortInput.{PortInput}
-use Rattle.credit_shaper.specs.declared.port.Departure.{Departure}
-use Rattle.credit_shaper.specs.Credit.{traffic_number, does_send}
-use Rattle.credit_shaper.specs.Port.{IsPortInput, IsNotAfter, IsFrameSize, is_of, slopes_at, arrivals_at}
-use Rattle.credit_shaper.specs.Trace.{Port, head_of, turn_of, without_head, departure_at, starts, sends_frame, with_start, with_arrivals, with_credits, port_at, port_in}
-use Rattle.credit_shaper.specs.Bounds.{is_on_line}
-use Rattle.credit_shaper.specs.Departures.{sent_of, left_of, departs_as, IsDepartureOf, DepartInOrder, is_sending, AgreeBefore, arrivals_before, started_before}
-use Rattle.credit_shaper.proofs.PairLemmas.{pairs-head, pairs-tail, pairs-append}
-use Rattle.credit_shaper.proofs.MomentLemmas.{not_after, filter_nothing}
-use Rattle.credit_shaper.proofs.QueueLemmas.{same_traffic}
-use Rattle.credit_shaper.proofs.BoundLemmas.{head_traffic, head_within, All-without_head, with_arrivals_sizes, sizes_at}
+use Rattle.std.proofs.lemmas.{Bool.cases_Bool, Bool.cases_lt, Bool.cases_eq, Bool.cases_order, Bool.cond-true, Bool.cond-false, Bool.le-leb, Bool.lt-leb, Bool.lt-ltb, Bool.le-ltb, Bool.eqb-true, Bool.ne_eqb, Bool.eq-eqb, Bool.and_left, Bool.and_right, List.Folds.list_any-append, List.Elements.All-head, List.Elements.All-tail, List.Elements.All-append, List.Elements.All-push, List.Elements.filter-append, List.Elements.filter_passes, List.Kept.AllPairs-cons, List.Kept.AllPairs-filter, List.Quantifiers.all_pairs_push}
+use Rattle.srp_base.proofs.Bools.{or_no as or-false}
+use Rattle.credit_shaper.specs.{Traffic, Free, Sends, SlopeChange, Arrival, PortInput, Departure, traffic_number, does_send, IsPortInput, IsNotAfter, IsFrameSize, is_of, slopes_at, arrivals_at, head_of, turn_of, without_head, departure_at, starts, sends_frame, with_start, with_arrivals, with_credits, port_at, port_in, is_on_line, sent_of, left_of, departs_as, IsDepartureOf, DepartInOrder, is_sending, AgreeBefore, arrivals_before, started_before}
+use Rattle.credit_shaper.specs.Trace.{Port}
+use Rattle.credit_shaper.proofs.{PairLemmas.pairs-head, PairLemmas.pairs-tail, PairLemmas.pairs-append, MomentLemmas.not_after, MomentLemmas.filter_nothing, QueueLemmas.same_traffic, BoundLemmas.head_traffic, BoundLemmas.head_within, BoundLemmas.All-without_head, BoundLemmas.with_arrivals_sizes, BoundLemmas.sizes_at}
 
 -- ---- nothing depends on what comes later
 
@@ -187,10 +172,6 @@ same_departures one other t agree l h =
 -- from a bit time on, a departure of a traffic has the line exactly where the line says so
 abbrev IsCarried : ℕ → Port → Type 0
 IsCarried t p = (traffic : Traffic) (u : ℕ) → t ≤ u → list_any (is_sending traffic u) p.sent ≡ (does_send traffic p.line && nat_lt u p.free_from)
-
-or-false : (b : Bool) → (b || false) ≡ b
-or-false true = refl
-or-false false = refl
 
 any-push : {X : Type 0} (p : X → Bool) (xs : List X) (y : X) → list_any p (xs ++ y ∷ []) ≡ (list_any p xs || p y)
 any-push p xs y = list_any-append p xs (y ∷ []) ∙ ap (λ b. list_any p xs || b) (or-false (p y))

@@ -2,14 +2,8 @@
 use Rattle.std.proofs.Common.{◌≡◌, ℕ, zero, suc, ◌+◌, ◌<◌, ◌≤◌, List, [], ◌∷◌, length, get_or, take, refl, ap, subst, arith, inl, inr, Bool, true, false, ◌++◌}
 use Rattle.std.specs.Prelude.{All, AllPairs, filter, nat_le, ◌==◌}
 use Rattle.std.specs.List.{AllWithin, AllAdjacentBelow}
-use Rattle.std.proofs.lemmas.Bool.{cases_lt, cases_eq, ne_eqb, eq-eqb, lt-leb, le-leb}
-use Rattle.std.proofs.lemmas.List.{get_or_default}
-use Rattle.std.proofs.lemmas.List.Elements.{All-head, All-tail}
-use Rattle.credit_shaper.specs.declared.port.SlopeChange.{SlopeChange}
-use Rattle.credit_shaper.specs.declared.port.Arrival.{Arrival}
-use Rattle.credit_shaper.specs.declared.shaper.Traffic.TheVariants.{A}
-use Rattle.credit_shaper.specs.Port.{IsNotAfter, no_slopes, last_change, arrivals_at}
-use Rattle.credit_shaper.specs.Walk.{IsReached, arrival_bit, change_bit, newest}
+use Rattle.std.proofs.lemmas.{Bool.cases_lt, Bool.cases_eq, Bool.ne_eqb, Bool.eq-eqb, Bool.lt-leb, Bool.le-leb, List.get_or_default, List.Elements.All-head, List.Elements.All-tail}
+use Rattle.credit_shaper.specs.{SlopeChange, Arrival, A, IsNotAfter, no_slopes, last_change, arrivals_at, IsReached, arrival_bit, change_bit, newest}
 use Rattle.credit_shaper.proofs.PairLemmas.{pairs-from-adjacent}
 
 -- no element is before an earlier one

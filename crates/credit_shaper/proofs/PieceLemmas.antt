@@ -2,20 +2,9 @@
 use Rattle.std.proofs.Common.{◌≡◌, ℕ, zero, suc, ◌+◌, ◌-◌, ◌<◌, Bool, List, [], ◌∷◌, ◌++◌, sym, ◌∙◌, ap, subst, arith}
 use Rattle.srp_base.specs.declared.bandwidth.Rate.{Rate}
 use Rattle.srp_base.specs.Bandwidth.{bits_of}
-use Rattle.credit_shaper.specs.declared.shaper.Traffic.TheVariants.{A, B}
-use Rattle.credit_shaper.specs.declared.shaper.Shaper.{Shaper}
-use Rattle.credit_shaper.specs.declared.port.PortInput.{PortInput}
-use Rattle.credit_shaper.specs.declared.port.Departure.{Departure}
-use Rattle.credit_shaper.specs.declared.trace.PortTrace.{PortTrace}
-use Rattle.credit_shaper.specs.declared.piece.Piece.{Piece}
-use Rattle.credit_shaper.specs.Credit.{does_send, credit_after_bits, IsInRange}
-use Rattle.credit_shaper.specs.Port.{IsPortInput}
-use Rattle.credit_shaper.specs.Trace.{Port, does_wait, port_at, port_in, within_bit}
-use Rattle.credit_shaper.specs.Pieces.{IsAlike, IsPiece, ArePieces}
-use Rattle.credit_shaper.specs.Walk.{AreHeads, HasReached, IsQuiet, port_of, has_frame, piece_of}
-use Rattle.credit_shaper.proofs.CreditLemmas.{after_bits_is}
-use Rattle.credit_shaper.proofs.PortLemmas.{shaper-port_in, rate_is, in_range}
-use Rattle.credit_shaper.proofs.QuietLemmas.{jumped, jumped_none, stretch, quiet_bit, waits}
+use Rattle.credit_shaper.specs.{A, B, Shaper, PortInput, Departure, PortTrace, Piece, does_send, credit_after_bits, IsInRange, IsPortInput, does_wait, port_at, port_in, within_bit, IsAlike, IsPiece, ArePieces, AreHeads, HasReached, IsQuiet, port_of, has_frame, piece_of}
+use Rattle.credit_shaper.specs.Trace.{Port}
+use Rattle.credit_shaper.proofs.{CreditLemmas.after_bits_is, PortLemmas.shaper-port_in, PortLemmas.rate_is, PortLemmas.in_range, QuietLemmas.jumped, QuietLemmas.jumped_none, QuietLemmas.stretch, QuietLemmas.quiet_bit, QuietLemmas.waits}
 
 -- the port in each bit time up to the next moment
 port_after : (input : PortInput) (sent : List Departure) (trace : PortTrace) (next n : ℕ)

@@ -2,18 +2,12 @@
 use Rattle.std.proofs.Common.{◌≡◌, ℕ, zero, suc, ◌+◌, ◌*◌, ◌^◌, ◌<◌, ◌≤◌, Bool, true, false, cond, List, [], ◌∷◌, Some, None, refl, sym, ◌∙◌, ap, subst, arith}
 use Rattle.std.specs.Prelude.{All, nat_le, ℤ}
 use Rattle.std.proofs.Math.Nat.{mul-le-mul}
-use Rattle.std.proofs.lemmas.Int.{ints, clamps}
-use Rattle.std.proofs.lemmas.List.Elements.{All-head, All-tail}
+use Rattle.std.proofs.lemmas.{Int.ints, Int.clamps, List.Elements.All-head, List.Elements.All-tail}
 use Rattle.srp_base.specs.declared.bandwidth.Rate.{Rate}
 use Rattle.srp_base.specs.declared.bandwidth.Rate.TheVariants.{M100, G1, G10}
 use Rattle.srp_base.specs.Bandwidth.{bits_of}
-use Rattle.credit_shaper.specs.declared.shaper.Traffic.TheVariants.{A, B}
-use Rattle.credit_shaper.specs.declared.shaper.Shaper.{Shaper}
-use Rattle.credit_shaper.specs.declared.port.SlopeChange.{SlopeChange}
-use Rattle.credit_shaper.specs.declared.port.PortInput.{PortInput}
-use Rattle.credit_shaper.specs.Credit.{credit_after, does_send, IsWithin, IsInRange}
-use Rattle.credit_shaper.specs.Port.{IsPortInput, last_change, no_slopes, slopes_at}
-use Rattle.credit_shaper.specs.Trace.{Port, head_of, turn_of, does_wait, starts, with_start, with_arrivals, port_at, port_in}
+use Rattle.credit_shaper.specs.{A, B, Shaper, SlopeChange, PortInput, credit_after, does_send, IsWithin, IsInRange, IsPortInput, last_change, no_slopes, slopes_at, head_of, turn_of, does_wait, starts, with_start, with_arrivals, port_at, port_in}
+use Rattle.credit_shaper.specs.Trace.{Port}
 
 -- a fact of every change holds of the slopes in force
 pub last_change_all : (P : SlopeChange → Type 0) (t : ℕ) (current : SlopeChange) (xs : List SlopeChange) → P current → All P xs

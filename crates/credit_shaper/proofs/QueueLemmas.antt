@@ -2,16 +2,8 @@
 use Rattle.std.proofs.Common.{◌≡◌, ℕ, zero, suc, ◌+◌, ◌<◌, ◌≤◌, ◌⊎◌, true, false, cond, List, [], ◌∷◌, ◌++◌, length, get_or, take, Some, None, refl, sym, ◌∙◌, ap, subst, arith, inl, inr, add-zero}
 use Rattle.std.specs.Prelude.{nat_le, nat_lt, is_some}
 use Rattle.std.specs.List.{AllWithin}
-use Rattle.std.proofs.lemmas.Bool.{cond-true, le-leb, lt-leb, lt-ltb, le-ltb, eqb-true, ne_eqb, eq-eqb, false≢true, cases_lt, cases_Bool, cases_eq}
-use Rattle.std.proofs.lemmas.List.{length-take-le, get_or-take}
-use Rattle.credit_shaper.specs.declared.shaper.Traffic.{Traffic}
-use Rattle.credit_shaper.specs.declared.shaper.Traffic.TheVariants.{A, B, Other}
-use Rattle.credit_shaper.specs.declared.port.Arrival.{Arrival}
-use Rattle.credit_shaper.specs.declared.queues.Heads.{Heads}
-use Rattle.credit_shaper.specs.Credit.{traffic_number}
-use Rattle.credit_shaper.specs.Port.{is_of}
-use Rattle.credit_shaper.specs.Trace.{head_of, does_wait, without_head}
-use Rattle.credit_shaper.specs.Walk.{head_index, with_head_index, pending, AreWithin, AreHeads}
+use Rattle.std.proofs.lemmas.{Bool.cond-true, Bool.le-leb, Bool.lt-leb, Bool.lt-ltb, Bool.le-ltb, Bool.eqb-true, Bool.ne_eqb, Bool.eq-eqb, Bool.false≢true, Bool.cases_lt, Bool.cases_Bool, Bool.cases_eq, List.length-take-le, List.get_or-take}
+use Rattle.credit_shaper.specs.{Traffic, A, B, Other, Arrival, Heads, traffic_number, is_of, head_of, does_wait, without_head, head_index, with_head_index, pending, AreWithin, AreHeads}
 use Rattle.credit_shaper.proofs.MomentLemmas.{blank}
 
 -- traffics with one number are one

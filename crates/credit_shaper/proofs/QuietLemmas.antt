@@ -1,25 +1,12 @@
 -- Bit times in which nothing happens but the credits' steps are one jump.
 use Rattle.std.proofs.Common.{◌≡◌, ℕ, zero, suc, ◌+◌, ◌-◌, ◌*◌, ◌<◌, ◌≤◌, Bool, true, false, cond, List, [], length, Some, None, refl, sym, ◌∙◌, ap, arith, inl, inr, append-nil}
-use Rattle.std.specs.Prelude.{nat_le, is_some, ◌&&◌, ℤ, pos, negsuc, ◌+ℤ◌, ◌<ℤ◌, int_le}
-use Rattle.std.proofs.lemmas.Bool.{cond-false, lt-leb}
-use Rattle.std.proofs.lemmas.Int.{ints}
+use Rattle.std.specs.Prelude.{nat_le, is_some, ◌&&◌, ℤ, pos, ◌+ℤ◌, ◌<ℤ◌, int_le}
+use Rattle.std.proofs.lemmas.{Bool.cond-false, Bool.lt-leb}
+use Rattle.srp_base.proofs.Arithmetic.{not_zero}
 use Rattle.srp_base.specs.Bandwidth.{bits_of}
-use Rattle.credit_shaper.specs.declared.shaper.Traffic.{Traffic}
-use Rattle.credit_shaper.specs.declared.shaper.Traffic.TheVariants.{A, B, Other}
-use Rattle.credit_shaper.specs.declared.shaper.Line.{Line}
-use Rattle.credit_shaper.specs.declared.shaper.Line.TheVariants.{Free}
-use Rattle.credit_shaper.specs.declared.shaper.Shaper.{Shaper}
-use Rattle.credit_shaper.specs.declared.port.Arrival.{Arrival}
-use Rattle.credit_shaper.specs.declared.port.PortInput.{PortInput}
-use Rattle.credit_shaper.specs.declared.port.Departure.{Departure}
-use Rattle.credit_shaper.specs.declared.trace.PortTrace.{PortTrace}
-use Rattle.credit_shaper.specs.Credit.{credit_after_bits, after_bits}
-use Rattle.credit_shaper.specs.Port.{slopes_at, arrivals_at}
-use Rattle.credit_shaper.specs.Trace.{Port, head_of, turn_of, does_wait, starts, with_start, with_arrivals, with_credits, within_bit, port_at, port_in}
-use Rattle.credit_shaper.specs.Walk.{AreHeads, HasReached, IsQuiet, IsIdle, IsShort, waiting_of, port_of, has_frame, moved_to}
-use Rattle.credit_shaper.proofs.CreditLemmas.{after_bits_is, credit-waits}
-use Rattle.credit_shaper.proofs.MomentLemmas.{arrivals_none, slopes_reached}
-use Rattle.credit_shaper.proofs.QueueLemmas.{waits_is}
+use Rattle.credit_shaper.specs.{Traffic, A, B, Other, Line, Free, Shaper, Arrival, PortInput, Departure, PortTrace, credit_after_bits, after_bits, slopes_at, arrivals_at, head_of, turn_of, does_wait, starts, with_start, with_arrivals, with_credits, within_bit, port_at, port_in, AreHeads, HasReached, IsQuiet, IsIdle, IsShort, waiting_of, port_of, has_frame, moved_to}
+use Rattle.credit_shaper.specs.Trace.{Port}
+use Rattle.credit_shaper.proofs.{CreditLemmas.after_bits_is, CreditLemmas.credit-waits, MomentLemmas.arrivals_none, MomentLemmas.slopes_reached, QueueLemmas.waits_is}
 
 -- a port after some of the credits' steps
 abbrev pub jumped : ℕ → Port → Port
@@ -69,10 +56,6 @@ stretch input t (suc n) p here quiet =
     ∙ (port_at_next input (t + suc n)
     ∙ (ap (λ q. with_credits (within_bit input (t + suc n) q)) before
     ∙ (ap with_credits (quiet (suc n) (omega arith) (omega arith)) ∙ jumped_more (suc n) p)))
-
-not_zero : (c : ℤ) → c <ℤ pos 0 → int_le (pos 0) c ≡ false
-not_zero (pos n) below = absurd (omega (arith, ints, below))
-not_zero (negsuc n) below = refl
 
 no_turn_for : (waits : Bool) (rate slope n : ℕ) (c : ℤ) → IsShort waits c slope n
     → (waits && int_le (pos 0) (credit_after_bits n rate slope false waits c)) ≡ false

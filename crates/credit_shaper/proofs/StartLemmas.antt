@@ -1,21 +1,10 @@
 -- What starts in a bit time, and that what rests goes on resting.
 use Rattle.std.proofs.Common.{◌≡◌, ℕ, ◌≤◌, Bool, true, false, cond, List, length, get_or, Some, None, refl, sym, ◌∙◌, ap, subst, arith, inl, inr}
 use Rattle.std.specs.Prelude.{nat_le, is_some, ◌&&◌, ℤ, pos, ◌<ℤ◌, int_le, if◌then◌else◌}
-use Rattle.std.proofs.lemmas.Bool.{cases_Bool, and_cases, and_parts, cond-true, cond-false, le-leb, true≢false}
-use Rattle.std.proofs.lemmas.Int.{ints}
-use Rattle.credit_shaper.specs.declared.shaper.Traffic.TheVariants.{A, B, Other}
-use Rattle.credit_shaper.specs.declared.shaper.Line.TheVariants.{Free}
-use Rattle.credit_shaper.specs.declared.port.Arrival.{Arrival}
-use Rattle.credit_shaper.specs.declared.port.PortInput.{PortInput}
-use Rattle.credit_shaper.specs.declared.port.Departure.{Departure}
-use Rattle.credit_shaper.specs.declared.trace.PortTrace.{PortTrace}
-use Rattle.credit_shaper.specs.Port.{IsPortInput}
-use Rattle.credit_shaper.specs.Trace.{Port, head_of, turn_of, starts, with_start}
-use Rattle.credit_shaper.specs.Walk.{frame_of, head_index, AreHeads, IsFirst, IsIdle, IsShort, port_of, turn_in, has_frame}
-use Rattle.credit_shaper.proofs.CreditLemmas.{below_zero}
-use Rattle.credit_shaper.proofs.MomentLemmas.{blank}
-use Rattle.credit_shaper.proofs.QueueLemmas.{waits_is}
-use Rattle.credit_shaper.proofs.TraceLemmas.{free_line}
+use Rattle.std.proofs.lemmas.{Bool.cases_Bool, Bool.and_cases, Bool.and_parts, Bool.cond-true, Bool.cond-false, Bool.le-leb, Bool.true≢false, Int.ints}
+use Rattle.credit_shaper.specs.{A, B, Other, Free, Arrival, PortInput, Departure, PortTrace, IsPortInput, head_of, turn_of, starts, with_start, frame_of, head_index, AreHeads, IsFirst, IsIdle, IsShort, port_of, turn_in, has_frame}
+use Rattle.credit_shaper.specs.Trace.{Port}
+use Rattle.credit_shaper.proofs.{CreditLemmas.below_zero, MomentLemmas.blank, QueueLemmas.waits_is, TraceLemmas.free_line}
 
 -- a start by the frame that starts
 pub start_found : (t : ℕ) (p : Port) (x : Arrival)

@@ -1,30 +1,14 @@
 -- What goes on in one bit time.
 use Rattle.std.proofs.Common.{◌≡◌, ℕ, zero, suc, ◌+◌, ◌-◌, ◌<◌, ◌≤◌, ◌⊎◌, Bool, true, false, cond, List, [], ◌∷◌, ◌++◌, Option, Some, None, refl, sym, ◌∙◌, ap, subst, arith, inl, inr}
-use Rattle.std.specs.Prelude.{All, nat_le, is_some, ◌&&◌, ℤ, pos, negsuc, ◌≤ℤ◌, ◌<ℤ◌, int_le}
-use Rattle.std.proofs.lemmas.Bool.{cases_Bool, cases_lt, cases_eq, and_cases, and_parts, cond-true, cond-false, le-leb, lt-leb, true≢false, false≢true}
-use Rattle.std.proofs.lemmas.Int.{ints}
+use Rattle.std.specs.Prelude.{All, nat_le, is_some, ◌&&◌, ℤ, pos, ◌≤ℤ◌, ◌<ℤ◌, int_le}
+use Rattle.std.proofs.lemmas.{Bool.cases_Bool, Bool.cases_lt, Bool.cases_eq, Bool.and_cases, Bool.and_parts, Bool.cond-true, Bool.cond-false, Bool.le-leb, Bool.lt-leb, Bool.true≢false, Bool.false≢true, Int.ints, List.Elements.Contains-append_left, List.Elements.Contains-push}
 use Rattle.std.specs.List.{Contains}
-use Rattle.std.proofs.lemmas.List.Elements.{Contains-append_left, Contains-push}
+use Rattle.srp_base.proofs.Arithmetic.{at_least_zero}
 use Rattle.srp_base.specs.declared.bandwidth.Rate.{Rate}
 use Rattle.srp_base.specs.Bandwidth.{bits_of}
-use Rattle.credit_shaper.specs.declared.shaper.Traffic.{Traffic}
-use Rattle.credit_shaper.specs.declared.shaper.Traffic.TheVariants.{A, B, Other}
-use Rattle.credit_shaper.specs.declared.shaper.Line.TheVariants.{Sends}
-use Rattle.credit_shaper.specs.declared.shaper.Shaper.{Shaper}
-use Rattle.credit_shaper.specs.declared.port.Arrival.{Arrival}
-use Rattle.credit_shaper.specs.declared.port.PortInput.{PortInput}
-use Rattle.credit_shaper.specs.declared.port.Departure.{Departure}
-use Rattle.credit_shaper.specs.Credit.{credit_after, does_send, traffic_number}
-use Rattle.credit_shaper.specs.Port.{IsPortInput, IsFrameSize, is_of, arrivals_at, no_slopes}
-use Rattle.credit_shaper.specs.Trace.{Port, head_of, turn_of, does_wait, departure_at, starts, with_arrivals, port_at, port_in}
-use Rattle.credit_shaper.specs.Bounds.{credit_a_at, credit_b_at, slope_a_at, slope_b_at, is_on_line, KeepCaps, AreSlopesWithin}
-use Rattle.credit_shaper.specs.Steps.{head_at, is_waiting, was_on_line, bits_left, bits_ahead, GoesOn, Starts, Rests, IsOneOfThree, WaitsWithCreditA}
-use Rattle.credit_shaper.specs.Departures.{sent_of, DepartsAt}
-use Rattle.credit_shaper.proofs.BoundLemmas.{HasSizes, head_traffic, head_of-other, head_within, sizes_at, with_arrivals_sizes}
-use Rattle.credit_shaper.proofs.CreditLemmas.{below_zero}
-use Rattle.credit_shaper.proofs.PortLemmas.{shaper-port_in, rate_is, last_change_all}
-use Rattle.credit_shaper.proofs.QueueLemmas.{same_traffic}
-use Rattle.credit_shaper.proofs.DepartureLemmas.{Goes, goes_by}
+use Rattle.credit_shaper.specs.{Traffic, A, B, Other, Sends, Shaper, Arrival, PortInput, Departure, credit_after, does_send, traffic_number, IsPortInput, IsFrameSize, is_of, arrivals_at, no_slopes, head_of, turn_of, does_wait, departure_at, starts, with_arrivals, port_at, port_in, credit_a_at, credit_b_at, slope_a_at, slope_b_at, is_on_line, KeepCaps, AreSlopesWithin, head_at, is_waiting, was_on_line, bits_left, bits_ahead, GoesOn, Starts, Rests, IsOneOfThree, WaitsWithCreditA, sent_of, DepartsAt}
+use Rattle.credit_shaper.specs.Trace.{Port}
+use Rattle.credit_shaper.proofs.{BoundLemmas.HasSizes, BoundLemmas.head_traffic, BoundLemmas.head_of-other, BoundLemmas.head_within, BoundLemmas.sizes_at, BoundLemmas.with_arrivals_sizes, CreditLemmas.below_zero, PortLemmas.shaper-port_in, PortLemmas.rate_is, PortLemmas.last_change_all, QueueLemmas.same_traffic, DepartureLemmas.Goes, DepartureLemmas.goes_by}
 
 -- ---- the credits
 
@@ -75,10 +59,6 @@ record IsTurnOf (s : Shaper) (w : List Arrival) : Type 0 where
   of_a : turn_of s w ≡ A → (does_wait A w ≡ true) × (pos 0 ≤ℤ s.credit_a)
   of_b : turn_of s w ≡ B → (does_wait B w ≡ true) × (pos 0 ≤ℤ s.credit_b) × (does_wait A w ≡ true → s.credit_a <ℤ pos 0)
   of_other : turn_of s w ≡ Other → (does_wait A w ≡ true → s.credit_a <ℤ pos 0) × (does_wait B w ≡ true → s.credit_b <ℤ pos 0)
-
-at_least_zero : (c : ℤ) → int_le (pos 0) c ≡ true → pos 0 ≤ℤ c
-at_least_zero (pos n) e = omega (arith, ints)
-at_least_zero (negsuc n) e = absurd (false≢true e)
 
 short_if : (waits : Bool) (c : ℤ) → (waits && int_le (pos 0) c) ≡ false → waits ≡ true → c <ℤ pos 0
 short_if waits c e w =

@@ -2,21 +2,9 @@
 use Rattle.std.proofs.Common.{◌≡◌, ℕ, ◌+◌, ◌<◌, ◌≤◌, List, ◌++◌, length, get_or, take, Some, None, refl, sym, ◌∙◌, ap, subst, arith, inl, inr, map}
 use Rattle.std.specs.Prelude.{nat_le}
 use Rattle.std.specs.List.{AllWithin}
-use Rattle.std.proofs.lemmas.List.{length-take-le, take_all}
-use Rattle.std.proofs.lemmas.Bool.{cond-true, le-leb, cases_lt}
-use Rattle.credit_shaper.specs.declared.shaper.Traffic.TheVariants.{A, B}
-use Rattle.credit_shaper.specs.declared.port.Arrival.{Arrival}
-use Rattle.credit_shaper.specs.declared.trace.PortTrace.{PortTrace}
-use Rattle.credit_shaper.specs.declared.port.SlopeChange.{SlopeChange}
-use Rattle.credit_shaper.specs.declared.port.PortInput.{PortInput}
-use Rattle.credit_shaper.specs.declared.port.Departure.{Departure}
-use Rattle.credit_shaper.specs.declared.queues.Heads.{Heads}
-use Rattle.credit_shaper.specs.Port.{IsPortInput, no_slopes, slopes_at, arrivals_at}
-use Rattle.credit_shaper.specs.Trace.{head_of, turn_of, does_wait, with_arrivals, fresh_port, port_at, departures_of}
-use Rattle.credit_shaper.specs.Walk.{head_index, pending, AreHeads, HasReached, IsReached, IsQuiet, arrival_bit, change_bit, newest, waiting_of, port_of, turn_in, frame_of, has_frame, moved_to}
-use Rattle.credit_shaper.proofs.CreditLemmas.{after_bits_is}
-use Rattle.credit_shaper.proofs.MomentLemmas.{blank, arrivals_join, slopes_reached}
-use Rattle.credit_shaper.proofs.QueueLemmas.{frame_at, frame_none, waits_is, pending-join}
+use Rattle.std.proofs.lemmas.{List.length-take-le, List.take_all, Bool.cond-true, Bool.le-leb, Bool.cases_lt}
+use Rattle.credit_shaper.specs.{A, B, Arrival, PortTrace, SlopeChange, PortInput, Departure, Heads, IsPortInput, no_slopes, slopes_at, arrivals_at, head_of, turn_of, does_wait, with_arrivals, fresh_port, port_at, departures_of, head_index, pending, AreHeads, HasReached, IsReached, IsQuiet, arrival_bit, change_bit, newest, waiting_of, port_of, turn_in, frame_of, has_frame, moved_to}
+use Rattle.credit_shaper.proofs.{CreditLemmas.after_bits_is, MomentLemmas.blank, MomentLemmas.arrivals_join, MomentLemmas.slopes_reached, QueueLemmas.frame_at, QueueLemmas.frame_none, QueueLemmas.waits_is, QueueLemmas.pending-join}
 
 -- whose turn it is, by the indices
 pub turn_is : (arrivals : List Arrival) (trace : PortTrace) → AreHeads arrivals trace.came trace.heads

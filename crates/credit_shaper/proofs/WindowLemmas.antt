@@ -2,20 +2,13 @@
 use Rattle.std.proofs.Common.{◌≡◌, ℕ, zero, suc, ◌+◌, ◌-◌, ◌*◌, ◌<◌, ◌≤◌, Bool, true, false, cond, List, [], ◌∷◌, refl, sym, ◌∙◌, ap, subst, arith}
 use Rattle.std.specs.Prelude.{All, count_by, sum_by, ℤ, pos, ◌+ℤ◌, ◌-ℤ◌, ◌≤ℤ◌}
 use Rattle.std.specs.List.{range_with_len}
-use Rattle.std.proofs.lemmas.Int.{ints, clamps}
-use Rattle.std.proofs.lemmas.List.Sums.{sum_by-cons}
+use Rattle.std.proofs.lemmas.{Int.ints, Int.clamps, List.Sums.sum_by-cons}
+use Rattle.srp_base.proofs.Arithmetic.{mul_add, spent_sum}
 use Rattle.srp_base.specs.declared.bandwidth.Rate.{Rate}
 use Rattle.srp_base.specs.Bandwidth.{bits_of}
-use Rattle.credit_shaper.specs.declared.shaper.Traffic.TheVariants.{A}
-use Rattle.credit_shaper.specs.declared.shaper.Shaper.{Shaper}
-use Rattle.credit_shaper.specs.declared.port.SlopeChange.{SlopeChange}
-use Rattle.credit_shaper.specs.declared.port.PortInput.{PortInput}
-use Rattle.credit_shaper.specs.Credit.{credit_after, does_send}
-use Rattle.credit_shaper.specs.Port.{IsPortInput, no_slopes}
-use Rattle.credit_shaper.specs.Trace.{Port, does_wait, port_at, port_in}
-use Rattle.credit_shaper.specs.Bounds.{credit_a_at, slope_a_at, is_on_line, greatest_slope_a, hi_credit, lo_credit, IsStretch, IsCreditAWithin, bits_a, area_a, IsWindowAWithin, DoesWaitA, IsWaitAWithin}
-use Rattle.credit_shaper.proofs.PortLemmas.{shaper-port_in, rate_is, last_change_all}
-use Rattle.credit_shaper.proofs.BoundLemmas.{credit_within}
+use Rattle.credit_shaper.specs.{A, Shaper, SlopeChange, PortInput, credit_after, does_send, IsPortInput, no_slopes, does_wait, port_at, port_in, credit_a_at, slope_a_at, is_on_line, greatest_slope_a, hi_credit, lo_credit, IsStretch, IsCreditAWithin, bits_a, area_a, IsWindowAWithin, DoesWaitA, IsWaitAWithin}
+use Rattle.credit_shaper.specs.Trace.{Port}
+use Rattle.credit_shaper.proofs.{PortLemmas.shaper-port_in, PortLemmas.rate_is, PortLemmas.last_change_all, BoundLemmas.credit_within}
 
 -- a bit time raises a credit by no more than the slope, less the rate where the class sends
 spent_by : (rate slope : ℕ) (sends waits : Bool) (c : ℤ)
@@ -37,14 +30,6 @@ spent input t =
     +ℤ pos (bits_of input.rate * cond (does_send A q.line) 1 0)) ≤ℤ (credit_a_at input t +ℤ pos (slope_a_at input t)))
     (sym (rate_is input t))
     (spent_by (bits_of input.rate) (slope_a_at input t) (does_send A q.line) (does_wait A q.waiting) (credit_a_at input t)))
-
-mul_add : (k m n : ℕ) → k * (m + n) ≡ k * m + k * n
-mul_add k m n = omega arith
-
--- two parts of a window
-spent_sum : (x y z : ℤ) (p q r a b s : ℕ) → (y +ℤ pos p) ≤ℤ (x +ℤ pos a) → (z +ℤ pos q) ≤ℤ (y +ℤ pos b)
-    → r ≡ p + q → s ≡ a + b → (z +ℤ pos r) ≤ℤ (x +ℤ pos s)
-spent_sum x y z p q r a b s first rest e f = omega (arith, ints, first, rest, e, f)
 
 risen_sum : (w x y z : ℤ) (a b s : ℕ) → x ≡ w +ℤ pos a → y ≡ x +ℤ pos b → z ≡ y → s ≡ a + b → z ≡ w +ℤ pos s
 risen_sum w x y z a b s first rest last e = omega (arith, ints, first, rest, last, e)

@@ -3,13 +3,8 @@
 use Rattle.std.specs.Prelude.{◌≡◌, ℕ, ◌+◌, ◌-◌, ◌*◌, ◌<◌, ◌≤◌, max, Bool, true, false, List, [], ◌∷◌, All, count_by, sum_by, ℤ, pos, ◌+ℤ◌, ◌-ℤ◌, ◌≤ℤ◌}
 use Rattle.std.specs.List.{range_with_len}
 use Rattle.srp_base.specs.Bandwidth.{bits_of}
-use Rattle.credit_shaper.specs.declared.shaper.Traffic.{Traffic}
-use Rattle.credit_shaper.specs.declared.shaper.Traffic.TheVariants.{A}
-use Rattle.credit_shaper.specs.declared.port.SlopeChange.{SlopeChange}
-use Rattle.credit_shaper.specs.declared.port.PortInput.{PortInput}
-use Rattle.credit_shaper.specs.Credit.{does_send}
-use Rattle.credit_shaper.specs.Port.{slopes_at}
-use Rattle.credit_shaper.specs.Trace.{does_wait, port_at, port_in}
+use Rattle.credit_shaper.specs.declared.{shaper.Traffic.Traffic, shaper.Traffic.TheVariants.A, port.SlopeChange.SlopeChange, port.PortInput.PortInput}
+use Rattle.credit_shaper.specs.{Credit.does_send, Port.slopes_at, Trace.does_wait, Trace.port_at, Trace.port_in}
 
 -- class A's credit as a bit time begins
 abbrev pub credit_a_at : PortInput → ℕ → ℤ

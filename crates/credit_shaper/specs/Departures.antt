@@ -1,13 +1,8 @@
 -- What is true of everything that leaves a port, over the trace by bit times.
 use Rattle.std.specs.Prelude.{◌≡◌, ℕ, ◌+◌, ◌<◌, ◌≤◌, Bool, ◌==◌, ◌&&◌, nat_lt, nat_le, List, [], ◌∷◌, filter}
 use Rattle.std.specs.List.{Contains}
-use Rattle.credit_shaper.specs.declared.shaper.Traffic.{Traffic}
-use Rattle.credit_shaper.specs.declared.port.Arrival.{Arrival}
-use Rattle.credit_shaper.specs.declared.port.PortInput.{PortInput}
-use Rattle.credit_shaper.specs.declared.port.Departure.{Departure}
-use Rattle.credit_shaper.specs.Credit.{traffic_number}
-use Rattle.credit_shaper.specs.Port.{slopes_at, arrivals_at}
-use Rattle.credit_shaper.specs.Trace.{departure_at, port_at}
+use Rattle.credit_shaper.specs.declared.{shaper.Traffic.Traffic, port.Arrival.Arrival, port.PortInput.PortInput, port.Departure.Departure}
+use Rattle.credit_shaper.specs.{Credit.traffic_number, Port.slopes_at, Port.arrivals_at, Trace.departure_at, Trace.port_at}
 
 -- the departures that start before an input's end
 abbrev pub sent_of : PortInput → List Departure

@@ -1,13 +1,8 @@
 -- A run in pieces: bit times in a row that are alike, in which nothing happens but the credits' steps.
 use Rattle.std.specs.Prelude.{◌≡◌, ℕ, ◌+◌, ◌<◌, List, [], ◌∷◌}
 use Rattle.srp_base.specs.Bandwidth.{bits_of}
-use Rattle.credit_shaper.specs.declared.shaper.Traffic.TheVariants.{A, B}
-use Rattle.credit_shaper.specs.declared.port.PortInput.{PortInput}
-use Rattle.credit_shaper.specs.declared.piece.Piece.{Piece}
-use Rattle.credit_shaper.specs.Credit.{does_send, credit_after_bits, IsInRange}
-use Rattle.credit_shaper.specs.Trace.{port_in}
-use Rattle.credit_shaper.specs.Bounds.{credit_a_at, credit_b_at, slope_a_at, slope_b_at}
-use Rattle.credit_shaper.specs.Steps.{is_waiting}
+use Rattle.credit_shaper.specs.declared.{shaper.Traffic.TheVariants.A, shaper.Traffic.TheVariants.B, port.PortInput.PortInput, piece.Piece.Piece}
+use Rattle.credit_shaper.specs.{Credit.does_send, Credit.credit_after_bits, Credit.IsInRange, Trace.port_in, Bounds.credit_a_at, Bounds.credit_b_at, Bounds.slope_a_at, Bounds.slope_b_at, Steps.is_waiting}
 
 -- in a bit time of a piece, so many after its first, the port is as the piece says
 pub record IsAlike (input : PortInput) (p : Piece) (n : ℕ) : Type 0 where

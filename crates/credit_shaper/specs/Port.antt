@@ -2,10 +2,7 @@
 use Rattle.std.specs.Prelude.{◌≡◌, ℕ, ◌^◌, ◌<◌, ◌≤◌, ◌⊎◌, Bool, ◌==◌, nat_le, List, [], ◌∷◌, filter, All, AllPairs, if◌then◌else◌}
 use Rattle.srp_base.specs.declared.bandwidth.Rate.{Rate}
 use Rattle.srp_base.specs.Bandwidth.{bits_of}
-use Rattle.credit_shaper.specs.declared.shaper.Traffic.{Traffic}
-use Rattle.credit_shaper.specs.declared.port.SlopeChange.{SlopeChange}
-use Rattle.credit_shaper.specs.declared.port.Arrival.{Arrival}
-use Rattle.credit_shaper.specs.declared.port.PortInput.{PortInput}
+use Rattle.credit_shaper.specs.declared.{shaper.Traffic.Traffic, port.SlopeChange.SlopeChange, port.Arrival.Arrival, port.PortInput.PortInput}
 use Rattle.credit_shaper.specs.Credit.{traffic_number}
 
 -- a frame's bits are from 336 to 12,336: 42 to 1,542 octets with what surrounds it on the line

@@ -5,15 +5,9 @@
 --     bits_left        --> bits_ahead
 --     was_on_line      --> is_on_line      --> the next one, with one bit less
 use Rattle.std.specs.Prelude.{◌≡◌, ℕ, ◌+◌, ◌-◌, ◌<◌, ◌≤◌, ◌⊎◌, Bool, true, false, Option, pos, ◌≤ℤ◌, ◌<ℤ◌}
-use Rattle.credit_shaper.specs.declared.shaper.Traffic.{Traffic}
+use Rattle.credit_shaper.specs.declared.{shaper.Traffic.Traffic, shaper.Line.TheVariants.Free, shaper.Line.TheVariants.Sends, port.Arrival.Arrival, port.PortInput.PortInput}
 use Rattle.credit_shaper.specs.declared.shaper.Traffic.TheVariants.{A, B, Other}
-use Rattle.credit_shaper.specs.declared.shaper.Line.TheVariants.{Free, Sends}
-use Rattle.credit_shaper.specs.declared.port.Arrival.{Arrival}
-use Rattle.credit_shaper.specs.declared.port.PortInput.{PortInput}
-use Rattle.credit_shaper.specs.Credit.{does_send}
-use Rattle.credit_shaper.specs.Port.{IsFrameSize}
-use Rattle.credit_shaper.specs.Trace.{head_of, does_wait, port_at, port_in}
-use Rattle.credit_shaper.specs.Bounds.{credit_a_at, credit_b_at, is_on_line}
+use Rattle.credit_shaper.specs.{Credit.does_send, Port.IsFrameSize, Trace.head_of, Trace.does_wait, Trace.port_at, Trace.port_in, Bounds.credit_a_at, Bounds.credit_b_at, Bounds.is_on_line}
 
 -- whether a frame of a traffic waits in a bit time, after its start if one starts
 abbrev pub is_waiting : PortInput → Traffic → ℕ → Bool

@@ -1,17 +1,9 @@
 -- What goes on at a port in each bit time: its three queues, its line and both credits (IEEE Std
 -- 802.1Q-2018, 8.6.8 for the choice of the frame, 8.6.8.2 for the credits).
 use Rattle.std.specs.Prelude.{ℕ, zero, suc, ◌+◌, Bool, ◌&&◌, nat_le, List, [], ◌∷◌, ◌++◌, map, find, is_some, Option, Some, None, pos, int_le, if◌then◌else◌}
-use Rattle.credit_shaper.specs.declared.shaper.Traffic.{Traffic}
+use Rattle.credit_shaper.specs.declared.{shaper.Traffic.Traffic, shaper.Line.Line, shaper.Line.TheVariants.Free, shaper.Line.TheVariants.Sends, shaper.Shaper.Shaper, port.Arrival.Arrival, port.PortInput.PortInput, port.Departure.Departure, port.Departures.Departures}
 use Rattle.credit_shaper.specs.declared.shaper.Traffic.TheVariants.{A, B, Other}
-use Rattle.credit_shaper.specs.declared.shaper.Line.{Line}
-use Rattle.credit_shaper.specs.declared.shaper.Line.TheVariants.{Free, Sends}
-use Rattle.credit_shaper.specs.declared.shaper.Shaper.{Shaper}
-use Rattle.credit_shaper.specs.declared.port.Arrival.{Arrival}
-use Rattle.credit_shaper.specs.declared.port.PortInput.{PortInput}
-use Rattle.credit_shaper.specs.declared.port.Departure.{Departure}
-use Rattle.credit_shaper.specs.declared.port.Departures.{Departures}
-use Rattle.credit_shaper.specs.Credit.{after_bit}
-use Rattle.credit_shaper.specs.Port.{is_of, slopes_at, arrivals_at}
+use Rattle.credit_shaper.specs.{Credit.after_bit, Port.is_of, Port.slopes_at, Port.arrivals_at}
 
 -- a port at a bit time: the frames that have arrived and not started, in order of arrival; the credits
 -- with the slopes in force; what the line sends or sent last, and the bit time from which on it is free;

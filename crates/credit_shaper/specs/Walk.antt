@@ -1,19 +1,9 @@
 -- How a run finds its way from one moment to the next. No public contract names these words.
 use Rattle.std.specs.Prelude.{◌≡◌, ℕ, ◌+◌, ◌*◌, ◌<◌, ◌≤◌, ◌⊎◌, Bool, true, false, nat_le, nat_lt, ◌&&◌, List, [], ◌∷◌, take, length, HoldsAt, Option, None, ℤ, pos, ◌+ℤ◌, ◌<ℤ◌, int_le, if◌then◌else◌}
 use Rattle.std.specs.List.{AllWithin}
-use Rattle.credit_shaper.specs.declared.shaper.Traffic.{Traffic}
+use Rattle.credit_shaper.specs.declared.{shaper.Traffic.Traffic, shaper.Line.TheVariants.Free, port.SlopeChange.SlopeChange, port.Arrival.Arrival, port.PortInput.PortInput, port.Departure.Departure, trace.PortTrace.PortTrace, piece.Piece.Piece, queues.Heads.Heads}
 use Rattle.credit_shaper.specs.declared.shaper.Traffic.TheVariants.{A, B, Other}
-use Rattle.credit_shaper.specs.declared.shaper.Line.TheVariants.{Free}
-use Rattle.credit_shaper.specs.declared.port.SlopeChange.{SlopeChange}
-use Rattle.credit_shaper.specs.declared.port.Arrival.{Arrival}
-use Rattle.credit_shaper.specs.declared.port.PortInput.{PortInput}
-use Rattle.credit_shaper.specs.declared.port.Departure.{Departure}
-use Rattle.credit_shaper.specs.declared.trace.PortTrace.{PortTrace}
-use Rattle.credit_shaper.specs.declared.piece.Piece.{Piece}
-use Rattle.credit_shaper.specs.declared.queues.Heads.{Heads}
-use Rattle.credit_shaper.specs.Credit.{after_bits}
-use Rattle.credit_shaper.specs.Port.{is_of, no_slopes}
-use Rattle.credit_shaper.specs.Trace.{Port, head_of, turn_of}
+use Rattle.credit_shaper.specs.{Credit.after_bits, Port.is_of, Port.no_slopes, Trace.Port, Trace.head_of, Trace.turn_of}
 
 -- the bit time of an arrival
 abbrev pub arrival_bit : Arrival → ℕ

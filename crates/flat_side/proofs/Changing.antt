@@ -1,21 +1,17 @@
 -- What becomes of a side's state where the participant at a place changes in its place.
 use Rattle.std.proofs.Common.{◌≡◌, ◌≤◌, ◌<◌, ◌||◌, ◌+◌, ℕ, zero, suc, Bool, true, false, if◌then◌else◌, List, [], ◌∷◌, length, map, take, drop, refl, ap, sym, subst, ◌∙◌, arith}
 use Rattle.std.specs.Prelude.{slice_get, slice_set, slice_index_or, Option, Some, None, option_map, IfSome, Result, Ok, Err, OnOk, OnErr}
-use Rattle.std.specs.List.{list_any}
-use Rattle.std.specs.declared.cmp.Ordering.{Ordering}
+use Rattle.std.specs.{List.list_any, declared.cmp.Ordering.Ordering}
 use Rattle.std.proofs.lemmas.Option.{slice_get-map, slice_get_read}
+use Rattle.srp_base.proofs.Lists.{map-set}
 use Rattle.srp_base.specs.declared.numbers.Cs.{Cs}
 use Rattle.registrar.specs.Table.{is_leaving}
 use Rattle.mrp_participant.specs.declared.row.Row.{Row}
-use Rattle.mrp_participant.specs.Row.{is_leaving_in, registrar_of}
-use Rattle.mrp_participant.specs.State.{declared_state, due_state, left_keys, withdrawn_state}
-use Rattle.attribute_propagation.specs.Dirty.{KeySet, is_awaiting, with_key, without_key}
-use Rattle.attribute_propagation.specs.Flat.{elsewhere, is_any}
-use Rattle.attribute_propagation.specs.Ports.{HasRoom, HasTold, keys_at, keys_in, marked_elsewhere, marked_everywhere}
-use Rattle.flat_side.specs.Part.{Part, registers, same_content, settled_key, settled_part}
-use Rattle.flat_side.specs.Side.{FlatState, IsKept, at_part, awaiting_at, due_flat, has_own, parts_by, parts_settled, places_of, requested_flat, rule_at, settled_flat, with_part_at, with_told_part}
-use Rattle.flat_side.specs.Holding.{PartHolding, flat_of, parts_in}
-use Rattle.flat_side.proofs.Places.{elsewhere-set, map-set}
+use Rattle.mrp_participant.specs.{Row.is_leaving_in, Row.registrar_of, State.declared_state, State.due_state, State.left_keys, State.withdrawn_state}
+use Rattle.attribute_propagation.specs.{Dirty.KeySet, Dirty.is_awaiting, Dirty.with_key, Dirty.without_key, Flat.elsewhere, Flat.is_any, Ports.HasRoom, Ports.HasTold, Ports.keys_at, Ports.keys_in, Ports.marked_elsewhere, Ports.marked_everywhere}
+use Rattle.flat_side.specs.Part.{Part}
+use Rattle.flat_side.specs.{registers, same_content, settled_key, settled_part, FlatState, IsKept, at_part, awaiting_at, due_flat, has_own, parts_by, parts_settled, places_of, requested_flat, rule_at, settled_flat, with_part_at, with_told_part, PartHolding, flat_of, parts_in}
+use Rattle.flat_side.proofs.Places.{elsewhere-set}
 
 -- room for so many keys is room for fewer
 pub fewer : {K : Type 0} (n m : ℕ) (sets : List (KeySet K)) → n ≤ m → HasRoom m sets → HasRoom n sets
@@ -69,15 +65,6 @@ module _ {K : Type 0} where
   set_holds P [] at y below h = absurd (omega arith)
   set_holds P (p ∷ parts) zero y below h = h
   set_holds P (p ∷ parts) (suc at) y below h = set_holds P parts at y (omega (arith, below)) h
-
--- what an answer says
-pub on_err : {X E P : Type 0} (r : Result X E) → P → OnErr r P
-on_err (Ok x) h = tt
-on_err (Err e) h = h
-
-pub on_ok : {X E P Q : Type 0} (r : Result X E) → (P → Q) → OnOk r P → OnOk r Q
-on_ok (Ok x) f h = f h
-on_ok (Err e) f h = tt
 
 -- ---- the flat rule, and settling by it
 
@@ -178,21 +165,11 @@ drop_more (y ∷ xs) (suc i) x below is =
     let next : suc (i + 1) ≡ suc i + 1 = omega arith in
     drop_more xs i x (omega (arith, below)) is ∙ ap (λ n. x ∷ drop n (y ∷ xs)) next
 
-pub drop_none : {X : Type 0} (xs : List X) (i : ℕ) → length xs ≤ i → drop i xs ≡ []
-drop_none [] zero end = refl
-drop_none [] (suc i) end = refl
-drop_none (x ∷ xs) zero end = absurd (omega (arith, end))
-drop_none (x ∷ xs) (suc i) end = drop_none xs i (omega (arith, end))
-
 -- there is one at each place
 pub some_state : {K : Type 0} (parts : List (PartHolding K)) (at : ℕ) → at < length parts → (s : Part K) × (slice_get (parts_in parts) at ≡ Some s)
 some_state [] at below = absurd (omega arith)
 some_state (p ∷ parts) zero below = (p.state, refl)
 some_state (p ∷ parts) (suc at) below = some_state parts at (omega (arith, below))
-
-pub list_any-map : {X Y : Type 0} (p : Y → Bool) (f : X → Y) (xs : List X) → list_any p (map f xs) ≡ list_any (λ x. p (f x)) xs
-list_any-map p f [] = refl
-list_any-map p f (x ∷ xs) = ap (λ b. p (f x) || b) (list_any-map p f xs)
 
 -- ---- what a call leaves keeps what every side keeps
 
@@ -200,10 +177,6 @@ pub kept_either : {K E : Type 0} (cmp : K → K → Ordering) (r : Result (Unit 
     → OnOk r (new ≡ done) → OnErr r (new ≡ old) → IsKept cmp new
 kept_either cmp (Ok x) old new done was is ok err = subst (IsKept cmp) (sym ok) is
 kept_either cmp (Err e) old new done was is ok err = subst (IsKept cmp) (sym err) was
-
-pub both_err : {X E : Type 0} {P Q R : Type 0} (r : Result X E) → (P → Q → R) → OnErr r P → OnErr r Q → OnErr r R
-both_err (Ok x) f p q = tt
-both_err (Err e) f p q = f p q
 
 pub both_ok : {X E : Type 0} {P Q R : Type 0} (r : Result X E) → (P → Q → R) → OnOk r P → OnOk r Q → OnOk r R
 both_ok (Ok x) f p q = f p q

@@ -2,24 +2,17 @@
 -- application declares or withdraws.
 use Rattle.std.proofs.Common.{◌≡◌, ◌≢◌, ◌⊎◌, inl, inr, ℕ, zero, suc, ◌<◌, Bool, true, false, not, ◌&&◌, ◌||◌, if◌then◌else◌, List, [], ◌∷◌, length, map, refl, sym, ap, subst, ◌∙◌, arith}
 use Rattle.std.specs.Prelude.{slice_get, slice_set, slice_index_or, Option, Some, None, option_map, Contains, is_some, ◌==◌}
-use Rattle.std.specs.Cmp.{IsTotalOrder}
-use Rattle.std.specs.List.{AllByRecursion}
+use Rattle.std.specs.{Cmp.IsTotalOrder, List.AllByRecursion, declared.cmp.Ordering.Ordering, declared.cmp.Ordering.TheVariants.Less, declared.cmp.Ordering.TheVariants.Equal, declared.cmp.Ordering.TheVariants.Greater, Ordering.is_eq, Ordering.ordering_reverse}
 use Rattle.std.proofs.lemmas.List.Folds.{list_any_at}
 use Rattle.std.proofs.Math.ListN.{length-set}
-use Rattle.std.specs.declared.cmp.Ordering.{Ordering}
-use Rattle.std.specs.declared.cmp.Ordering.TheVariants.{Less, Equal, Greater}
-use Rattle.std.specs.Ordering.{is_eq, ordering_reverse}
-use Rattle.srp_base.specs.declared.numbers.Cs.{Cs}
-use Rattle.srp_base.specs.declared.ports.PortSetup.{PortSetup}
-use Rattle.mrp_participant.specs.Lookup.{find, same}
-use Rattle.mrp_participant.specs.Row.{is_leaving_in}
-use Rattle.mrp_participant.specs.State.{AreRows, new_state, left_state, registered_at}
-use Rattle.attribute_propagation.specs.Dirty.{is_awaiting, all_marked, with_key, without_key, IsAscending}
-use Rattle.attribute_propagation.specs.Flat.{is_any, elsewhere}
-use Rattle.attribute_propagation.specs.Ports.{HasTold, marked_elsewhere, marked_everywhere}
-use Rattle.flat_side.specs.Part.{Part, declares, registers}
-use Rattle.flat_side.specs.Side.{FlatState, IsKept, IsFlatAt, is_flat, has_own, places_of, new_flat, with_part, with_told_part, with_part_at, left_key, requested_flat, SameDeclared, TellsEach}
-use Rattle.flat_side.proofs.Places.{decide, or_false, no_or, no_and, same_length, get-set_same, get-set_other, map-set, map-set_same, elsewhere-set, each-set, each-get}
+use Rattle.std.proofs.lemmas.Bool.{or_parts as or_false}
+use Rattle.srp_base.proofs.{Arithmetic.decide, Lists.get-set_same, Lists.get_set_other as get-set_other, Lists.map-set, Lists.map-set_same, Lists.each-set, Lists.each-get}
+use Rattle.srp_base.specs.declared.{numbers.Cs.Cs, ports.PortSetup.PortSetup}
+use Rattle.mrp_participant.specs.{Lookup.find, Lookup.same, Row.is_leaving_in, State.AreRows, State.new_state, State.left_state, State.registered_at}
+use Rattle.attribute_propagation.specs.{Dirty.is_awaiting, Dirty.all_marked, Dirty.with_key, Dirty.without_key, Dirty.IsAscending, Flat.is_any, Flat.elsewhere, Ports.HasTold, Ports.marked_elsewhere, Ports.marked_everywhere}
+use Rattle.flat_side.specs.Part.{Part}
+use Rattle.flat_side.specs.{declares, registers, FlatState, IsKept, IsFlatAt, is_flat, has_own, places_of, new_flat, with_part, with_told_part, with_part_at, left_key, requested_flat, SameDeclared, TellsEach}
+use Rattle.flat_side.proofs.Places.{no_or, no_and, same_length, elsewhere-set}
 
 -- what is known of keys: their order is one in which equal keys are one key; and what those that are told make of the
 -- sets of all ports

@@ -1,20 +1,14 @@
 -- What a side keeps stays of its application's keys: a participant takes the place of another, and keys await.
 use Rattle.std.proofs.Common.{◌≡◌, ◌≢◌, ◌⊎◌, inl, inr, ℕ, suc, Bool, true, false, ◌||◌, if◌then◌else◌, List, [], ◌∷◌, refl, sym, ap, subst, ◌∙◌, arith}
 use Rattle.std.specs.Prelude.{slice_get, slice_set, Option, Some, None, option_map, option_and_then, IsSome, is_some, Contains, fold, ◌==◌}
-use Rattle.std.specs.declared.cmp.Ordering.{Ordering}
-use Rattle.std.specs.Ordering.{is_eq}
-use Rattle.srp_base.specs.declared.numbers.Cs.{Cs}
-use Rattle.srp_base.specs.declared.mrp.MrpEvent.{MrpEvent}
+use Rattle.std.specs.{declared.cmp.Ordering.Ordering, Ordering.is_eq}
+use Rattle.srp_base.proofs.{Arithmetic.decide, Bools.or_true, Lists.get-set_same, Lists.get_set_other as get-set_other}
+use Rattle.srp_base.specs.declared.{numbers.Cs.Cs, mrp.MrpEvent.MrpEvent}
 use Rattle.mrp_participant.specs.declared.row.Row.{Row}
-use Rattle.mrp_participant.specs.Lookup.{find, same, ChangesOnly}
-use Rattle.mrp_participant.specs.Row.{is_leaving_in, after_leave, after_hear, leave_all_row, row_hearing}
-use Rattle.mrp_participant.specs.State.{AreRows, registered_at}
-use Rattle.attribute_propagation.specs.Dirty.{is_awaiting, all_marked}
-use Rattle.attribute_propagation.specs.Ports.{marked_elsewhere, marked_everywhere}
-use Rattle.flat_side.specs.Part.{Part, said_events}
-use Rattle.flat_side.specs.Side.{FlatState, with_part, with_told_part, with_part_at, left_key, SameDeclared, TellsEach}
-use Rattle.flat_side.specs.Keys.{AreOfKeys, HasKeyRows, HasKeysAlone, IsProper}
-use Rattle.flat_side.proofs.Places.{decide, or_true, get-set_same, get-set_other}
+use Rattle.mrp_participant.specs.{Lookup.find, Lookup.same, Lookup.ChangesOnly, Row.is_leaving_in, Row.after_leave, Row.after_hear, Row.leave_all_row, Row.row_hearing, State.AreRows, State.registered_at}
+use Rattle.attribute_propagation.specs.{Dirty.is_awaiting, Dirty.all_marked, Ports.marked_elsewhere, Ports.marked_everywhere}
+use Rattle.flat_side.specs.Part.{Part}
+use Rattle.flat_side.specs.{said_events, FlatState, with_part, with_told_part, with_part_at, left_key, SameDeclared, TellsEach, AreOfKeys, HasKeyRows, HasKeysAlone, IsProper}
 use Rattle.flat_side.proofs.Keeping.{KeyLaws, same_key, kept-retold}
 
 -- what holds of each element holds where one is set

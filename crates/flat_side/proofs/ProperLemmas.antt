@@ -1,24 +1,15 @@
 -- Settling, requests and a new side: keys of the application alone are kept; and what is sent is of such keys.
-use Rattle.std.proofs.Common.{◌≡◌, ◌⊎◌, inl, inr, ℕ, zero, suc, Bool, true, false, not, ◌&&◌, ◌||◌, if◌then◌else◌, List, [], ◌∷◌, length, map, refl, sym, subst, ◌∙◌, arith}
+use Rattle.std.proofs.Common.{◌≡◌, ◌⊎◌, inl, inr, ℕ, zero, suc, Bool, true, false, not, ◌&&◌, ◌||◌, if◌then◌else◌, List, [], ◌∷◌, map, refl, sym, subst, ◌∙◌, arith}
 use Rattle.std.specs.Prelude.{slice_get, slice_set, Option, Some, None, option_and_then, IsSome, Contains}
-use Rattle.std.specs.declared.cmp.Ordering.{Ordering}
-use Rattle.std.specs.Ordering.{is_eq}
-use Rattle.srp_base.specs.declared.numbers.Cs.{Cs}
-use Rattle.srp_base.specs.declared.ports.PortSetup.{PortSetup}
-use Rattle.srp_base.specs.declared.mrp.MrpEvent.{MrpEvent}
+use Rattle.std.specs.{declared.cmp.Ordering.Ordering, Ordering.is_eq}
+use Rattle.srp_base.proofs.{Lists.paired, Bools.or_true, Lists.each-get}
+use Rattle.srp_base.specs.declared.{numbers.Cs.Cs, ports.PortSetup.PortSetup, mrp.MrpEvent.MrpEvent}
 use Rattle.mrp_participant.specs.declared.row.Row.{Row}
-use Rattle.mrp_participant.specs.Lookup.{find, ChangesOnly}
-use Rattle.mrp_participant.specs.Row.{after_declare, after_withdraw}
-use Rattle.mrp_participant.specs.State.{AreRows, new_state, declared_state, withdrawn_state}
-use Rattle.attribute_propagation.specs.Dirty.{IsAscending, is_awaiting, with_key, without_key}
-use Rattle.attribute_propagation.specs.Ports.{marked_everywhere, new_sets}
-use Rattle.flat_side.specs.Part.{Part, key_events, same_content, settled_key, settled_part}
-use Rattle.flat_side.specs.Side.{FlatState, has_own, is_flat, awaiting_at, new_flat, settled_flat, requested_flat}
-use Rattle.flat_side.specs.Keys.{AreOfKeys, HasKeyRows, HasKeysAlone, IsProper}
-use Rattle.flat_side.proofs.Places.{or_true, each-get}
-use Rattle.flat_side.proofs.Keeping.{KeyLaws, self, same_key, kept-requested, kept-new}
-use Rattle.flat_side.proofs.SettlingLemmas.{Laws, kept-settled}
-use Rattle.flat_side.proofs.KeyLemmas.{set-each, everywhere_alone, proper-at, rows-changed}
+use Rattle.mrp_participant.specs.{Lookup.find, Lookup.ChangesOnly, Row.after_declare, Row.after_withdraw, State.AreRows, State.new_state, State.declared_state, State.withdrawn_state}
+use Rattle.attribute_propagation.specs.{Dirty.IsAscending, Dirty.is_awaiting, Dirty.with_key, Dirty.without_key, Ports.marked_everywhere, Ports.new_sets}
+use Rattle.flat_side.specs.Part.{Part}
+use Rattle.flat_side.specs.{key_events, same_content, settled_key, settled_part, FlatState, has_own, is_flat, awaiting_at, new_flat, settled_flat, requested_flat, AreOfKeys, HasKeyRows, HasKeysAlone, IsProper}
+use Rattle.flat_side.proofs.{Keeping.KeyLaws, Keeping.self, Keeping.same_key, Keeping.kept-requested, Keeping.kept-new, SettlingLemmas.Laws, SettlingLemmas.kept-settled, KeyLemmas.set-each, KeyLemmas.everywhere_alone, KeyLemmas.proper-at, KeyLemmas.rows-changed}
 
 -- what a declaration and a withdrawal make of the row of each key
 pub record Changes {K : Type 0} (cmp : K → K → Ordering) : Type 0 where
@@ -30,14 +21,6 @@ pub record Changes {K : Type 0} (cmp : K → K → Ordering) : Type 0 where
 some_withdrawn : {K : Type 0} (o : Option (Row K (Unit {0}))) → IsSome (after_withdraw o) → IsSome o
 some_withdrawn None h = h
 some_withdrawn (Some r) h = refl
-
--- a list of the same length has an element at the same place
-paired : {X Y : Type 0} (xs : List X) (ys : List Y) (at : ℕ) (y : Y) → length xs ≡ length ys → slice_get ys at ≡ Some y → (x : X) × (slice_get xs at ≡ Some x)
-paired [] [] at y e get = cc
-paired [] (z ∷ ys) at y e get = absurd (omega arith)
-paired (x ∷ xs) [] at y e get = absurd (omega arith)
-paired (x ∷ xs) (z ∷ ys) zero y e get = (x, refl)
-paired (x ∷ xs) (z ∷ ys) (suc at) y e get = let shorter : length xs ≡ length ys = omega arith in paired xs ys at y shorter get
 
 module _ {K : Type 0} (cmp : K → K → Ordering) (laws : KeyLaws cmp) (IsKey : K → Type 0) where
   -- ---- a new side

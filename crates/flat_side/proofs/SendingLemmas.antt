@@ -4,8 +4,7 @@ use Rattle.std.specs.Prelude.{sum_by}
 use Rattle.std.proofs.Math.Nat.{mul-suc, mul-zero}
 use Rattle.srp_base.specs.declared.mrp.MrpEvent.{MrpEvent}
 use Rattle.std.proofs.lemmas.List.Sums.{sum_by-cons}
-use Rattle.flat_side.specs.Part.{key_events}
-use Rattle.flat_side.specs.Codec.{IsFitting}
+use Rattle.flat_side.specs.{key_events, IsFitting}
 
 module _ {K : Type 0} where
   each-alike : (octets : Unit {0} → ℕ) (events : List (MrpEvent × K × Unit {0})) → sum_by (λ e. octets e.2) events ≡ octets tt * length events

@@ -3,12 +3,11 @@ use Rattle.std.proofs.Common.{◌≡◌, ◌≢◌, ◌⊎◌, inl, inr, ℕ, ze
 use Rattle.std.specs.Prelude.{slice_get, slice_set, Option, Some, None, is_some}
 use Rattle.std.specs.declared.cmp.Ordering.{Ordering}
 use Rattle.std.proofs.Math.ListN.{length-set}
-use Rattle.mrp_participant.specs.Lookup.{same}
-use Rattle.mrp_participant.specs.State.{AreRows, declared_at, registered_at, declared_state, withdrawn_state}
+use Rattle.srp_base.proofs.{Bools.chosen as picked, Arithmetic.decide, Lists.get-set_same, Lists.get_set_other as get-set_other, Lists.each-set, Lists.each-get}
+use Rattle.mrp_participant.specs.{Lookup.same, State.AreRows, State.declared_at, State.registered_at, State.declared_state, State.withdrawn_state}
 use Rattle.attribute_propagation.specs.Dirty.{is_awaiting}
-use Rattle.flat_side.specs.Part.{Part, same_content, declares, settled_key, settled_part}
-use Rattle.flat_side.specs.Side.{FlatState, IsKept, IsFlatAt, awaiting_at, is_flat, settled_flat}
-use Rattle.flat_side.proofs.Places.{decide, get-set_same, get-set_other, each-set, each-get}
+use Rattle.flat_side.specs.Part.{Part}
+use Rattle.flat_side.specs.{same_content, declares, settled_key, settled_part, FlatState, IsKept, IsFlatAt, awaiting_at, is_flat, settled_flat}
 use Rattle.flat_side.proofs.Keeping.{KeyLaws, same_key, flat_here, flat_there, kept-at, rows-at}
 
 -- the laws of a participant that settling rests on
@@ -23,11 +22,6 @@ pub record Laws {K : Type 0} (cmp : K → K → Ordering) : Type 0 where
       → registered_at cmp v (declared_state cmp same_content key tt s) ≡ registered_at cmp v s
   pub withdraw_stays : (s : Part K) (key : K) → AreRows cmp s.rows → (v : K)
       → registered_at cmp v (withdrawn_state cmp key s) ≡ registered_at cmp v s
-
--- a test that decides in favour of one side
-picked : {X : Type 0} (b : Bool) (P : X → Type 0) (x y : X) → P x → P y → P (if b then x else y)
-picked true P x y h k = h
-picked false P x y h k = k
 
 some_or : (b : Bool) (o : Option (Unit {0})) → is_some (if b then Some tt else o) ≡ (if b then true else is_some o)
 some_or true o = refl

@@ -1,10 +1,8 @@
 -- A flat side as contracts see it: its state, and where it is ready.
 use Rattle.std.specs.Prelude.{◌≡◌, ◌≤◌, ℕ, true, List, length, map, Option, Some, None, slice_get, IfSome}
 use Rattle.mrp_participant.specs.State.{Holding}
-use Rattle.attribute_propagation.specs.Dirty.{KeySet}
-use Rattle.attribute_propagation.specs.Ports.{HasRoom, keys_at, keys_in}
-use Rattle.flat_side.specs.Part.{Part}
-use Rattle.flat_side.specs.Side.{FlatState}
+use Rattle.attribute_propagation.specs.{Dirty.KeySet, Ports.HasRoom, Ports.keys_at, Ports.keys_in}
+use Rattle.flat_side.specs.{Part.Part, Side.FlatState}
 
 -- the state of a side, and the place of the link port at which it is ready, if it is at one: there timers fire and keys
 -- settle without memory being taken. What a side does is said of its state alone.

@@ -1,12 +1,10 @@
 -- That each key that a side keeps is one that its application has.
 use Rattle.std.specs.Prelude.{◌≡◌, ℕ, true, List, Some, IsSome, slice_get}
-use Rattle.std.specs.declared.cmp.Ordering.{Ordering}
-use Rattle.std.specs.List.{AllByRecursion}
+use Rattle.std.specs.{declared.cmp.Ordering.Ordering, List.AllByRecursion}
 use Rattle.srp_base.specs.declared.mrp.MrpEvent.{MrpEvent}
 use Rattle.mrp_participant.specs.Lookup.{find}
 use Rattle.attribute_propagation.specs.Dirty.{is_awaiting}
-use Rattle.flat_side.specs.Part.{Part}
-use Rattle.flat_side.specs.Side.{FlatState, IsKept}
+use Rattle.flat_side.specs.{Part.Part, Side.FlatState, Side.IsKept}
 
 -- each event is of one of the application's keys
 abbrev pub AreOfKeys : {K : Type 0} → (K → Type 0) → List (MrpEvent × K) → Type 0

@@ -3,3 +3,8 @@ pub mod Codec
 pub mod Side
 pub mod Holding
 pub mod Keys
+pub use Part.*
+pub use Codec.*
+pub use Side.*
+pub use Holding.*
+pub use Keys.*

@@ -1,10 +1,8 @@
 -- The participant at a port of an application whose attributes are keys without content (IEEE Std 802.1Q-2018, 11.2.3,
 -- 10.12.1).
 use Rattle.std.specs.Prelude.{Bool, true, List, map, fold, if◌then◌else◌}
-use Rattle.std.specs.declared.cmp.Ordering.{Ordering}
-use Rattle.std.specs.Option.{is_some}
-use Rattle.srp_base.specs.declared.numbers.Cs.{Cs}
-use Rattle.srp_base.specs.declared.mrp.MrpEvent.{MrpEvent}
+use Rattle.std.specs.{declared.cmp.Ordering.Ordering, Option.is_some}
+use Rattle.srp_base.specs.declared.{numbers.Cs.Cs, mrp.MrpEvent.MrpEvent}
 use Rattle.mrp_participant.specs.State.{State, declared_at, registered_at, declared_state, withdrawn_state, received_state, changed_keys}
 
 -- the state of a port's participant, with a row for each key that it keeps something of

@@ -1,22 +1,13 @@
 -- An application at a node whose attributes go everywhere (IEEE Std 802.1Q-2018, 10.3): its state, and the state after
 -- each call.
 use Rattle.std.specs.Prelude.{◌≡◌, ◌⊎◌, ℕ, suc, Bool, true, false, ◌&&◌, ◌||◌, if◌then◌else◌, List, [], ◌∷◌, length, map, Option, Some, None, slice_get, slice_set, Contains, Result, Ok, Err, IfSome}
-use Rattle.std.specs.declared.cmp.Ordering.{Ordering}
-use Rattle.std.specs.List.{AllByRecursion, list_all, list_any}
-use Rattle.srp_base.specs.declared.numbers.Cs.{Cs}
-use Rattle.srp_base.specs.declared.mrp.MrpEvent.{MrpEvent}
-use Rattle.srp_base.specs.declared.ports.PortSetup.{PortSetup}
-use Rattle.srp_base.specs.declared.memory.NoMemory.{NoMemory}
+use Rattle.std.specs.{declared.cmp.Ordering.Ordering, List.AllByRecursion, List.list_all, List.list_any}
+use Rattle.srp_base.specs.declared.{numbers.Cs.Cs, mrp.MrpEvent.MrpEvent, ports.PortSetup.PortSetup, memory.NoMemory.NoMemory}
 use Rattle.mrpdu_codec.specs.declared.error.DecodeErr.{DecodeErr}
 use Rattle.mrpdu_codec.specs.declared.error.DecodeErr.TheVariants as errors
-use Rattle.mrp_participant.specs.Lookup.{find}
-use Rattle.mrp_participant.specs.Row.{is_leaving_in}
-use Rattle.mrp_participant.specs.State.{AreRows, is_active, is_silent, is_still, is_any_due, declared_at, registered_at, new_state, left_state, left_keys, due_state, received_state, changed_keys, leave_all_state, periodic_state, sent_events, sent_state}
-use Rattle.attribute_propagation.specs.Dirty.{IsAscending, is_awaiting, with_key, without_key}
-use Rattle.attribute_propagation.specs.Flat.{elsewhere}
-use Rattle.attribute_propagation.specs.Ports.{count_of, keys_at, marked_elsewhere, marked_everywhere, new_sets, none_awaits, some_awaits}
-use Rattle.flat_side.specs.Part.{Part, same_content, key_events, received_part, told_by_receipt, declares, registers, settled_part}
-use Rattle.flat_side.specs.Codec.{Codec, IsWritten}
+use Rattle.mrp_participant.specs.{Lookup.find, Row.is_leaving_in, State.AreRows, State.is_active, State.is_silent, State.is_still, State.is_any_due, State.declared_at, State.registered_at, State.new_state, State.left_state, State.left_keys, State.due_state, State.received_state, State.changed_keys, State.leave_all_state, State.periodic_state, State.sent_events, State.sent_state}
+use Rattle.attribute_propagation.specs.{Dirty.IsAscending, Dirty.is_awaiting, Dirty.with_key, Dirty.without_key, Flat.elsewhere, Ports.count_of, Ports.keys_at, Ports.marked_elsewhere, Ports.marked_everywhere, Ports.new_sets, Ports.none_awaits, Ports.some_awaits}
+use Rattle.flat_side.specs.{Part.Part, Part.same_content, Part.key_events, Part.received_part, Part.told_by_receipt, Part.declares, Part.registers, Part.settled_part, Codec.Codec, Codec.IsWritten}
 
 -- the participants of the link ports, in the order of the ports; the keys that await settling at each, ascending; and
 -- the keys that the application declares, ascending

@@ -1,11 +1,8 @@
 //! What comes in and goes out at a link port, and what the application asks for.
 
 ghost use Rattle.std.specs.Prelude.{◌≡◌, ◌≢◌, ◌<◌, ◌≤◌, ◌^◌, ◌∷◌, [], true, false, IsTrue, if◌then◌else◌, length, slice_get, None, Some, IfOk, IfSome, IsOk, OnOk, OnErr};
-ghost use Rattle.mrp_participant.specs.Lookup.{find};
-ghost use Rattle.mrp_participant.specs.Row.{is_leaving_in};
-ghost use Rattle.mrp_participant.specs.State.{due_count, is_any_due};
-ghost use Rattle.attribute_propagation.specs.Dirty.{with_key, without_key};
-ghost use Rattle.attribute_propagation.specs.Ports.{IsLinkPort, count_of, keys_in, marked_everywhere, place_of};
+ghost use Rattle.mrp_participant.specs.{Lookup.find, Row.is_leaving_in, State.due_count, State.is_any_due};
+ghost use Rattle.attribute_propagation.specs.{Dirty.with_key, Dirty.without_key, Ports.IsLinkPort, Ports.count_of, Ports.keys_in, Ports.marked_everywhere, Ports.place_of};
 ghost use Rattle.flat_side.specs.Part.{said_events};
 ghost use Rattle.flat_side.specs.Side.{HasReceived, has_own, received_flat, due_flat, left_flat, leave_all_flat, periodic_flat, spoilt_flat, requested_flat};
 

@@ -2,9 +2,7 @@
 //! that does nothing; calling it brings the law to a proof.
 
 ghost use Rattle.std.specs.Prelude.{◌≡◌, ℕ, Bool, false, List};
-ghost use Rattle.srp_base.specs.declared.mrp.MrpEvent.{MrpEvent};
-ghost use Rattle.srp_base.specs.declared.numbers.Cs.{Cs};
-ghost use Rattle.srp_base.specs.declared.ports.PortSetup.{PortSetup};
+ghost use Rattle.srp_base.specs.declared.{mrp.MrpEvent.MrpEvent, numbers.Cs.Cs, ports.PortSetup.PortSetup};
 ghost use Rattle.mrp_participant.specs.State.{AreRows, is_active, is_silent, sent_events};
 ghost use Rattle.flat_side.specs.Part.{Part, key_events};
 ghost use Rattle.flat_side.specs.Codec.{IsFitting};

@@ -3,11 +3,8 @@
 
 ghost use Rattle.std.specs.Prelude.{◌≡◌, ◌≤◌, ◌<◌, ◌^◌, true, false, List, length, slice_get, IfOk, IfSome, IsOk, OnOk, OnErr};
 ghost use Rattle.std.specs.List.{AllByRecursion};
-ghost use Rattle.mrp_participant.specs.Lookup.{find};
-ghost use Rattle.mrp_participant.specs.Row.{is_leaving_in};
-ghost use Rattle.mrp_participant.specs.State.{AreRows, due_count, due_state, left_keys};
-ghost use Rattle.attribute_propagation.specs.Dirty.{KeySet};
-ghost use Rattle.attribute_propagation.specs.Ports.{HasRoom, count_of, keys_in};
+ghost use Rattle.mrp_participant.specs.{Lookup.find, Row.is_leaving_in, State.AreRows, State.due_count, State.due_state, State.left_keys};
+ghost use Rattle.attribute_propagation.specs.{Dirty.KeySet, Ports.HasRoom, Ports.count_of, Ports.keys_in};
 ghost use Rattle.flat_side.specs.Side.{due_flat, heard_flat, leave_all_flat, left_flat, left_key, periodic_flat, sent_flat, spoilt_flat};
 ghost use Rattle.flat_side.specs.Holding.{HasRoomAt, flat_of, parts_in};
 

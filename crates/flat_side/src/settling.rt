@@ -3,8 +3,7 @@
 ghost use Rattle.std.specs.Prelude.{◌≡◌, ◌≢◌, ◌<◌, ◌≤◌, ◌+◌, ◌||◌, ◌^◌, [], length, drop, slice_get, take, None, Some, IfOk, IfSome, IsOk, OnOk, OnErr};
 ghost use Rattle.std.specs.List.{list_any};
 ghost use Rattle.mrp_participant.specs.State.{declared_state};
-ghost use Rattle.attribute_propagation.specs.Dirty.{is_awaiting};
-ghost use Rattle.attribute_propagation.specs.Ports.{IsLinkPort, count_of, keys_at, keys_in, place_of};
+ghost use Rattle.attribute_propagation.specs.{Dirty.is_awaiting, Ports.IsLinkPort, Ports.count_of, Ports.keys_at, Ports.keys_in, Ports.place_of};
 ghost use Rattle.flat_side.specs.Part.{registers, same_content, settled_key};
 ghost use Rattle.flat_side.specs.Side.{awaiting_at, parts_settled, rule_at, settled_flat};
 ghost use Rattle.flat_side.specs.Holding.{HasRoomAt, flat_of, parts_in};

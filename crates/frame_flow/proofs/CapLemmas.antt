@@ -2,15 +2,9 @@
 use Rattle.std.proofs.Common.{◌≡◌, ℕ, ◌+◌, ◌≤◌, Bool, true, false, List, [], ◌∷◌, get_or, Option, Some, None, cond, sym, subst, arith}
 use Rattle.std.specs.Prelude.{All, nat_le}
 use Rattle.std.proofs.lemmas.List.Elements.{All-nil, All-cons, All-head, All-tail, All-filter, All-map, filter_passes}
-use Rattle.srp_base.specs.declared.numbers.EgressPort.{EgressPort}
-use Rattle.srp_base.specs.declared.bandwidth.Rate.{Rate}
-use Rattle.srp_base.specs.declared.ports.PortChange.{PortChange}
+use Rattle.srp_base.specs.declared.{numbers.EgressPort.EgressPort, bandwidth.Rate.Rate, ports.PortChange.PortChange}
 use Rattle.credit_shaper.specs.declared.port.SlopeChange.{SlopeChange}
-use Rattle.frame_flow.specs.declared.result.PortFlow.{PortFlow}
-use Rattle.frame_flow.specs.Copies.{all_places}
-use Rattle.frame_flow.specs.Flow.{Setting, IsFlow, port_flow}
-use Rattle.frame_flow.specs.Force.{is_port, changes_at, last_upto, in_force, first_slopes, does_change, slopes_of_change, later_slopes, slopes_over}
-use Rattle.frame_flow.specs.Laws.{KeepsCapsA, KeepsCaps, HasCaps}
+use Rattle.frame_flow.specs.{PortFlow, all_places, Setting, IsFlow, port_flow, is_port, changes_at, last_upto, in_force, first_slopes, does_change, slopes_of_change, later_slopes, slopes_over, KeepsCapsA, KeepsCaps, HasCaps}
 use Rattle.frame_flow.proofs.LevelLemmas.{same-port}
 
 -- two slopes keep what is asked of them, as no slopes do

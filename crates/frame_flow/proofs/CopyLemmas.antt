@@ -1,30 +1,14 @@
 -- The copies that arrive at a port: whose they are, and on which flows they depend.
-use Rattle.std.proofs.Common.{◌≡◌, ℕ, ◌+◌, ◌<◌, set, replicate, append-nil, inl, inr, Bool, true, false, List, [], ◌∷◌, ◌++◌, length, get_or, take, map, Option, Some, None, refl, sym, ◌∙◌, ap, subst, arith}
+use Rattle.std.proofs.Common.{◌≡◌, ℕ, ◌+◌, ◌<◌, set, replicate, append-nil, inl, inr, Bool, true, false, List, [], ◌∷◌, ◌++◌, length, get_or, take, Option, Some, None, refl, sym, ◌∙◌, ap, subst, arith}
 use Rattle.std.specs.Prelude.{All, AllPairs, find, filter, filter_map, flat_map, nat_lt, ◌==◌, ◌&&◌}
 use Rattle.std.specs.List.{cons_option}
-use Rattle.std.proofs.lemmas.Bool.{cond_both, cond-true, cond-false, cases_Bool, cases_eq, eq-eqb, ne_eqb, ltb-true, and_parts}
-use Rattle.std.proofs.lemmas.List.{get_or-replicate, length-replicate, length-set, get_or-set_same, get_or-set_other, take_more}
-use Rattle.std.proofs.lemmas.List.Elements.{filter-append, All-nil, All-cons, All-head, All-tail, All-append, All-filter, All-map, All-weaker}
-use Rattle.srp_base.specs.declared.numbers.EgressPort.{EgressPort}
-use Rattle.srp_base.specs.declared.numbers.NodeNo.{NodeNo}
-use Rattle.tree_topology.specs.Topology.{HasNode}
-use Rattle.srp_base.specs.declared.bandwidth.Rate.{Rate}
+use Rattle.std.proofs.lemmas.{Bool.cond_both, Bool.cond-true, Bool.cond-false, Bool.cases_Bool, Bool.cases_eq, Bool.eq-eqb, Bool.ne_eqb, Bool.ltb-true, Bool.and_parts, List.get_or-replicate, List.length-replicate, List.length-set, List.get_or-set_same, List.get_or-set_other, List.take_more, List.Elements.filter-append, List.Elements.All-nil, List.Elements.All-cons, List.Elements.All-head, List.Elements.All-tail, List.Elements.All-append, List.Elements.All-filter, List.Elements.All-map, List.Elements.All-weaker}
+use Rattle.srp_base.proofs.Lists.{All-flat_map}
+use Rattle.srp_base.specs.declared.{numbers.EgressPort.EgressPort, numbers.NodeNo.NodeNo, bandwidth.Rate.Rate}
+use Rattle.tree_topology.specs.{Topology.HasNode, Ports.peer_of}
 use Rattle.tree_topology.specs.declared.graph.Link.{Link}
-use Rattle.tree_topology.specs.Ports.{peer_of}
-use Rattle.frame_flow.specs.declared.frame.Frame.{Frame}
-use Rattle.frame_flow.specs.declared.frame.FrameCopy.{FrameCopy}
-use Rattle.frame_flow.specs.declared.result.Fate.{Fate}
-use Rattle.frame_flow.specs.declared.result.Fate.TheVariants.{Unbooked, NoVlan, Departed, Left}
-use Rattle.frame_flow.specs.declared.result.PortFlow.{PortFlow}
-use Rattle.frame_flow.specs.declared.place.Place.{Place}
-use Rattle.frame_flow.specs.Moments.{bits_of_ticks, bit_from, moment_of}
-use Rattle.frame_flow.specs.Force.{is_port}
-use Rattle.frame_flow.specs.Copies.{IsKnown, Reached, sent_from, frame_of, reached_at, handed_on, handed_by, comes_over, flow_at, frames_reaching, ports_at, goes_by, copy_of, in_order, arriving}
-use Rattle.frame_flow.specs.Flow.{Setting}
-use Rattle.frame_flow.specs.Steps.{AreByNode}
-use Rattle.frame_flow.specs.Given.{IsInOrder}
-use Rattle.frame_flow.proofs.NumberLemmas.{find-here}
-use Rattle.frame_flow.proofs.OrderLemmas.{All-in_order, order-in_order}
+use Rattle.frame_flow.specs.{Frame, FrameCopy, Fate, Unbooked, NoVlan, Departed, Left, PortFlow, Place, bits_of_ticks, bit_from, moment_of, is_port, IsKnown, Reached, sent_from, frame_of, reached_at, handed_on, handed_by, comes_over, flow_at, frames_reaching, ports_at, goes_by, copy_of, in_order, arriving, Setting, AreByNode, IsInOrder}
+use Rattle.frame_flow.proofs.{NumberLemmas.find-here, OrderLemmas.All-in_order, OrderLemmas.order-in_order}
 
 -- ---- lists
 
@@ -40,17 +24,8 @@ All-find {X} P p (y ∷ ys) x all e =
       | inr nay ↦ All-find P p ys x (All-tail P y ys all) (sym (cond-false (p y) (Some y) (find p ys) nay) ∙ e)
     ]
 
-pub All-flat_map : {X Y : Type 0} (P : X → Type 0) (Q : Y → Type 0) (f : X → List Y) → ((x : X) → P x → All Q (f x)) → (xs : List X) → All P xs → All Q (flat_map f xs)
-All-flat_map P Q f each [] all = All-nil Q
-All-flat_map P Q f each (x ∷ xs) all =
-    All-append Q (f x) (flat_map f xs) (each x (All-head P x xs all)) (All-flat_map P Q f each xs (All-tail P x xs all))
-
 pub All-any : {X : Type 0} (xs : List X) → All (λ x. Unit {0}) xs
 All-any xs k d below = tt
-
-pub map-twice : {X Y Z : Type 0} (g : Y → Z) (f : X → Y) (xs : List X) → map g (map f xs) ≡ map (λ x. g (f x)) xs
-map-twice g f [] = refl
-map-twice {X} {Y} {Z} g f (x ∷ xs) = ap (λ (t : List Z). g (f x) ∷ t) (map-twice g f xs)
 
 pub flat_map-same : {X Y : Type 0} (f g : X → List Y) (xs : List X) → All (λ x. f x ≡ g x) xs → flat_map f xs ≡ flat_map g xs
 flat_map-same f g [] all = refl

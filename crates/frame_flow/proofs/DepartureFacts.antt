@@ -1,15 +1,9 @@
 -- A copy departs from a port once where that is its fate, and else never.
 use Rattle.std.proofs.Common.{◌≡◌, ◌≢◌, ℕ, inl, inr, Bool, true, false, List, [], ◌∷◌, get_or, Some, None, refl, sym, ◌∙◌, ap, subst}
 use Rattle.std.specs.Prelude.{All, AllPairs, filter, find, ◌==◌}
-use Rattle.std.proofs.lemmas.Bool.{cond-true, cond-false, cases_Bool, eqb-true, eq-eqb, ne_eqb, false≢true}
-use Rattle.std.proofs.lemmas.List.Elements.{All-nil, All-cons, All-head, All-tail, All-weaker, All-filter}
-use Rattle.std.proofs.lemmas.List.Kept.{AllPairs-cons, AllPairs-filter}
-use Rattle.credit_shaper.specs.declared.shaper.Traffic.{Traffic}
-use Rattle.credit_shaper.specs.declared.port.Arrival.{Arrival}
-use Rattle.credit_shaper.specs.declared.port.Departure.{Departure}
-use Rattle.credit_shaper.specs.Credit.{traffic_number}
-use Rattle.credit_shaper.specs.Port.{is_of}
-use Rattle.credit_shaper.specs.Departures.{departs_as, DepartInOrder}
+use Rattle.std.proofs.lemmas.{Bool.cond-true, Bool.cond-false, Bool.cases_Bool, Bool.eqb-true, Bool.eq-eqb, Bool.ne_eqb, Bool.false≢true, List.Elements.All-nil, List.Elements.All-cons, List.Elements.All-head, List.Elements.All-tail, List.Elements.All-weaker, List.Elements.All-filter, List.Kept.AllPairs-cons, List.Kept.AllPairs-filter}
+use Rattle.credit_shaper.specs.declared.{shaper.Traffic.Traffic, port.Arrival.Arrival, port.Departure.Departure}
+use Rattle.credit_shaper.specs.{Credit.traffic_number, Port.is_of, Departures.departs_as, Departures.DepartInOrder}
 use Rattle.credit_shaper.proofs.PairLemmas.{pairs-head, pairs-tail, pairs-none}
 use Rattle.frame_flow.proofs.NumberLemmas.{find-here}
 

@@ -1,28 +1,11 @@
 -- What becomes of a port's copies: the verdicts on them, and the departures found of their numbers.
 use Rattle.std.proofs.Common.{◌≡◌, ◌≢◌, ℕ, ◌+◌, ◌-◌, ◌<◌, ◌≤◌, inl, inr, Bool, cond, List, [], ◌∷◌, ◌++◌, length, get_or, set, replicate, take, map, Option, Some, None, refl, sym, ◌∙◌, ap, subst, arith}
 use Rattle.std.specs.Prelude.{filter, find, ◌==◌, nat_lt, slice_get}
-use Rattle.std.proofs.lemmas.Bool.{cond_both, cond-true, cond-false, cases_Bool, cases_eq, cases_lt, eq-eqb, ne_eqb, lt-ltb, le-ltb}
-use Rattle.std.proofs.lemmas.List.{get_or-replicate, get_or_past, length-replicate, get_or-set_same, get_or-set_other, take_more, map-append}
-use Rattle.std.proofs.lemmas.List.Elements.{filter-append}
-use Rattle.std.proofs.lemmas.Option.{slice_get_past, slice_get-get_or}
-use Rattle.credit_shaper.specs.declared.port.Arrival.{Arrival}
-use Rattle.credit_shaper.specs.declared.port.PortInput.{PortInput}
-use Rattle.credit_shaper.specs.declared.port.SlopeChange.{SlopeChange}
+use Rattle.std.proofs.lemmas.{Bool.cond_both, Bool.cond-true, Bool.cond-false, Bool.cases_Bool, Bool.cases_eq, Bool.cases_lt, Bool.eq-eqb, Bool.ne_eqb, Bool.lt-ltb, Bool.le-ltb, List.get_or-replicate, List.get_or_past, List.length-replicate, List.get_or-set_same, List.get_or-set_other, List.take_more, List.map-append, List.Elements.filter-append, Option.slice_get_past, Option.slice_get-get_or}
+use Rattle.credit_shaper.specs.declared.{port.Arrival.Arrival, port.PortInput.PortInput, port.SlopeChange.SlopeChange, port.Departure.Departure}
 use Rattle.credit_shaper.specs.Departures.{sent_of}
-use Rattle.credit_shaper.specs.declared.port.Departure.{Departure}
-use Rattle.srp_base.specs.declared.bandwidth.Rate.{Rate}
-use Rattle.srp_base.specs.declared.ports.PortChange.{PortChange}
-use Rattle.frame_flow.specs.declared.frame.FrameCopy.{FrameCopy}
-use Rattle.frame_flow.specs.declared.result.Fate.{Fate}
-use Rattle.frame_flow.specs.declared.result.Fate.TheVariants.{Unbooked, NoVlan}
-use Rattle.frame_flow.specs.declared.verdicts.Verdict.{Verdict}
-use Rattle.frame_flow.specs.declared.verdicts.Verdict.TheVariants.{NotBooked, NotInVlan, MaySend}
-use Rattle.frame_flow.specs.declared.result.PortFlow.{PortFlow}
-use Rattle.frame_flow.specs.declared.place.Place.{Place}
-use Rattle.frame_flow.specs.Moments.{bits_of_ticks}
-use Rattle.frame_flow.specs.Force.{has_vid, slopes_over}
-use Rattle.frame_flow.specs.Flow.{is_unbooked, sent_fate, force_on, fate_of, fates_of, arrival_of, may_send, port_input, flow_of_copies}
-use Rattle.frame_flow.specs.Steps.{verdict_of, verdicts_of, arrivals_of, fate_by, fates_by, sent_at}
+use Rattle.srp_base.specs.declared.{bandwidth.Rate.Rate, ports.PortChange.PortChange}
+use Rattle.frame_flow.specs.{FrameCopy, Fate, Unbooked, NoVlan, Verdict, NotBooked, NotInVlan, MaySend, PortFlow, Place, bits_of_ticks, has_vid, slopes_over, is_unbooked, sent_fate, force_on, fate_of, fates_of, arrival_of, may_send, port_input, flow_of_copies, verdict_of, verdicts_of, arrivals_of, fate_by, fates_by, sent_at}
 use Rattle.frame_flow.proofs.ListFacts.{pushed-map}
 
 -- ---- fates by departures in another order

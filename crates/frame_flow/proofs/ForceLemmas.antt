@@ -1,19 +1,13 @@
 -- The slopes that a port's shaper is given are those in force.
 use Rattle.std.proofs.Common.{◌≡◌, ℕ, zero, suc, ◌+◌, ◌<◌, ◌≤◌, inl, inr, true, false, List, [], ◌∷◌, length, get_or, map, Option, Some, None, refl, sym, ◌∙◌, ap, subst, arith}
 use Rattle.std.specs.Prelude.{All, AllPairs, nat_lt, nat_le, ◌==◌, ◌&&◌, not}
-use Rattle.std.specs.List.{AllWithin}
-use Rattle.std.specs.List.Sorted.{IsNonDecreasingBy}
-use Rattle.std.proofs.lemmas.List.{get_or_default}
-use Rattle.std.proofs.lemmas.Bool.{cond-true, cond-false, cases_Bool, cases_lt, eqb-true, le-leb, lt-leb, lt-ltb, le-ltb, and_left, and_parts, and_from, not_from_false, false≢true}
-use Rattle.std.proofs.lemmas.List.Elements.{All-cons, All-head, All-tail, All-weaker}
-use Rattle.srp_base.specs.declared.bandwidth.Rate.{Rate}
+use Rattle.std.specs.{List.AllWithin, List.Sorted.IsNonDecreasingBy}
+use Rattle.std.proofs.lemmas.{List.get_or_default, Bool.cond-true, Bool.cond-false, Bool.cases_Bool, Bool.cases_lt, Bool.eqb-true, Bool.le-leb, Bool.lt-leb, Bool.lt-ltb, Bool.le-ltb, Bool.and_left, Bool.and_parts, Bool.and_from, Bool.not_from_false, Bool.false≢true, List.Elements.All-cons, List.Elements.All-head, List.Elements.All-tail, List.Elements.All-weaker}
+use Rattle.srp_base.specs.declared.{bandwidth.Rate.Rate, ports.PortChange.PortChange}
 use Rattle.srp_base.specs.declared.bandwidth.Rate.TheVariants.{M100, G1, G10}
-use Rattle.srp_base.specs.declared.ports.PortChange.{PortChange}
 use Rattle.credit_shaper.specs.declared.port.SlopeChange.{SlopeChange}
 use Rattle.credit_shaper.specs.Port.{last_change, no_slopes}
-use Rattle.frame_flow.specs.Moments.{bits_of_ticks, tick_at}
-use Rattle.frame_flow.specs.Force.{in_force, last_upto, does_change, slopes_of_change, first_slopes, later_slopes, slopes_over}
-use Rattle.frame_flow.specs.Laws.{HasSlopes}
+use Rattle.frame_flow.specs.{bits_of_ticks, tick_at, in_force, last_upto, does_change, slopes_of_change, first_slopes, later_slopes, slopes_over, HasSlopes}
 use Rattle.credit_shaper.proofs.PairLemmas.{pairs-head, pairs-tail}
 use Rattle.frame_flow.proofs.SlopeLemmas.{IsBefore, slopes-after}
 

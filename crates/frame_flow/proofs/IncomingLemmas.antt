@@ -2,40 +2,15 @@
 -- while ports of the same level get their flows.
 use Rattle.std.proofs.Common.{◌≡◌, ◌≢◌, ℕ, ◌+◌, ◌<◌, ◌≤◌, ◌⊎◌, inl, inr, Bool, true, false, List, [], ◌∷◌, ◌++◌, length, get_or, set, take, map, append-nil, Option, Some, None, refl, sym, ◌∙◌, ap, subst, arith}
 use Rattle.std.specs.Prelude.{All, not, filter_map, flat_map, sum_by, nat_lt, ◌==◌, ◌&&◌}
-use Rattle.std.specs.List.{cons_option, range_with_len}
-use Rattle.std.specs.List.Sorted.{IsPermutation}
-use Rattle.std.proofs.lemmas.Bool.{cond_both, cond-true, cond-false, cases_Bool, eq-eqb, ne_eqb, eqb-true, and_from, and_left, and_right, false≢true}
-use Rattle.std.proofs.lemmas.List.{take_more}
-use Rattle.std.proofs.lemmas.List.Elements.{filter_map-append, All-nil, All-head, All-tail, All-append, All-weaker, All-same}
-use Rattle.std.proofs.lemmas.List.FromFn.{get_or-range_with_len, length-range_with_len}
-use Rattle.std.proofs.lemmas.List.Sums.{sum_by-cons}
-use Rattle.std.proofs.lemmas.List.Sorted.{sum_by-IsPermutation, All-permutation}
-use Rattle.srp_base.specs.declared.numbers.EgressPort.{EgressPort}
-use Rattle.srp_base.specs.declared.numbers.NodeNo.{NodeNo}
-use Rattle.srp_base.specs.declared.numbers.PortNo.{PortNo}
-use Rattle.srp_base.specs.declared.bandwidth.Rate.{Rate}
+use Rattle.std.specs.{List.cons_option, List.range_with_len, List.Sorted.IsPermutation}
+use Rattle.std.proofs.lemmas.{Bool.cond_both, Bool.cond-true, Bool.cond-false, Bool.cases_Bool, Bool.eq-eqb, Bool.ne_eqb, Bool.eqb-true, Bool.and_from, Bool.and_left, Bool.and_right, Bool.false≢true, List.take_more, List.Elements.filter_map-append, List.Elements.All-nil, List.Elements.All-head, List.Elements.All-tail, List.Elements.All-append, List.Elements.All-weaker, List.Elements.All-same, List.FromFn.get_or-range_with_len, List.FromFn.length-range_with_len, List.Sums.sum_by-cons, List.Sorted.sum_by-IsPermutation, List.Sorted.All-permutation}
+use Rattle.srp_base.proofs.Lists.{All-flat_map}
+use Rattle.srp_base.specs.declared.{numbers.EgressPort.EgressPort, numbers.NodeNo.NodeNo, numbers.PortNo.PortNo, bandwidth.Rate.Rate}
 use Rattle.tree_topology.specs.declared.graph.Link.{Link}
-use Rattle.tree_topology.specs.Topology.{Topology, HasNode, HasPort}
-use Rattle.tree_topology.specs.Ports.{neighbours, peer_of}
-use Rattle.tree_topology.specs.Walk.{is_behind}
-use Rattle.tree_topology.specs.PortLaws.{HasPortLaws}
-use Rattle.frame_flow.specs.declared.frame.Frame.{Frame}
-use Rattle.frame_flow.specs.declared.frame.FrameCopy.{FrameCopy}
-use Rattle.frame_flow.specs.declared.frame.Route.{Route}
-use Rattle.frame_flow.specs.declared.frame.Route.TheVariants.{Stream, To}
-use Rattle.frame_flow.specs.declared.incoming.AtNode.{AtNode}
-use Rattle.frame_flow.specs.declared.place.Place.{Place}
-use Rattle.frame_flow.specs.declared.result.PortFlow.{PortFlow}
-use Rattle.frame_flow.specs.Moments.{bits_of_ticks, bit_from}
-use Rattle.frame_flow.specs.Force.{is_port}
-use Rattle.frame_flow.specs.Copies.{IsKnown, Reached, all_places, arriving, comes_over, copy_of, flow_at, goes_by, handed_by, in_order, port_of, ports_at, frames_reaching, sent_from}
-use Rattle.frame_flow.specs.Flow.{Setting, port_flow}
-use Rattle.frame_flow.specs.Given.{IsInOrder, IsRoute, IsSetting}
-use Rattle.frame_flow.specs.Levels.{AreAt, level_at, level_of}
-use Rattle.frame_flow.specs.Incoming.{AreSourcesBelow, Incoming, AreKept, AreOfSetting, HasArriving, incoming_at, incoming_by, incoming_of, leaving, leaving_by, station_of}
-use Rattle.frame_flow.proofs.CopyLemmas.{All-any, All-filter_map, All-flat_map, All-handed_by, All-sent_from, arriving-same, known-each}
-use Rattle.frame_flow.proofs.OrderLemmas.{IsKnownCopy, All-in_order, order-in_order, ordered-one, sorted-is, sum-in_order}
-use Rattle.frame_flow.proofs.LevelLemmas.{IsPortOf, at-index, level-read, places-are, ports-are, same-port, set-apart, source-below}
+use Rattle.tree_topology.specs.{Topology.Topology, Topology.HasNode, Topology.HasPort, Ports.neighbours, Ports.peer_of, Walk.is_behind, PortLaws.HasPortLaws}
+use Rattle.frame_flow.specs.{Frame, FrameCopy, Route, Stream, To, AtNode, Place, PortFlow, bits_of_ticks, bit_from, is_port, IsKnown, Reached, all_places, arriving, comes_over, copy_of, flow_at, goes_by, handed_by, in_order, port_of, ports_at, frames_reaching, sent_from, Setting, port_flow, IsInOrder, IsRoute, IsSetting, AreAt, level_at, level_of, AreSourcesBelow, AreKept, AreOfSetting, HasArriving, incoming_at, incoming_by, incoming_of, leaving, leaving_by, station_of}
+use Rattle.frame_flow.specs.Incoming.{Incoming}
+use Rattle.frame_flow.proofs.{CopyLemmas.All-any, CopyLemmas.All-filter_map, CopyLemmas.All-handed_by, CopyLemmas.All-sent_from, CopyLemmas.arriving-same, CopyLemmas.known-each, OrderLemmas.IsKnownCopy, OrderLemmas.All-in_order, OrderLemmas.order-in_order, OrderLemmas.ordered-one, OrderLemmas.sorted-is, OrderLemmas.sum-in_order, LevelLemmas.IsPortOf, LevelLemmas.at-index, LevelLemmas.level-read, LevelLemmas.places-are, LevelLemmas.ports-are, LevelLemmas.same-port, LevelLemmas.set-apart, LevelLemmas.source-below}
 
 -- ---- what a filter_map keeps of a list
 

@@ -1,38 +1,15 @@
 -- What is true of every flow.
 use Rattle.std.proofs.Common.{◌≡◌, ◌≢◌, ℕ, zero, suc, ◌<◌, Bool, false, cond, Option, Some, None, List, [], ◌∷◌, length, get_or, map, refl, sym, ◌∙◌, ap, subst, arith}
 use Rattle.std.specs.Prelude.{All, AllPairs, Contains, filter, find, ◌==◌, not}
-use Rattle.std.proofs.lemmas.Bool.{cond_both, cond-false, eqb-true, ne_eqb, and_left, and_right, not_from_true}
-use Rattle.std.proofs.lemmas.List.Kept.{AllPairs-filter}
-use Rattle.credit_shaper.specs.declared.shaper.Traffic.{Traffic}
-use Rattle.credit_shaper.specs.declared.port.Arrival.{Arrival}
-use Rattle.credit_shaper.specs.declared.port.Departure.{Departure}
-use Rattle.credit_shaper.specs.declared.port.PortInput.{PortInput}
+use Rattle.std.proofs.lemmas.{Bool.cond_both, Bool.cond-false, Bool.eqb-true, Bool.ne_eqb, Bool.and_left, Bool.and_right, Bool.not_from_true, List.Kept.AllPairs-filter, List.Elements.All-map, List.Elements.All-cons, List.Elements.All-filter, List.Elements.All-weaker, List.Elements.All-contains, List.Elements.Contains-get_or}
+use Rattle.srp_base.proofs.Lists.{map-map}
+use Rattle.credit_shaper.specs.declared.{shaper.Traffic.Traffic, port.Arrival.Arrival, port.Departure.Departure, port.PortInput.PortInput}
 use Rattle.srp_base.specs.declared.ports.PortChange.{PortChange}
-use Rattle.std.proofs.lemmas.List.Elements.{All-map, All-cons, All-filter, All-weaker, All-contains, Contains-get_or}
-use Rattle.tree_topology.specs.PortLaws.{HasPortLaws}
-use Rattle.credit_shaper.specs.Port.{IsPortInput, is_of}
-use Rattle.credit_shaper.specs.Departures.{sent_of, left_of, departs_as, DepartInOrder}
-use Rattle.tree_topology.specs.Topology.{HasPort}
-use Rattle.frame_flow.specs.declared.result.Fate.{Fate}
-use Rattle.frame_flow.specs.declared.result.Fate.TheVariants.{Unbooked, NoVlan}
-use Rattle.frame_flow.specs.declared.frame.FrameCopy.{FrameCopy}
-use Rattle.frame_flow.specs.declared.result.PortFlow.{PortFlow}
-use Rattle.frame_flow.specs.declared.place.Place.{Place}
-use Rattle.frame_flow.specs.Force.{changes_at, has_vid}
-use Rattle.frame_flow.specs.Copies.{all_places, arriving}
-use Rattle.frame_flow.specs.Flow.{Setting, IsFlow, port_flow, force_on, fate_of, port_input, is_unbooked, may_send, sent_fate, arrival_of}
-use Rattle.frame_flow.specs.Given.{IsSetting}
-use Rattle.frame_flow.specs.Laws.{arriving_numbers, fate_numbers, AreDifferent, departures_numbered, IsOutcome, HasOutcomes}
-use Rattle.frame_flow.proofs.SlopeLemmas.{port-input}
-use Rattle.frame_flow.proofs.LevelLemmas.{places-are}
-use Rattle.frame_flow.proofs.OnceLemmas.{DifferFates, DifferCopies, once-each, once-copies}
+use Rattle.tree_topology.specs.{PortLaws.HasPortLaws, Topology.HasPort}
+use Rattle.credit_shaper.specs.{Port.IsPortInput, Port.is_of, Departures.sent_of, Departures.left_of, Departures.departs_as, Departures.DepartInOrder}
+use Rattle.frame_flow.specs.{Fate, Unbooked, NoVlan, FrameCopy, PortFlow, Place, changes_at, has_vid, all_places, arriving, Setting, IsFlow, port_flow, force_on, fate_of, port_input, is_unbooked, may_send, sent_fate, arrival_of, IsSetting, arriving_numbers, fate_numbers, AreDifferent, departures_numbered, IsOutcome, HasOutcomes}
+use Rattle.frame_flow.proofs.{SlopeLemmas.port-input, LevelLemmas.places-are, OnceLemmas.DifferFates, OnceLemmas.DifferCopies, OnceLemmas.once-each, OnceLemmas.once-copies, CopyLemmas.All-find, DepartureFacts.HasTraffic, DepartureFacts.DifferDepartures, DepartureFacts.sent-known, DepartureFacts.sent-apart, DepartureFacts.none-of, DepartureFacts.unfound, DepartureFacts.found-only}
 use Rattle.credit_shaper.proofs.PairLemmas.{AllPairs-map, pairs-head, pairs-tail}
-use Rattle.frame_flow.proofs.CopyLemmas.{All-find}
-use Rattle.frame_flow.proofs.DepartureFacts.{HasTraffic, DifferDepartures, sent-known, sent-apart, none-of, unfound, found-only}
-
-map-map : {X Y Z : Type 0} (f : Y → Z) (g : X → Y) (xs : List X) → map f (map g xs) ≡ map (λ x. f (g x)) xs
-map-map f g [] = refl
-map-map {X} {Y} {Z} f g (x ∷ xs) = ap (λ (t : List Z). f (g x) ∷ t) (map-map f g xs)
 
 map-along : {X Y : Type 0} (f g : X → Y) → ((x : X) → f x ≡ g x) → (xs : List X) → map f xs ≡ map g xs
 map-along f g each [] = refl

@@ -3,27 +3,12 @@
 use Rattle.std.proofs.Common.{◌≡◌, ◌≢◌, ℕ, zero, suc, ◌+◌, ◌-◌, ◌<◌, ◌≤◌, inl, inr, true, false, List, [], ◌∷◌, length, get_or, set, map, Some, refl, sym, ◌∙◌, ap, subst, arith}
 use Rattle.std.specs.Prelude.{All, ◌==◌}
 use Rattle.std.specs.List.{range_with_len}
-use Rattle.std.proofs.lemmas.Bool.{cond-true, cond-false, cases_Bool, cases_lt, cases_eq, eq-eqb, eqb-true, and_from, and_parts, false≢true}
-use Rattle.std.proofs.lemmas.List.{get_or-map, get_or-set_same, get_or-set_other, get_or_default, length-map, map-set, set-get_or, same_lists, set_past}
-use Rattle.std.proofs.lemmas.List.Elements.{All-nil, All-cons, All-head, All-tail, All-map, All-weaker}
-use Rattle.std.proofs.lemmas.List.Folds.{find_past}
-use Rattle.std.proofs.lemmas.List.FromFn.{get_or-range_with_len, length-range_with_len}
-use Rattle.std.proofs.lemmas.List.Sums.{count_by-le-length}
-use Rattle.srp_base.specs.declared.numbers.EgressPort.{EgressPort}
-use Rattle.srp_base.specs.declared.bandwidth.Rate.{Rate}
-use Rattle.srp_base.specs.declared.bandwidth.Rate.TheVariants.{M100}
-use Rattle.tree_topology.specs.Topology.{Topology, HasNode, HasLink, HasPort}
-use Rattle.tree_topology.specs.Ports.{neighbours, far_node, peer_of, ends_of}
-use Rattle.tree_topology.specs.Walk.{is_behind}
-use Rattle.tree_topology.specs.PortLaws.{HasPortLaws}
-use Rattle.frame_flow.specs.declared.result.PortFlow.{PortFlow}
-use Rattle.frame_flow.specs.declared.place.Place.{Place}
-use Rattle.frame_flow.specs.declared.frame.FrameCopy.{FrameCopy}
-use Rattle.frame_flow.specs.Force.{is_port, changes_at}
-use Rattle.frame_flow.specs.Copies.{all_places, places_of_link, ports_at, port_of, flow_at}
-use Rattle.frame_flow.specs.Flow.{Setting, IsFlow, port_flow, flow_of_copies}
-use Rattle.frame_flow.specs.Levels.{level_at, level_of, ArePorts, AreAt, AreDoneBefore, IsGoneOverBefore}
-use Rattle.frame_flow.proofs.CopyLemmas.{All-flat_map, arriving-same}
+use Rattle.std.proofs.lemmas.{Bool.cond-true, Bool.cond-false, Bool.cases_Bool, Bool.cases_lt, Bool.cases_eq, Bool.eq-eqb, Bool.eqb-true, Bool.and_from, Bool.and_parts, Bool.false≢true, List.get_or-map, List.get_or-set_same, List.get_or-set_other, List.get_or_default, List.length-map, List.map-set, List.set-get_or, List.same_lists, List.set_past, List.Elements.All-nil, List.Elements.All-cons, List.Elements.All-head, List.Elements.All-tail, List.Elements.All-map, List.Elements.All-weaker, List.Folds.find_past, List.FromFn.get_or-range_with_len, List.FromFn.length-range_with_len, List.Sums.count_by-le-length}
+use Rattle.srp_base.proofs.Lists.{map-same, All-flat_map}
+use Rattle.srp_base.specs.declared.{numbers.EgressPort.EgressPort, bandwidth.Rate.Rate, bandwidth.Rate.TheVariants.M100}
+use Rattle.tree_topology.specs.{Topology.Topology, Topology.HasNode, Topology.HasLink, Topology.HasPort, Ports.neighbours, Ports.far_node, Ports.peer_of, Ports.ends_of, Walk.is_behind, PortLaws.HasPortLaws}
+use Rattle.frame_flow.specs.{PortFlow, Place, FrameCopy, is_port, changes_at, all_places, places_of_link, ports_at, port_of, flow_at, Setting, IsFlow, port_flow, flow_of_copies, level_at, level_of, ArePorts, AreAt, AreDoneBefore, IsGoneOverBefore}
+use Rattle.frame_flow.proofs.CopyLemmas.{arriving-same}
 
 -- ---- ports
 
@@ -313,12 +298,6 @@ agree-all s laws one other is_one is_other (suc m) q port lt =
     ap (λ (t : List PortFlow). flow_at t q) is_one.each
     ∙ find-map-same (port_flow s one) (port_flow s other) q (λ x. refl) (λ x. refl) places each
     ∙ sym (ap (λ (t : List PortFlow). flow_at t q) is_other.each)
-
-map-same : {X Y : Type 0} (f g : X → Y) (xs : List X) → All (λ x. f x ≡ g x) xs → map f xs ≡ map g xs
-map-same f g [] all = refl
-map-same {X} {Y} f g (x ∷ xs) all =
-    let P : X → Type 0 = λ t. f t ≡ g t in
-    ap (λ (t : Y). t ∷ map f xs) (All-head P x xs all) ∙ ap (λ (t : List Y). g x ∷ t) (map-same f g xs (All-tail P x xs all))
 
 pub one_flow : (s : Setting) → HasPortLaws s.tree → (one other : List PortFlow) → IsFlow s one → IsFlow s other → one ≡ other
 one_flow s laws one other is_one is_other =

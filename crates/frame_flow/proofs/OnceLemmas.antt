@@ -1,35 +1,16 @@
 -- Why a frame reaches a port at most once: its station lies behind one port of each other node.
-use Rattle.std.proofs.Common.{◌≡◌, ◌≢◌, ℕ, zero, suc, ◌+◌, ◌<◌, inl, inr, Bool, true, false, not, List, [], ◌∷◌, length, get_or, map, Option, Some, None, refl, sym, ◌∙◌, ap, subst, arith}
+use Rattle.std.proofs.Common.{◌≡◌, ◌≢◌, ℕ, zero, suc, ◌+◌, ◌<◌, inl, inr, Bool, true, false, List, [], ◌∷◌, length, get_or, map, Option, Some, None, refl, sym, ◌∙◌, ap, subst, arith}
 use Rattle.std.specs.Prelude.{All, AllPairs, filter, filter_map, flat_map, ◌==◌}
 use Rattle.std.specs.List.{cons_option}
-use Rattle.std.proofs.lemmas.Bool.{cond_both, cases_Bool, eqb-true, false≢true}
-use Rattle.std.proofs.lemmas.List.Elements.{All-nil, All-cons, All-head, All-tail, All-append, All-map, All-weaker, filter_passes}
-use Rattle.std.proofs.lemmas.List.Kept.{AllPairs-cons, AllPairs-filter}
-use Rattle.std.proofs.lemmas.List.FromFn.{get_or-map-range_with_len, length-map-range_with_len}
-use Rattle.srp_base.specs.declared.numbers.EgressPort.{EgressPort}
-use Rattle.srp_base.specs.declared.bandwidth.Rate.{Rate}
+use Rattle.std.proofs.lemmas.{Bool.cond_both, Bool.cases_Bool, Bool.eqb-true, Bool.false≢true, List.Elements.All-nil, List.Elements.All-cons, List.Elements.All-head, List.Elements.All-tail, List.Elements.All-append, List.Elements.All-map, List.Elements.All-weaker, List.Elements.filter_passes, List.Kept.AllPairs-cons, List.Kept.AllPairs-filter, List.FromFn.get_or-map-range_with_len, List.FromFn.length-map-range_with_len}
+use Rattle.srp_base.proofs.{Bools.not-true-false as not-false, Lists.All-flat_map}
+use Rattle.srp_base.specs.declared.{numbers.EgressPort.EgressPort, bandwidth.Rate.Rate}
 use Rattle.tree_topology.specs.declared.graph.Link.{Link}
-use Rattle.tree_topology.specs.Topology.{Topology, HasNode, HasPort}
-use Rattle.tree_topology.specs.Ports.{neighbours, peer_of}
-use Rattle.tree_topology.specs.Walk.{is_behind}
-use Rattle.tree_topology.specs.PortLaws.{HasPortLaws}
-use Rattle.frame_flow.specs.declared.frame.Frame.{Frame}
-use Rattle.frame_flow.specs.declared.frame.FrameCopy.{FrameCopy}
-use Rattle.frame_flow.specs.declared.result.Fate.{Fate}
-use Rattle.frame_flow.specs.declared.result.Fate.TheVariants.{Unbooked, NoVlan, Departed, Left}
-use Rattle.frame_flow.specs.declared.result.PortFlow.{PortFlow}
-use Rattle.frame_flow.specs.declared.place.Place.{Place}
-use Rattle.frame_flow.specs.Moments.{moment_of}
-use Rattle.frame_flow.specs.Force.{is_port, changes_at}
-use Rattle.frame_flow.specs.Copies.{IsKnown, Reached, all_places, sent_from, frame_of, reached_at, handed_on, handed_by, comes_over, flow_at, frames_reaching, ports_at, port_of, copy_of, is_not_after, with_copy, in_order, arriving}
-use Rattle.frame_flow.specs.Flow.{Setting, IsFlow, port_flow, force_on, fate_of, port_input}
+use Rattle.tree_topology.specs.{Topology.Topology, Topology.HasNode, Topology.HasPort, Ports.neighbours, Ports.peer_of, Walk.is_behind, PortLaws.HasPortLaws}
+use Rattle.frame_flow.specs.{Frame, FrameCopy, Fate, Unbooked, NoVlan, Departed, Left, PortFlow, Place, moment_of, is_port, changes_at, IsKnown, Reached, all_places, sent_from, frame_of, reached_at, handed_on, handed_by, comes_over, flow_at, frames_reaching, ports_at, port_of, copy_of, is_not_after, with_copy, in_order, arriving, Setting, IsFlow, port_flow, force_on, fate_of, port_input, level_at, IsSetting, IsFrame}
 use Rattle.credit_shaper.specs.Departures.{sent_of}
 use Rattle.credit_shaper.proofs.PairLemmas.{AllPairs-map, pairs-append, pairs-head, pairs-none, pairs-tail}
-use Rattle.frame_flow.specs.Levels.{level_at}
-use Rattle.frame_flow.specs.Given.{IsSetting, IsFrame}
-use Rattle.frame_flow.proofs.OrderLemmas.{All-with_copy, All-in_order}
-use Rattle.frame_flow.proofs.CopyLemmas.{All-find, All-flat_map, All-filter_map, All-any, All-sent_from, All-handed_by, All-arriving, known-each, copy-is}
-use Rattle.frame_flow.proofs.LevelLemmas.{same-port, port-itself, IsPortOf, source-below, ports-are, places-are}
+use Rattle.frame_flow.proofs.{OrderLemmas.All-with_copy, OrderLemmas.All-in_order, CopyLemmas.All-find, CopyLemmas.All-filter_map, CopyLemmas.All-any, CopyLemmas.All-sent_from, CopyLemmas.All-handed_by, CopyLemmas.All-arriving, CopyLemmas.known-each, CopyLemmas.copy-is, LevelLemmas.same-port, LevelLemmas.port-itself, LevelLemmas.IsPortOf, LevelLemmas.source-below, LevelLemmas.ports-are, LevelLemmas.places-are}
 
 -- ---- pairs of a list's elements
 
@@ -151,10 +132,6 @@ AreOnce s flows p =
 record IsOver (s : Setting) (r : EgressPort) (t : Reached) : Type 0 where
   behind : is_behind s.tree.links r t.frame.from.0 ≡ true
   known : IsKnown s.frames t.frame
-
-not-false : (b : Bool) → not b ≡ false → b ≡ true
-not-false true e = refl
-not-false false e = sym e
 
 stations : (s : Setting) → IsSetting s → All (λ f. HasNode s.tree f.from.0) s.frames
 stations s given = All-weaker (IsFrame s.tree s.ticks) (λ f. HasNode s.tree f.from.0) (λ f h. h.from) s.frames given.range.frames

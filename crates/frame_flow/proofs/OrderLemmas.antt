@@ -1,22 +1,11 @@
 -- Copies in order: there is one list of the same copies that is, `in_order` of them.
 use Rattle.std.proofs.Common.{◌≡◌, ℕ, ◌+◌, ◌<◌, ◌≤◌, ◌⊎◌, inl, inr, Bool, true, false, cond, List, [], ◌∷◌, length, get_or, Some, refl, sym, ◌∙◌, ap, arith}
 use Rattle.std.specs.Prelude.{All, sum_by, nat_lt, nat_le, ◌==◌, ◌&&◌, ◌||◌}
-use Rattle.std.specs.List.{AllAdjacentBelow}
-use Rattle.std.specs.List.Sorted.{IsPermutation, IsSortedByKey}
-use Rattle.std.specs.Cmp.{IsTotalOrder, nat_cmp_total, on_total, then_total}
-use Rattle.std.specs.Ordering.{nat_cmp, ordering_then, is_lt}
-use Rattle.std.specs.declared.cmp.Ordering.{Ordering}
-use Rattle.std.specs.declared.cmp.Ordering.TheVariants.{Less, Equal, Greater}
-use Rattle.std.proofs.lemmas.Bool.{cond_both, cond-true, cond-false, cases_Bool, cases_lt, cases_order, lt-ltb, le-ltb, eq-eqb, ne_eqb, le-leb, lt-leb, or_left, or_right, or_from, and_from, and_left, and_right, false≢true}
-use Rattle.std.proofs.lemmas.List.Sums.{sum_by-cons}
-use Rattle.std.proofs.lemmas.List.Sorted.{IsPermutation-refl, IsPermutation-sym, IsPermutation-trans, IsPermutation-cons, IsPermutation-middle, sum_by-IsPermutation, All-permutation, sorted_far, ranks_by}
-use Rattle.std.proofs.lemmas.List.Elements.{All-nil, All-cons, All-head, All-tail, All-weaker}
-use Rattle.std.proofs.lemmas.List.Kept.{AllPairs-cons}
+use Rattle.std.specs.{List.AllAdjacentBelow, List.Sorted.IsPermutation, List.Sorted.IsSortedByKey, Cmp.IsTotalOrder, Cmp.nat_cmp_total, Cmp.on_total, Cmp.then_total, Ordering.nat_cmp, Ordering.ordering_then, Ordering.is_lt, declared.cmp.Ordering.Ordering}
+use Rattle.std.proofs.lemmas.{Bool.cond_both, Bool.cases_Bool, Bool.cases_lt, Bool.cases_order, Bool.lt-ltb, Bool.le-ltb, Bool.eq-eqb, Bool.ne_eqb, Bool.le-leb, Bool.lt-leb, Bool.or_left, Bool.or_right, Bool.or_from, Bool.and_from, Bool.and_left, Bool.and_right, Bool.false≢true, List.Sums.sum_by-cons, List.Sorted.IsPermutation-refl, List.Sorted.IsPermutation-sym, List.Sorted.IsPermutation-trans, List.Sorted.IsPermutation-cons, List.Sorted.IsPermutation-middle, List.Sorted.sum_by-IsPermutation, List.Sorted.All-permutation, List.Sorted.sorted_far, List.Sorted.ranks_by, List.Elements.All-nil, List.Elements.All-cons, List.Elements.All-head, List.Elements.All-tail, List.Elements.All-weaker, List.Kept.AllPairs-cons}
+use Rattle.srp_base.proofs.Arithmetic.{less_is_below as cmp-less, same_is_equal as cmp-equal}
 use Rattle.credit_shaper.proofs.PairLemmas.{pairs-head, pairs-tail, pairs-none, pairs-from-adjacent}
-use Rattle.frame_flow.specs.declared.frame.Frame.{Frame}
-use Rattle.frame_flow.specs.declared.frame.FrameCopy.{FrameCopy}
-use Rattle.frame_flow.specs.Copies.{IsKnown, is_not_after, with_copy, in_order, frame_of}
-use Rattle.frame_flow.specs.Given.{IsInOrder}
+use Rattle.frame_flow.specs.{Frame, FrameCopy, IsKnown, is_not_after, with_copy, in_order, frame_of, IsInOrder}
 
 -- ---- pairs of numbers, by the first and then by the second
 
@@ -102,13 +91,6 @@ key_cmp x y = ordering_then (nat_cmp x.0 y.0) (nat_cmp x.1 y.1)
 
 pub key-total : IsTotalOrder key_cmp
 key-total = then_total (on_total (λ (p : ℕ × ℕ). p.0) nat_cmp_total) (on_total (λ (p : ℕ × ℕ). p.1) nat_cmp_total)
-
-cmp-less : (a b : ℕ) → a < b → nat_cmp a b ≡ Less
-cmp-less a b h = cond-true (nat_lt a b) Less (cond (a == b) Equal Greater) (lt-ltb a b h)
-
-cmp-equal : (a b : ℕ) → a ≡ b → nat_cmp a b ≡ Equal
-cmp-equal a b e =
-    cond-false (nat_lt a b) Less (cond (a == b) Equal Greater) (le-ltb a b (omega arith)) ∙ cond-true (a == b) Equal Greater (eq-eqb a b e)
 
 pub lex-from_cmp : (a b c d : ℕ) → is_lt (ordering_then (nat_cmp c a) (nat_cmp d b)) ≡ false → lex a b c d ≡ true
 lex-from_cmp a b c d nay =

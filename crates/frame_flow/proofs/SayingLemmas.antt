@@ -1,36 +1,15 @@
 -- Two lists of changes that say the same of a port in each tick give its shaper the same, and its copies the same fates.
 use Rattle.std.proofs.Common.{◌≡◌, ℕ, zero, suc, ◌+◌, ◌-◌, ◌<◌, ◌≤◌, Bool, inl, inr, true, false, List, [], ◌∷◌, map, filter, find, Option, Some, None, cond, refl, sym, ◌∙◌, ap, subst, arith}
 use Rattle.std.specs.Prelude.{All, AllPairs, nat_lt, nat_le, ◌==◌, ◌&&◌, not}
-use Rattle.std.proofs.lemmas.Bool.{cond-true, cond-false, cases_Bool, cases_lt, eq-eqb, le-leb, le-ltb, and_left, and_right, and_parts, and_from, false≢true}
-use Rattle.std.proofs.lemmas.List.Elements.{All-nil, All-cons, All-head, All-tail, All-weaker}
-use Rattle.srp_base.specs.declared.bandwidth.Rate.{Rate}
-use Rattle.srp_base.specs.declared.numbers.EgressPort.{EgressPort}
-use Rattle.srp_base.specs.declared.ports.PortChange.{PortChange}
-use Rattle.credit_shaper.specs.declared.port.Departure.{Departure}
-use Rattle.credit_shaper.specs.declared.port.PortInput.{PortInput}
-use Rattle.credit_shaper.specs.declared.port.SlopeChange.{SlopeChange}
+use Rattle.std.proofs.lemmas.{Bool.cond-true, Bool.cond-false, Bool.cases_Bool, Bool.cases_lt, Bool.eq-eqb, Bool.le-leb, Bool.le-ltb, Bool.and_left, Bool.and_right, Bool.and_parts, Bool.and_from, Bool.false≢true, List.Elements.All-nil, List.Elements.All-cons, List.Elements.All-head, List.Elements.All-tail, List.Elements.All-weaker}
+use Rattle.srp_base.proofs.Lists.{map-same as map_same}
+use Rattle.srp_base.specs.declared.{bandwidth.Rate.Rate, numbers.EgressPort.EgressPort, ports.PortChange.PortChange}
+use Rattle.credit_shaper.specs.declared.{port.Departure.Departure, port.PortInput.PortInput, port.SlopeChange.SlopeChange}
 use Rattle.credit_shaper.specs.Departures.{sent_of}
 use Rattle.credit_shaper.proofs.PairLemmas.{pairs-head, pairs-tail}
-use Rattle.tree_topology.specs.Topology.{HasPort}
-use Rattle.tree_topology.specs.PortLaws.{HasPortLaws}
-use Rattle.frame_flow.specs.declared.frame.Frame.{Frame}
-use Rattle.frame_flow.specs.declared.frame.FrameCopy.{FrameCopy}
-use Rattle.frame_flow.specs.declared.frame.Route.{Route}
-use Rattle.frame_flow.specs.declared.frame.Route.TheVariants.{Stream, To}
-use Rattle.frame_flow.specs.declared.place.Place.{Place}
-use Rattle.frame_flow.specs.declared.result.Fate.{Fate}
-use Rattle.frame_flow.specs.declared.result.Fate.TheVariants.{Unbooked, NoVlan}
-use Rattle.frame_flow.specs.declared.result.PortFlow.{PortFlow}
-use Rattle.frame_flow.specs.Moments.{bits_of_ticks, tick_at}
-use Rattle.frame_flow.specs.Force.{changes_at, does_change, first_slopes, has_vid, in_force, last_upto, later_slopes, slopes_of_change, slopes_over}
-use Rattle.frame_flow.specs.Copies.{all_places, arriving}
-use Rattle.frame_flow.specs.Flow.{Setting, IsFlow, arrival_of, fate_of, fates_of, flow_of_copies, force_on, is_unbooked, may_send, port_flow, port_input, sent_fate}
-use Rattle.frame_flow.specs.Given.{IsEarlier}
-use Rattle.frame_flow.specs.Laws.{IsSameForce, SayTheSame}
-use Rattle.frame_flow.proofs.CopyLemmas.{IsArrived, All-arriving}
-use Rattle.frame_flow.proofs.ForceLemmas.{not-begun, same-slopes, upto-later}
-use Rattle.frame_flow.proofs.LevelLemmas.{places-are}
-use Rattle.frame_flow.proofs.SlopeLemmas.{IsBefore, changes-ascend}
+use Rattle.tree_topology.specs.{Topology.HasPort, PortLaws.HasPortLaws}
+use Rattle.frame_flow.specs.{Frame, FrameCopy, Route, Stream, To, Place, Fate, Unbooked, NoVlan, PortFlow, bits_of_ticks, tick_at, changes_at, does_change, first_slopes, has_vid, in_force, last_upto, later_slopes, slopes_of_change, slopes_over, all_places, arriving, Setting, IsFlow, arrival_of, fate_of, fates_of, flow_of_copies, force_on, is_unbooked, may_send, port_flow, port_input, sent_fate, IsEarlier, IsSameForce, SayTheSame}
+use Rattle.frame_flow.proofs.{CopyLemmas.IsArrived, CopyLemmas.All-arriving, ForceLemmas.not-begun, ForceLemmas.same-slopes, ForceLemmas.upto-later, LevelLemmas.places-are, SlopeLemmas.IsBefore, SlopeLemmas.changes-ascend}
 
 -- ---- the slopes that a shaper is given, tick by tick
 
@@ -222,12 +201,6 @@ filter_same {X} p q (x ∷ xs) all =
     let rest = filter_same p q xs (All-tail P x xs all) in
     ap (λ (b : Bool). cond b (x ∷ filter p xs) (filter p xs)) (All-head P x xs all)
     ∙ ap (λ (l : List X). cond (q x) (x ∷ l) l) rest
-
-map_same : {X Y : Type 0} (f g : X → Y) (xs : List X) → All (λ x. f x ≡ g x) xs → map f xs ≡ map g xs
-map_same f g [] all = refl
-map_same {X} {Y} f g (x ∷ xs) all =
-    let P : X → Type 0 = λ y. f y ≡ g y in
-    ap (λ (y : Y). y ∷ map f xs) (All-head P x xs all) ∙ ap (λ (l : List Y). g x ∷ l) (map_same f g xs (All-tail P x xs all))
 
 -- what a port's shaper is given, and the fates of its copies
 copies_same : (ticks : ℕ) (place : Place) (cs ds : List PortChange) (copies : List FrameCopy) → slopes_over place.rate ticks cs ≡ slopes_over place.rate ticks ds

@@ -2,30 +2,17 @@
 use Rattle.std.proofs.Common.{◌≡◌, ℕ, ◌+◌, ◌^◌, ◌<◌, ◌≤◌, inl, inr, Bool, true, cond, List, [], ◌∷◌, length, get_or, map, Option, Some, None, refl, sym, ◌∙◌, ap, subst, arith}
 use Rattle.std.specs.Prelude.{All, AllPairs, Contains, filter, nat_lt, nat_le, ◌==◌, ◌&&◌, not}
 use Rattle.std.specs.List.{AllAdjacentBelow}
-use Rattle.std.proofs.lemmas.Bool.{cond_both, eqb-true, ltb-true, and_parts}
+use Rattle.std.proofs.lemmas.{Bool.cond_both, Bool.eqb-true, Bool.ltb-true, Bool.and_parts, List.Elements.All-nil, List.Elements.All-cons, List.Elements.All-head, List.Elements.All-tail, List.Elements.All-map, List.Elements.All-filter, List.Elements.All-weaker, List.Elements.All-contains, List.Elements.filter_passes, List.Kept.AllPairs-cons, List.Kept.AllPairs-filter}
 use Rattle.std.proofs.Math.Nat.{mul-lt-mul_of_pos_right}
 use Rattle.std.proofs.Math.Dec.{lit<}
-use Rattle.std.proofs.lemmas.List.Elements.{All-nil, All-cons, All-head, All-tail, All-map, All-filter, All-weaker, All-contains, filter_passes}
-use Rattle.std.proofs.lemmas.List.Kept.{AllPairs-cons, AllPairs-filter}
-use Rattle.srp_base.specs.declared.numbers.EgressPort.{EgressPort}
-use Rattle.srp_base.specs.declared.bandwidth.Rate.{Rate}
+use Rattle.srp_base.specs.declared.{numbers.EgressPort.EgressPort, bandwidth.Rate.Rate, ports.PortChange.PortChange}
 use Rattle.srp_base.specs.declared.bandwidth.Rate.TheVariants.{M100, G1, G10}
-use Rattle.srp_base.specs.declared.ports.PortChange.{PortChange}
 use Rattle.srp_base.specs.Bandwidth.{bits_of}
 use Rattle.credit_shaper.specs.declared.port.SlopeChange.{SlopeChange}
 use Rattle.credit_shaper.specs.Port.{IsPortInput, AreSlopes, AreArrivals, IsNotAfter, IsFrameSize}
 use Rattle.credit_shaper.proofs.PairLemmas.{AllPairs-map, AllPairs-weaker, pairs-from-adjacent, pairs-head, pairs-none, pairs-tail}
-use Rattle.frame_flow.specs.declared.frame.Frame.{Frame}
-use Rattle.frame_flow.specs.declared.frame.FrameCopy.{FrameCopy}
-use Rattle.frame_flow.specs.declared.place.Place.{Place}
-use Rattle.frame_flow.specs.Moments.{tick_bits_of, bits_of_ticks}
-use Rattle.frame_flow.specs.Force.{is_port, changes_at, in_force, last_upto, does_change, slopes_of_change, first_slopes, later_slopes, slopes_over}
-use Rattle.frame_flow.specs.declared.result.PortFlow.{PortFlow}
-use Rattle.frame_flow.specs.Copies.{is_not_after, all_places, arriving}
-use Rattle.frame_flow.specs.Flow.{Setting, arrival_of, may_send, force_on, port_input}
-use Rattle.frame_flow.specs.Given.{IsInOrder, IsEarlier, IsFrame, IsSetting, HasSlopesBelow}
-use Rattle.frame_flow.proofs.OrderLemmas.{lex-is}
-use Rattle.frame_flow.proofs.CopyLemmas.{IsArrived, All-arriving, order-arriving}
+use Rattle.frame_flow.specs.{Frame, FrameCopy, Place, tick_bits_of, bits_of_ticks, is_port, changes_at, in_force, last_upto, does_change, slopes_of_change, first_slopes, later_slopes, slopes_over, PortFlow, is_not_after, all_places, arriving, Setting, arrival_of, may_send, force_on, port_input, IsInOrder, IsEarlier, IsFrame, IsSetting, HasSlopesBelow}
+use Rattle.frame_flow.proofs.{OrderLemmas.lex-is, CopyLemmas.IsArrived, CopyLemmas.All-arriving, CopyLemmas.order-arriving}
 
 -- ---- slopes
 

@@ -4,22 +4,11 @@
 --   what leaves q, the peer of another port of p.node -+--> p: in order of bit time, ties by number
 use Rattle.std.specs.Prelude.{◌≡◌, ℕ, ◌-◌, Bool, true, ◌==◌, ◌&&◌, ◌||◌, nat_le, nat_lt, List, [], ◌∷◌, ◌++◌, length, map, filter, filter_map, find, flat_map, Option, Some, None, if◌then◌else◌, slice_index_or}
 use Rattle.std.specs.List.{range_with_len}
-use Rattle.srp_base.specs.declared.numbers.EgressPort.{EgressPort}
-use Rattle.srp_base.specs.declared.bandwidth.Rate.{Rate}
-use Rattle.srp_base.specs.declared.bandwidth.Rate.TheVariants.{M100}
+use Rattle.srp_base.specs.declared.{numbers.EgressPort.EgressPort, bandwidth.Rate.Rate, bandwidth.Rate.TheVariants.M100}
 use Rattle.tree_topology.specs.declared.graph.Link.{Link}
-use Rattle.tree_topology.specs.Ports.{neighbours, peer_of, ends_of}
-use Rattle.tree_topology.specs.Walk.{is_behind}
-use Rattle.frame_flow.specs.declared.frame.Frame.{Frame}
-use Rattle.frame_flow.specs.declared.frame.Route.{Route}
-use Rattle.frame_flow.specs.declared.frame.Route.TheVariants.{Stream, To}
-use Rattle.frame_flow.specs.declared.frame.FrameCopy.{FrameCopy}
-use Rattle.frame_flow.specs.declared.result.Fate.{Fate}
-use Rattle.frame_flow.specs.declared.result.Fate.TheVariants.{Departed}
-use Rattle.frame_flow.specs.declared.result.PortFlow.{PortFlow}
-use Rattle.frame_flow.specs.declared.place.Place.{Place}
-use Rattle.frame_flow.specs.Moments.{bits_of_ticks, bit_from, moment_of}
-use Rattle.frame_flow.specs.Force.{is_port}
+use Rattle.tree_topology.specs.{Ports.neighbours, Ports.peer_of, Ports.ends_of, Walk.is_behind}
+use Rattle.frame_flow.specs.declared.{frame.Frame.Frame, frame.Route.Route, frame.Route.TheVariants.Stream, frame.Route.TheVariants.To, frame.FrameCopy.FrameCopy, result.Fate.Fate, result.Fate.TheVariants.Departed, result.PortFlow.PortFlow, place.Place.Place}
+use Rattle.frame_flow.specs.{Moments.bits_of_ticks, Moments.bit_from, Moments.moment_of, Force.is_port}
 
 -- the two ports of a link, the end `a` first, with its rate
 abbrev pub places_of_link : List Link → List Rate → ℕ → List Place

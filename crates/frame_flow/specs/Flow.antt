@@ -2,26 +2,13 @@
 -- the frames and the other ports' departures give it; its shaper is given those that it may send, and
 -- their fates are what the shaper makes of them.
 use Rattle.std.specs.Prelude.{◌≡◌, ℕ, Bool, false, not, ◌==◌, ◌&&◌, List, map, filter, find, Option, Some, None, if◌then◌else◌}
-use Rattle.srp_base.specs.declared.bandwidth.Rate.{Rate}
-use Rattle.srp_base.specs.declared.ports.PortChange.{PortChange}
-use Rattle.credit_shaper.specs.declared.shaper.Traffic.{Traffic}
-use Rattle.credit_shaper.specs.declared.shaper.Traffic.TheVariants.{Other}
-use Rattle.credit_shaper.specs.declared.port.Arrival.{Arrival}
-use Rattle.credit_shaper.specs.declared.port.PortInput.{PortInput}
-use Rattle.credit_shaper.specs.declared.port.Departure.{Departure}
+use Rattle.srp_base.specs.declared.{bandwidth.Rate.Rate, ports.PortChange.PortChange}
+use Rattle.credit_shaper.specs.declared.{shaper.Traffic.Traffic, shaper.Traffic.TheVariants.Other, port.Arrival.Arrival, port.PortInput.PortInput, port.Departure.Departure}
 use Rattle.credit_shaper.specs.Departures.{sent_of}
 use Rattle.tree_topology.specs.Topology.{Topology}
-use Rattle.frame_flow.specs.declared.frame.Frame.{Frame}
-use Rattle.frame_flow.specs.declared.frame.Route.{Route}
-use Rattle.frame_flow.specs.declared.frame.Route.TheVariants.{Stream, To}
-use Rattle.frame_flow.specs.declared.frame.FrameCopy.{FrameCopy}
-use Rattle.frame_flow.specs.declared.result.Fate.{Fate}
+use Rattle.frame_flow.specs.declared.{frame.Frame.Frame, frame.Route.Route, frame.Route.TheVariants.Stream, frame.Route.TheVariants.To, frame.FrameCopy.FrameCopy, result.Fate.Fate, result.PortFlow.PortFlow, place.Place.Place}
 use Rattle.frame_flow.specs.declared.result.Fate.TheVariants.{Unbooked, NoVlan, Departed, Left}
-use Rattle.frame_flow.specs.declared.result.PortFlow.{PortFlow}
-use Rattle.frame_flow.specs.declared.place.Place.{Place}
-use Rattle.frame_flow.specs.Moments.{bits_of_ticks, tick_at}
-use Rattle.frame_flow.specs.Force.{changes_at, in_force, has_booked, has_vid, slopes_over}
-use Rattle.frame_flow.specs.Copies.{all_places, arriving}
+use Rattle.frame_flow.specs.{Moments.bits_of_ticks, Moments.tick_at, Force.changes_at, Force.in_force, Force.has_booked, Force.has_vid, Force.slopes_over, Copies.all_places, Copies.arriving}
 
 -- what a flow is asked of: a tree, the rate of each of its links, what was in force at its ports, the
 -- frames, and the number of ticks

@@ -2,10 +2,7 @@
 -- 802.1Q-2018, 34.3) and the VIDs that are registered there (11.2).
 use Rattle.std.specs.Prelude.{ℕ, Bool, false, not, ◌==◌, ◌&&◌, nat_le, nat_lt, List, [], ◌∷◌, filter, Option, Some, None, if◌then◌else◌}
 use Rattle.std.specs.List.{list_any}
-use Rattle.srp_base.specs.declared.numbers.EgressPort.{EgressPort}
-use Rattle.srp_base.specs.declared.numbers.StreamId.{StreamId}
-use Rattle.srp_base.specs.declared.bandwidth.Rate.{Rate}
-use Rattle.srp_base.specs.declared.ports.PortChange.{PortChange}
+use Rattle.srp_base.specs.declared.{numbers.EgressPort.EgressPort, numbers.StreamId.StreamId, bandwidth.Rate.Rate, ports.PortChange.PortChange}
 use Rattle.credit_shaper.specs.declared.port.SlopeChange.{SlopeChange}
 use Rattle.frame_flow.specs.Moments.{bits_of_ticks}
 

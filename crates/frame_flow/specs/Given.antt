@@ -4,13 +4,8 @@ use Rattle.srp_base.specs.Bandwidth.{bits_of}
 use Rattle.srp_base.specs.declared.ports.PortChange.{PortChange}
 use Rattle.credit_shaper.specs.Port.{IsFrameSize}
 use Rattle.tree_topology.specs.Topology.{Topology, HasNode}
-use Rattle.frame_flow.specs.declared.frame.Frame.{Frame}
-use Rattle.frame_flow.specs.declared.frame.Route.{Route}
-use Rattle.frame_flow.specs.declared.frame.Route.TheVariants.{Stream, To}
-use Rattle.frame_flow.specs.declared.frame.FrameCopy.{FrameCopy}
-use Rattle.frame_flow.specs.declared.place.Place.{Place}
-use Rattle.frame_flow.specs.Copies.{all_places, is_not_after}
-use Rattle.frame_flow.specs.Flow.{Setting}
+use Rattle.frame_flow.specs.declared.{frame.Frame.Frame, frame.Route.Route, frame.Route.TheVariants.Stream, frame.Route.TheVariants.To, frame.FrameCopy.FrameCopy, place.Place.Place}
+use Rattle.frame_flow.specs.{Copies.all_places, Copies.is_not_after, Flow.Setting}
 
 -- a frame to a node goes to one of the tree
 abbrev pub IsRoute : Topology → Route → Type 0

@@ -5,23 +5,11 @@
 --   what each port's peer sends, by k ---+--> x --> those that go by p and didn't come in by p --> in order of bit time --> p
 use Rattle.std.specs.Prelude.{◌≡◌, ℕ, ◌<◌, ◌⊎◌, not, ◌==◌, ◌&&◌, nat_lt, List, [], ◌++◌, length, filter_map, flat_map, Option, Some, None, All, if◌then◌else◌}
 use Rattle.std.specs.List.{range_with_len}
-use Rattle.srp_base.specs.declared.numbers.EgressPort.{EgressPort}
-use Rattle.srp_base.specs.declared.bandwidth.Rate.{Rate}
+use Rattle.srp_base.specs.declared.{numbers.EgressPort.EgressPort, bandwidth.Rate.Rate}
 use Rattle.tree_topology.specs.declared.graph.Link.{Link}
-use Rattle.tree_topology.specs.Topology.{Topology, HasPort}
-use Rattle.tree_topology.specs.Ports.{neighbours, peer_of}
-use Rattle.frame_flow.specs.declared.frame.Frame.{Frame}
-use Rattle.frame_flow.specs.declared.frame.FrameCopy.{FrameCopy}
-use Rattle.frame_flow.specs.declared.frame.Route.{Route}
-use Rattle.frame_flow.specs.declared.frame.Route.TheVariants.{Stream, To}
-use Rattle.frame_flow.specs.declared.incoming.AtNode.{AtNode}
-use Rattle.frame_flow.specs.declared.place.Place.{Place}
-use Rattle.frame_flow.specs.declared.result.PortFlow.{PortFlow}
-use Rattle.frame_flow.specs.Moments.{bits_of_ticks, bit_from}
-use Rattle.frame_flow.specs.Copies.{IsKnown, Reached, arriving, flow_at, goes_by, handed_by, in_order, port_of, ports_at, sent_from}
-use Rattle.frame_flow.specs.Flow.{Setting}
-use Rattle.frame_flow.specs.Given.{IsRoute}
-use Rattle.frame_flow.specs.Levels.{level_at}
+use Rattle.tree_topology.specs.{Topology.Topology, Topology.HasPort, Ports.neighbours, Ports.peer_of}
+use Rattle.frame_flow.specs.declared.{frame.Frame.Frame, frame.FrameCopy.FrameCopy, frame.Route.Route, frame.Route.TheVariants.Stream, frame.Route.TheVariants.To, incoming.AtNode.AtNode, place.Place.Place, result.PortFlow.PortFlow}
+use Rattle.frame_flow.specs.{Moments.bits_of_ticks, Moments.bit_from, Copies.IsKnown, Copies.Reached, Copies.arriving, Copies.flow_at, Copies.goes_by, Copies.handed_by, Copies.in_order, Copies.port_of, Copies.ports_at, Copies.sent_from, Flow.Setting, Given.IsRoute, Levels.level_at}
 
 -- a copy at a node, and the number of the port that it came in by; 0 is none of a node's ports
 pub record Incoming : Type 0 where

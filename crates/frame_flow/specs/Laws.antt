@@ -1,24 +1,11 @@
 -- What is true of every flow.
 use Rattle.std.specs.Prelude.{◌≡◌, ◌≢◌, ℕ, ◌+◌, ◌<◌, ◌≤◌, ◌==◌, List, [], ◌∷◌, map, filter, filter_map, All, AllPairs}
-use Rattle.credit_shaper.specs.declared.shaper.Traffic.{Traffic}
-use Rattle.credit_shaper.specs.declared.port.Departure.{Departure}
-use Rattle.credit_shaper.specs.declared.port.PortInput.{PortInput}
-use Rattle.credit_shaper.specs.Port.{IsNotAfter, is_of}
-use Rattle.credit_shaper.specs.Departures.{sent_of, left_of, departs_as, DepartInOrder}
-use Rattle.credit_shaper.specs.Bounds.{KeepCaps}
-use Rattle.frame_flow.specs.declared.result.Fate.{Fate}
-use Rattle.frame_flow.specs.declared.result.Fate.TheVariants.{Departed}
-use Rattle.frame_flow.specs.declared.result.PortFlow.{PortFlow}
-use Rattle.frame_flow.specs.declared.place.Place.{Place}
+use Rattle.credit_shaper.specs.declared.{shaper.Traffic.Traffic, port.Departure.Departure, port.PortInput.PortInput, port.SlopeChange.SlopeChange}
+use Rattle.credit_shaper.specs.{Port.IsNotAfter, Port.is_of, Departures.sent_of, Departures.left_of, Departures.departs_as, Departures.DepartInOrder, Bounds.KeepCaps}
+use Rattle.frame_flow.specs.declared.{result.Fate.Fate, result.Fate.TheVariants.Departed, result.PortFlow.PortFlow, place.Place.Place, frame.FrameCopy.FrameCopy}
 use Rattle.std.specs.Prelude.{Option}
-use Rattle.srp_base.specs.declared.numbers.EgressPort.{EgressPort}
-use Rattle.srp_base.specs.declared.numbers.StreamId.{StreamId}
-use Rattle.srp_base.specs.declared.ports.PortChange.{PortChange}
-use Rattle.credit_shaper.specs.declared.port.SlopeChange.{SlopeChange}
-use Rattle.frame_flow.specs.Force.{changes_at, first_slopes, has_booked, has_vid, in_force}
-use Rattle.frame_flow.specs.declared.frame.FrameCopy.{FrameCopy}
-use Rattle.frame_flow.specs.Copies.{arriving, copy_of, frames_reaching}
-use Rattle.frame_flow.specs.Flow.{Setting}
+use Rattle.srp_base.specs.declared.{numbers.EgressPort.EgressPort, numbers.StreamId.StreamId, ports.PortChange.PortChange}
+use Rattle.frame_flow.specs.{Force.changes_at, Force.first_slopes, Force.has_booked, Force.has_vid, Force.in_force, Copies.arriving, Copies.copy_of, Copies.frames_reaching, Flow.Setting}
 
 -- the numbers of the copies that arrive at a port, in order
 abbrev pub arriving_numbers : Setting → List PortFlow → Place → List ℕ

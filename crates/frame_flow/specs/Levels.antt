@@ -3,11 +3,8 @@
 use Rattle.std.specs.Prelude.{◌≡◌, ℕ, ◌<◌, ◌⊎◌, List, length, map, All}
 use Rattle.std.proofs.Common.{get_or}
 use Rattle.srp_base.specs.declared.numbers.EgressPort.{EgressPort}
-use Rattle.tree_topology.specs.Topology.{Topology, HasPort}
-use Rattle.tree_topology.specs.Ports.{peer_of}
-use Rattle.tree_topology.specs.Walk.{count_behind}
-use Rattle.frame_flow.specs.declared.place.Place.{Place}
-use Rattle.frame_flow.specs.declared.result.PortFlow.{PortFlow}
+use Rattle.tree_topology.specs.{Topology.Topology, Topology.HasPort, Ports.peer_of, Walk.count_behind}
+use Rattle.frame_flow.specs.declared.{place.Place.Place, result.PortFlow.PortFlow}
 use Rattle.frame_flow.specs.Flow.{Setting, port_flow}
 
 -- the number of nodes behind a port's peer

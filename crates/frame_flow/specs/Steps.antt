@@ -1,21 +1,11 @@
 -- What the code keeps as it goes over a port's copies. No public contract names these words.
 use Rattle.std.specs.Prelude.{◌≡◌, ℕ, ◌+◌, ◌-◌, ◌<◌, ◌≤◌, ◌==◌, nat_lt, List, [], length, map, filter, find, slice_get, slice_index_or, Option, None, if◌then◌else◌}
-use Rattle.std.specs.Borrow.{Bor}
-use Rattle.std.specs.List.{AllWithin}
-use Rattle.srp_base.specs.declared.bandwidth.Rate.{Rate}
-use Rattle.srp_base.specs.declared.ports.PortChange.{PortChange}
-use Rattle.credit_shaper.specs.declared.port.Arrival.{Arrival}
-use Rattle.credit_shaper.specs.declared.port.Departure.{Departure}
-use Rattle.frame_flow.specs.declared.frame.Frame.{Frame}
-use Rattle.frame_flow.specs.declared.frame.FrameCopy.{FrameCopy}
-use Rattle.frame_flow.specs.declared.force.InForce.{InForce}
-use Rattle.frame_flow.specs.declared.result.Fate.{Fate}
-use Rattle.frame_flow.specs.declared.result.Fate.TheVariants.{Unbooked, NoVlan}
-use Rattle.frame_flow.specs.declared.verdicts.Verdict.{Verdict}
+use Rattle.std.specs.{Borrow.Bor, List.AllWithin}
+use Rattle.srp_base.specs.declared.{bandwidth.Rate.Rate, ports.PortChange.PortChange}
+use Rattle.credit_shaper.specs.declared.{port.Arrival.Arrival, port.Departure.Departure}
+use Rattle.frame_flow.specs.declared.{frame.Frame.Frame, frame.FrameCopy.FrameCopy, force.InForce.InForce, result.Fate.Fate, result.Fate.TheVariants.Unbooked, result.Fate.TheVariants.NoVlan, verdicts.Verdict.Verdict}
 use Rattle.frame_flow.specs.declared.verdicts.Verdict.TheVariants.{NotBooked, NotInVlan, MaySend}
-use Rattle.frame_flow.specs.Moments.{tick_at}
-use Rattle.frame_flow.specs.Force.{has_vid}
-use Rattle.frame_flow.specs.Flow.{is_unbooked, may_send, force_on, arrival_of, sent_fate}
+use Rattle.frame_flow.specs.{Moments.tick_at, Force.has_vid, Flow.is_unbooked, Flow.may_send, Flow.force_on, Flow.arrival_of, Flow.sent_fate}
 
 -- the frames of each node of 0 to this number, in order
 pub record AreByNode (last : ℕ) (frames : List Frame) (lists : List (List Frame)) : Type 0 where

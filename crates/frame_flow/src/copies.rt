@@ -1,10 +1,8 @@
 //! The copies of frames that come to a node, and those of them that leave by a port, in order.
 
 ghost use Rattle.std.specs.Prelude.{◌≡◌, ◌≢◌, ◌<◌, ◌≤◌, ◌^◌, ◌++◌, ◌∷◌, ◌==◌, ◌&&◌, [], not, true, Some, AllPairs, filter_map, flat_map, length, option_map, IfOk, OnOk};
-ghost use Rattle.std.specs.List.{range_with_len};
-ghost use Rattle.std.specs.List.Sorted.{IsPermutation};
-ghost use Rattle.tree_topology.specs.Topology.{HasNode, HasPort};
-ghost use Rattle.tree_topology.specs.Ports.{neighbours, peer_of};
+ghost use Rattle.std.specs.{List.range_with_len, List.Sorted.IsPermutation};
+ghost use Rattle.tree_topology.specs.{Topology.HasNode, Topology.HasPort, Ports.neighbours, Ports.peer_of};
 ghost use Rattle.frame_flow.specs.Copies.{flow_at, frame_of, goes_by, handed_by, handed_on, in_order, is_not_after, reached_at, sent_from};
 ghost use Rattle.frame_flow.specs.declared.frame.Route.{Route};
 ghost use Rattle.frame_flow.specs.Given.{IsInOrder, IsRoute};

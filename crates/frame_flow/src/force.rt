@@ -1,8 +1,7 @@
 //! What is in force at a port in a tick.
 
 ghost use Rattle.std.specs.Prelude.{◌≡◌, ◌^◌, ◌<◌, ◌≤◌, ◌==◌, ℕ, length, map, option_map, IfOk};
-ghost use Rattle.std.specs.List.{AllWithin, list_any};
-ghost use Rattle.std.specs.List.Sorted.{IsNonDecreasingBy};
+ghost use Rattle.std.specs.{List.AllWithin, List.list_any, List.Sorted.IsNonDecreasingBy};
 ghost use Rattle.frame_flow.specs.Moments.{tick_at};
 ghost use Rattle.frame_flow.specs.Steps.{HaveCome};
 ghost use Rattle.frame_flow.specs.Force.{changes_at, in_force, has_booked, has_vid, first_slopes, does_change, slopes_of_change, slopes_over};
@@ -28,8 +27,7 @@ pub(crate) struct InForce {
 impl InForce {
     ghost use Rattle.std.specs.Prelude.{List};
     ghost use Rattle.std.specs.Borrow.{Bor};
-    ghost use Rattle.srp_base.specs.declared.bandwidth.Rate.{Rate};
-    ghost use Rattle.srp_base.specs.declared.ports.PortChange.{PortChange};
+    ghost use Rattle.srp_base.specs.declared.{bandwidth.Rate.Rate, ports.PortChange.PortChange};
     ghost use Rattle.frame_flow.specs.Steps.{HaveCome, IsInForce};
 
     /// None has come over no bit time.

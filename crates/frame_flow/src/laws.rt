@@ -3,11 +3,9 @@
 
 ghost use Rattle.std.specs.Prelude.{◌≡◌, ℕ, ◌<◌, ◌≤◌, List, map, All, AllPairs};
 ghost use Rattle.std.specs.List.Sorted.{IsPermutation};
-ghost use Rattle.srp_base.specs.declared.numbers.EgressPort.{EgressPort};
-ghost use Rattle.srp_base.specs.declared.ports.PortChange.{PortChange};
+ghost use Rattle.srp_base.specs.declared.{numbers.EgressPort.EgressPort, ports.PortChange.PortChange};
 ghost use Rattle.tree_topology.specs.Topology.{HasPort, IsSound};
-ghost use Rattle.credit_shaper.specs.Port.{IsPortInput, slopes_at};
-ghost use Rattle.credit_shaper.specs.Bounds.{greatest_slope_a, IsWindowAWithin};
+ghost use Rattle.credit_shaper.specs.{Port.IsPortInput, Port.slopes_at, Bounds.greatest_slope_a, Bounds.IsWindowAWithin};
 ghost use Rattle.frame_flow.specs.declared.result.PortFlow.{PortFlow};
 ghost use Rattle.frame_flow.specs.declared.place.Place.{Place};
 ghost use Rattle.frame_flow.specs.declared.frame.FrameCopy.{FrameCopy};

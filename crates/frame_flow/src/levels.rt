@@ -1,8 +1,7 @@
 //! The flow of frames over a tree, port by port.
 
 ghost use Rattle.std.specs.Prelude.{◌≡◌, ◌+◌, ◌<◌, ◌≤◌, ◌≢◌, true, false, slice_set, IfOk, OnOk, length, map, Contains, if◌then◌else◌};
-ghost use Rattle.tree_topology.specs.Topology.{HasPort};
-ghost use Rattle.tree_topology.specs.Walk.{count_behind};
+ghost use Rattle.tree_topology.specs.{Topology.HasPort, Walk.count_behind};
 ghost use Rattle.frame_flow.specs.Flow.{IsFlow, port_flow};
 ghost use Rattle.frame_flow.specs.Copies.{all_places, arriving, in_order};
 ghost use Rattle.frame_flow.specs.Force.{changes_at};

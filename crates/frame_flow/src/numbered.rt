@@ -2,8 +2,7 @@
 //! caller's guess is right, and else by halves.
 
 ghost use Rattle.std.specs.Prelude.{◌≡◌, ◌-◌, ◌<◌, ◌≤◌, ◌==◌, ◌↔◌, HoldsAt, IsTrue, find, length, option_map};
-ghost use Rattle.std.specs.List.{AllWithin};
-ghost use Rattle.std.specs.List.Sorted.{IsNonDecreasingBy};
+ghost use Rattle.std.specs.{List.AllWithin, List.Sorted.IsNonDecreasingBy};
 
 use crate::frame::Frame;
 use credit_shaper::Departure;

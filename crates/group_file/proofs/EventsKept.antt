@@ -1,26 +1,17 @@
 -- What every group scenario keeps of its events, from the rules that its table passed.
 use Rattle.std.proofs.Common.{◌≡◌, ℕ, suc, zero, ◌+◌, ◌<◌, ◌≤◌, Bool, true, false, if◌then◌else◌, List, [], ◌∷◌, Option, Some, None, option_map, Result, Ok, refl, sym, subst, length, leb-true, ltb-true, ltb-false, IfSome, IfOk, arith}
 use Rattle.std.proofs.lemmas.List.Elements.{All-nil, All-cons, All-weaker, All-map}
-use Rattle.std.specs.Cmp.Lexicographic.{pointwise}
-use Rattle.std.specs.List.{All}
-use Rattle.std.specs.List.Sorted.{IsNonDecreasing}
+use Rattle.std.specs.{Cmp.Lexicographic.pointwise, List.All, List.Sorted.IsNonDecreasing}
 use Rattle.std.specs.Prelude.{nat_le, nat_lt, nat_eq, codes}
+use Rattle.srp_base.proofs.Options.{opened as some-says}
 use Rattle.srp_base.specs.declared.numbers.NodeNo.{NodeNo}
 use Rattle.toml.specs.Data.{Members}
-use Rattle.toml_rules.specs.Fields.{number, text, has_only}
-use Rattle.toml_rules.specs.Rules.{each_entry, first_fall}
-use Rattle.topology_file.specs.declared.entries.NodeEntry.{NodeEntry}
-use Rattle.topology_file.specs.declared.entries.LinkEntry.{LinkEntry}
-use Rattle.topology_file.specs.Entries.{name_at, station_named}
-use Rattle.topology_file.specs.Events.{tick_at}
-use Rattle.topology_file.specs.Kinds.{AreJoinedNumbers, IsAtPdu, IsStationNumber, pdu_at}
-use Rattle.topology_file.proofs.Chains.{and_then-if, map-if, when-if, either-if, some-says, chain-if, chain-none, ok-all, ok-says, each-all, each-map, each-keeps, alike-length}
-use Rattle.group_file.specs.declared.entries.GroupEntry.{GroupEntry}
-use Rattle.group_file.specs.declared.entries.GroupForm.{GroupForm}
-use Rattle.group_file.specs.declared.entries.GroupKind.{GroupKind}
+use Rattle.toml_rules.specs.{Fields.number, Fields.text, Fields.has_only, Rules.each_entry, Rules.first_fall}
+use Rattle.topology_file.specs.declared.{entries.NodeEntry.NodeEntry, entries.LinkEntry.LinkEntry}
+use Rattle.topology_file.specs.{Entries.name_at, Entries.station_named, Events.tick_at, Kinds.AreJoinedNumbers, Kinds.IsAtPdu, Kinds.IsStationNumber, Kinds.pdu_at}
+use Rattle.topology_file.proofs.Chains.{and_then-if, map-if, when-if, either-if, chain-if, chain-none, ok-all, ok-says, each-all, each-map, each-keeps, alike-length}
+use Rattle.group_file.specs.{GroupEntry, GroupForm, GroupKind, IsKnownGroup, event_form, form_ticks, group_entry, group_ticks, kind_form, mac_at, member_at, member_form, member_keys, pdu_form, groups_of}
 use Rattle.group_file.specs.declared.entries.GroupKind.TheVariants as kinds
-use Rattle.group_file.specs.Events.{IsKnownGroup, event_form, form_ticks, group_entry, group_ticks, kind_form, mac_at, member_at, member_form, member_keys, pdu_form}
-use Rattle.group_file.specs.Scenario.{groups_of}
 
 -- what the public law of a file's events says
 pub record NamesAreKnown : Type 0 where

@@ -5,14 +5,9 @@ use Rattle.srp_base.specs.declared.numbers.NodeNo.{NodeNo}
 use Rattle.srp_base.specs.Hexadecimal.{hex12}
 use Rattle.toml.specs.Data.{Members}
 use Rattle.toml_rules.specs.Fields.{◌>>=◌, text, has_only}
-use Rattle.topology_file.specs.declared.entries.NodeEntry.{NodeEntry}
-use Rattle.topology_file.specs.declared.entries.LinkEntry.{LinkEntry}
-use Rattle.topology_file.specs.Entries.{name_at, station_named}
-use Rattle.topology_file.specs.Events.{tick_at}
-use Rattle.topology_file.specs.Kinds.{IsAtPdu, IsStationNumber, pdu_at}
-use Rattle.group_file.specs.declared.entries.GroupEntry.{GroupEntry}
-use Rattle.group_file.specs.declared.entries.GroupForm.{GroupForm}
-use Rattle.group_file.specs.declared.entries.GroupKind.{GroupKind}
+use Rattle.topology_file.specs.declared.{entries.NodeEntry.NodeEntry, entries.LinkEntry.LinkEntry}
+use Rattle.topology_file.specs.{Entries.name_at, Entries.station_named, Events.tick_at, Kinds.IsAtPdu, Kinds.IsStationNumber, Kinds.pdu_at}
+use Rattle.group_file.specs.declared.{entries.GroupEntry.GroupEntry, entries.GroupForm.GroupForm, entries.GroupKind.GroupKind}
 use Rattle.group_file.specs.declared.entries.GroupKind.TheVariants as kinds
 
 -- ---- at a station, a group

@@ -2,3 +2,10 @@ pub mod Plan
 pub mod Fields
 pub mod Events
 pub mod Scenario
+pub use Plan.*
+pub use Fields.*
+pub use Events.*
+pub use Scenario.*
+pub use Rattle.group_file.specs.declared.entries.GroupEntry.{GroupEntry}
+pub use Rattle.group_file.specs.declared.entries.GroupForm.{GroupForm}
+pub use Rattle.group_file.specs.declared.entries.GroupKind.{GroupKind}

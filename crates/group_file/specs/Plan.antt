@@ -2,8 +2,7 @@
 use Rattle.std.specs.Prelude.{ℕ, Bool, List}
 use Rattle.srp_base.specs.declared.numbers.Cs.{Cs}
 use Rattle.tree_topology.specs.Topology.{Topology}
-use Rattle.topology_file.specs.declared.entries.NodeEntry.{NodeEntry}
-use Rattle.topology_file.specs.declared.entries.LinkEntry.{LinkEntry}
+use Rattle.topology_file.specs.declared.{entries.NodeEntry.NodeEntry, entries.LinkEntry.LinkEntry}
 use Rattle.group_file.specs.declared.entries.GroupEntry.{GroupEntry}
 
 -- its times in cs, the tree of its nodes and links, and its entries, each at the place of its number

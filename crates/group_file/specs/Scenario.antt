@@ -4,15 +4,11 @@ use Rattle.std.specs.List.Sorted.{IsNonDecreasing}
 use Rattle.srp_base.specs.Results.{◌>>=◌}
 use Rattle.toml.specs.Data.{Members}
 use Rattle.toml_rules.specs.declared.rules.RuleErr.{RuleErr}
-use Rattle.toml_rules.specs.Fields.{has_only, tables}
-use Rattle.toml_rules.specs.Rules.{each_entry, first_fall, holds, needs, no_entry}
-use Rattle.topology_file.specs.declared.entries.NodeEntry.{NodeEntry}
-use Rattle.topology_file.specs.declared.entries.LinkEntry.{LinkEntry}
-use Rattle.topology_file.specs.declared.network.TimedNetwork.{TimedNetwork}
+use Rattle.toml_rules.specs.{Fields.has_only, Fields.tables, Rules.each_entry, Rules.first_fall, Rules.holds, Rules.needs, Rules.no_entry}
+use Rattle.topology_file.specs.declared.{entries.NodeEntry.NodeEntry, entries.LinkEntry.LinkEntry, network.TimedNetwork.TimedNetwork}
 use Rattle.topology_file.specs.Network.{KeepsNetworkRules, timed_network_of}
 use Rattle.group_file.specs.declared.entries.GroupEntry.{GroupEntry}
-use Rattle.group_file.specs.Events.{IsKnownGroup, event_form, form_ticks, group_entry, group_ticks}
-use Rattle.group_file.specs.Plan.{GroupPlan}
+use Rattle.group_file.specs.{Events.IsKnownGroup, Events.event_form, Events.form_ticks, Events.group_entry, Events.group_ticks, Plan.GroupPlan}
 
 -- what a file of groups may say: its times, its network and its events
 abbrev pub group_keys : List (List ℕ)

@@ -1,37 +1,21 @@
 -- What happens in a tick may happen.
-use Rattle.std.proofs.Common.{◌≡◌, ◌≢◌, ◌⊎◌, inl, inr, ℕ, zero, suc, ◌+◌, ◌-◌, ◌<◌, ◌≤◌, Bool, true, false, ◌&&◌, ◌||◌, List, [], ◌∷◌, ◌++◌, length, map, filter, get_or, refl, sym, ap, subst, ◌∙◌, arith}
-use Rattle.std.specs.Prelude.{slice_get, Some, ◌==◌, if◌then◌else◌, flat_map, replicate, All}
+use Rattle.std.proofs.Common.{◌≡◌, ◌≢◌, ◌⊎◌, inl, inr, ℕ, zero, suc, ◌-◌, ◌<◌, Bool, true, false, ◌&&◌, List, [], ◌∷◌, ◌++◌, length, filter, get_or, refl, sym, ap, subst, ◌∙◌, arith}
+use Rattle.std.specs.Prelude.{slice_get, Some, ◌==◌, if◌then◌else◌, flat_map, replicate}
 use Rattle.std.specs.List.{AllByRecursion, list_any, range_with_len}
-use Rattle.std.proofs.lemmas.Bool.Decides.{nat_tests}
-use Rattle.srp_base.specs.declared.numbers.Cs.{Cs}
-use Rattle.srp_base.specs.declared.numbers.NodeNo.{NodeNo}
-use Rattle.srp_base.specs.declared.numbers.EgressPort.{EgressPort}
-use Rattle.tree_topology.specs.declared.graph.Link.{Link}
-use Rattle.tree_topology.specs.declared.graph.NodeKind.{NodeKind}
-use Rattle.tree_topology.specs.declared.graph.NodeKind.TheVariants.{Station, Bridge}
-use Rattle.tree_topology.specs.Graph.{Joins, Joined}
-use Rattle.tree_topology.specs.Topology.{Topology, HasNode, HasPort, IsSound, link_ports}
-use Rattle.tree_topology.specs.Ports.{neighbours, port_to}
-use Rattle.tree_topology.specs.PortLaws.{HasPortLaws}
-use Rattle.tree_topology.specs.Refusal.{is_station}
-use Rattle.topology_file.specs.declared.entries.NodeEntry.{NodeEntry}
-use Rattle.topology_file.specs.declared.entries.LinkEntry.{LinkEntry}
-use Rattle.topology_file.specs.Entries.{joins_both}
-use Rattle.topology_file.specs.Kinds.{IsStationNumber}
-use Rattle.topology_file.specs.Scenario.{node_kinds, tree_links}
-use Rattle.group_file.specs.declared.entries.GroupEntry.{GroupEntry}
-use Rattle.group_file.specs.declared.entries.GroupKind.{GroupKind}
+use Rattle.srp_base.proofs.{Bools.or_true, Lists.each_append as append, Bools.both as and_true, Lists.each_filter as kept_of, Lists.each_of_map as mapped, Lists.all_each as each_of, Arithmetic.numbers, Lists.each_more as same, Arithmetic.same_where_equal as same_number}
+use Rattle.srp_base.specs.declared.{numbers.Cs.Cs, numbers.NodeNo.NodeNo, numbers.EgressPort.EgressPort}
+use Rattle.tree_topology.specs.declared.{graph.Link.Link, graph.NodeKind.NodeKind, graph.NodeKind.TheVariants.Station, graph.NodeKind.TheVariants.Bridge}
+use Rattle.tree_topology.specs.{Graph.Joins, Graph.Joined, Topology.Topology, Topology.HasNode, Topology.HasPort, Topology.IsSound, Topology.link_ports, Ports.neighbours, Ports.port_to, PortLaws.HasPortLaws, Refusal.is_station}
+use Rattle.topology_file.specs.declared.{entries.NodeEntry.NodeEntry, entries.LinkEntry.LinkEntry}
+use Rattle.topology_file.specs.{Entries.joins_both, Kinds.IsStationNumber, Scenario.node_kinds, Scenario.tree_links}
+use Rattle.group_file.specs.declared.{entries.GroupEntry.GroupEntry, entries.GroupKind.GroupKind}
 use Rattle.group_file.specs.declared.entries.GroupKind.TheVariants as kinds
-use Rattle.group_file.specs.Events.{IsKnownGroup}
-use Rattle.group_file.specs.Plan.{GroupPlan}
-use Rattle.group_file.specs.Scenario.{KeepsGroupRules}
-use Rattle.mmrp.specs.declared.events.GroupEvent.{GroupEvent}
+use Rattle.group_file.specs.{Events.IsKnownGroup, Plan.GroupPlan, Scenario.KeepsGroupRules}
+use Rattle.mmrp.specs.declared.{events.GroupEvent.GroupEvent, events.GroupStep.GroupStep}
 use Rattle.mmrp.specs.declared.events.GroupEvent.TheVariants.{Join, Part, Port, Lose, Repeat, Carry, Clock}
-use Rattle.mmrp.specs.declared.events.GroupStep.{GroupStep}
 use Rattle.mmrp.specs.declared.events.GroupStep.TheVariants.{Work, Due, Settle, Send}
 use Rattle.mmrp.specs.Net.{NetGroups, CanHappen, IsStation, group_step, inbox, is_busy_at}
-use Rattle.group_run.specs.Allowed.{AreAllowed, IsAllowed, IsInTick, NamesNeighbours}
-use Rattle.group_run.specs.Ticks.{busy_steps, carries, each_makes, event_of, is_sending_time, net_steps, node_ports, node_steps, port_at, script_at, works_at}
+use Rattle.group_run.specs.{AreAllowed, IsAllowed, IsInTick, NamesNeighbours, busy_steps, carries, each_makes, event_of, is_sending_time, net_steps, node_ports, node_steps, port_at, script_at, works_at}
 
 -- ---- within a tick
 
@@ -67,17 +51,9 @@ allowed_stays alone tree t e w ok at =
 
 -- ---- lists of events
 
-append : {X : Type 0} (P : X → Type 0) (xs ys : List X) → AllByRecursion P xs → AllByRecursion P ys → AllByRecursion P (xs ++ ys)
-append P [] ys h k = k
-append P (x ∷ xs) ys h k = (h.0, append P xs ys h.1 k)
-
 flat : {X A : Type 0} (P : A → Type 0) (f : X → List A) (xs : List X) → AllByRecursion (λ x. AllByRecursion P (f x)) xs → AllByRecursion P (flat_map f xs)
 flat P f [] h = tt
 flat P f (x ∷ xs) h = append P (f x) (flat_map f xs) h.0 (flat P f xs h.1)
-
-mapped : {X A : Type 0} (P : A → Type 0) (f : X → A) (xs : List X) → AllByRecursion (λ x. P (f x)) xs → AllByRecursion P (map f xs)
-mapped P f [] h = tt
-mapped P f (x ∷ xs) h = (h.0, mapped P f xs h.1)
 
 repeated : {X : Type 0} (P : X → Type 0) (n : ℕ) (x : X) → P x → AllByRecursion P (replicate n x)
 repeated P zero x h = tt
@@ -87,22 +63,6 @@ where_so : {X : Type 0} (P : X → Type 0) (b : Bool) (xs : List X) → AllByRec
 where_so P true xs h = h
 where_so P false xs h = tt
 
-kept_of : {X : Type 0} (P : X → Type 0) (test : X → Bool) (xs : List X) → AllByRecursion P xs → AllByRecursion P (filter test xs)
-kept_of P test [] h = tt
-kept_of P test (x ∷ xs) h = by (test x) refl (kept_of P test xs h.1)
-  where
-    by : (b : Bool) → test x ≡ b → AllByRecursion P (filter test xs) → AllByRecursion P (filter test (x ∷ xs))
-    by true is later = rw is (h.0, later)
-    by false is later = rw is later
-
-each_of : {X : Type 0} (P : X → Type 0) (xs : List X) → All P xs → AllByRecursion P xs
-each_of P [] h = tt
-each_of P (x ∷ xs) h = (h 0 x (omega arith), each_of P xs (λ k d lt. h (suc k) d (omega (arith, lt))))
-
-numbers : (P : ℕ → Type 0) (a n : ℕ) → ((k : ℕ) → a ≤ k → k < a + n → P k) → AllByRecursion P (range_with_len a n)
-numbers P a zero h = tt
-numbers P a (suc n) h = (h a (omega arith) (omega arith), numbers P (a + 1) n (λ k low high. h k (omega (arith, low)) (omega (arith, high))))
-
 -- ---- the steps of nodes
 
 ports_there : (tree : Topology) (n : NodeNo) → HasNode tree n.0 → AllByRecursion (HasPort tree) (node_ports tree n)
@@ -110,10 +70,6 @@ ports_there tree n has =
     let count = length (neighbours tree.links n.0) in
     mapped (HasPort tree) (port_at n) (range_with_len 1 count)
     (numbers (λ k. HasPort tree (port_at n k)) 1 count (λ k low high. (has, low, omega (arith, high))))
-
-same : {X : Type 0} (P Q : X → Type 0) (xs : List X) → ((x : X) → P x → Q x) → AllByRecursion P xs → AllByRecursion Q xs
-same P Q [] f h = tt
-same P Q (x ∷ xs) f h = (f x h.0, same P Q xs f h.1)
 
 each_allowed : (tree : Topology) (step : GroupStep) (ports : List EgressPort) → AllByRecursion (HasPort tree) ports → AreAllowed tree (each_makes step ports)
 each_allowed tree step ports h = mapped (IsAllowed tree) (λ p. Port p step) ports h
@@ -159,17 +115,6 @@ station_kind (n ∷ nodes) (suc i) lt h = let less : i < length nodes = omega ar
 kinds_many : (nodes : List NodeEntry) → length (node_kinds nodes) ≡ length nodes
 kinds_many [] = refl
 kinds_many (n ∷ nodes) = ap suc (kinds_many nodes)
-
-or_true : (a b : Bool) → (a || b) ≡ true → (a ≡ true) ⊎ (b ≡ true)
-or_true true b h = inl refl
-or_true false b h = inr h
-
-and_true : (a b : Bool) → (a && b) ≡ true → (a ≡ true) × (b ≡ true)
-and_true true b h = (refl, h)
-and_true false b h = cc
-
-same_number : (x y : ℕ) → (x == y) ≡ true → x ≡ y
-same_number x y h = grind (arith, nat_tests, h)
 
 -- a link that joins two nodes joins them the other way round
 link_joins : (l : LinkEntry) (x y : ℕ) → joins_both x y l ≡ true → Joins (record { a = l.a; b = l.b }) y x

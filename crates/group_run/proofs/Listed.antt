@@ -1,8 +1,9 @@
 -- Lists that a loop makes: one element more at their end.
-use Rattle.std.proofs.Common.{◌≡◌, ℕ, zero, suc, ◌+◌, List, [], ◌∷◌, ◌++◌, map, sym, ap, ◌∙◌, append_assoc, append-nil, arith}
+use Rattle.std.proofs.Common.{◌≡◌, ℕ, suc, ◌+◌, List, [], ◌∷◌, ◌++◌, map, sym, ap, ◌∙◌, append_assoc, arith}
 use Rattle.std.specs.Prelude.{flat_map}
 use Rattle.std.specs.List.{range_with_len}
 use Rattle.std.proofs.lemmas.List.FromFn.{map-range_with_len_more}
+use Rattle.srp_base.proofs.Lists.{flat-range-more as flat-more}
 
 -- ---- of the numbers from 1 on
 
@@ -14,14 +15,6 @@ push-more {X} f n front before after all pushed =
     pushed ∙ ap (λ (xs : List X). xs ++ f (n + 1) ∷ []) all
     ∙ append_assoc front (map f (range_with_len 1 n)) (f (n + 1) ∷ [])
     ∙ ap (λ (xs : List X). front ++ xs) (sym (map-range_with_len_more f 1 n (n + 1) place))
-
-flat-more : {X : Type 0} (f : ℕ → List X) (n a j : ℕ) → a + n ≡ j → flat_map f (range_with_len a (suc n)) ≡ flat_map f (range_with_len a n) ++ f j
-flat-more f zero a j place =
-    let e : a ≡ j = omega (arith, place) in
-    append-nil (f a) ∙ ap f e
-flat-more {X} f (suc n) a j place =
-    ap (λ (xs : List X). f a ++ xs) (flat-more f n (a + 1) j (omega (arith, place)))
-    ∙ sym (append_assoc (f a) (flat_map f (range_with_len (a + 1) n)) (f j))
 
 -- the lists that are made of each, one after the other, with that of one number more
 pub extend-more : {X : Type 0} (f : ℕ → List X) (n : ℕ) (front before after : List X) → before ≡ front ++ flat_map f (range_with_len 1 n)

@@ -1,17 +1,14 @@
 -- The events of one tick in a file: from the cursor on, until one of a later tick comes.
-use Rattle.std.proofs.Common.{◌≡◌, ◌≢◌, ℕ, zero, suc, ◌+◌, ◌<◌, ◌≤◌, Bool, true, false, List, [], ◌∷◌, ◌++◌, length, map, filter, take, drop, get_or, refl, sym, ap, subst, ◌∙◌, append_assoc, append-nil, arith}
+use Rattle.std.proofs.Common.{◌≡◌, ◌≢◌, ℕ, zero, suc, ◌+◌, ◌<◌, ◌≤◌, Bool, List, [], ◌∷◌, ◌++◌, length, map, filter, take, drop, get_or, refl, sym, ap, subst, ◌∙◌, append_assoc, append-nil, arith}
 use Rattle.std.specs.Prelude.{◌==◌, if◌then◌else◌}
-use Rattle.std.specs.List.{AllByRecursion}
-use Rattle.std.specs.List.Sorted.{IsNonDecreasing}
+use Rattle.std.specs.{List.AllByRecursion, List.Sorted.IsNonDecreasing}
 use Rattle.std.proofs.Math.Seq.{drop-cons}
-use Rattle.std.proofs.lemmas.Bool.Decides.{nat_tests}
-use Rattle.std.proofs.lemmas.List.{drop_all}
+use Rattle.std.proofs.lemmas.{List.drop_all}
+use Rattle.srp_base.proofs.Arithmetic.{is_same as same_is, is_other as other_is}
 use Rattle.group_file.specs.declared.entries.GroupEntry.{GroupEntry}
-use Rattle.group_file.specs.Events.{group_ticks}
-use Rattle.group_file.specs.Plan.{GroupPlan}
+use Rattle.group_file.specs.{Events.group_ticks, Plan.GroupPlan}
 use Rattle.mmrp.specs.declared.events.GroupEvent.{GroupEvent}
-use Rattle.group_run.specs.Cursor.{IsCursor}
-use Rattle.group_run.specs.Ticks.{event_of, script_at}
+use Rattle.group_run.specs.{IsCursor, event_of, script_at}
 
 -- those of a tick among some entries
 abbrev pub of_tick : ℕ → List GroupEntry → List GroupEntry
@@ -22,12 +19,6 @@ abbrev pub scripted : GroupPlan → ℕ → List GroupEntry → List GroupEvent
 scripted plan t es = map (λ e. event_of plan.tree.links e.kind) (of_tick t es)
 
 -- ---- entries of one tick
-
-same_is : (x y : ℕ) → x ≡ y → (x == y) ≡ true
-same_is x y e = grind (arith, nat_tests, e)
-
-other_is : (x y : ℕ) → x ≢ y → (x == y) ≡ false
-other_is x y ne = grind (arith, nat_tests, ne)
 
 this_tick : (t : ℕ) (e : GroupEntry) (es : List GroupEntry) → e.tick ≡ t → of_tick t (e ∷ es) ≡ e ∷ of_tick t es
 this_tick t e es is = ap (λ (b : Bool). if b then e ∷ of_tick t es else of_tick t es) (same_is e.tick t is)

@@ -2,8 +2,7 @@
 use Rattle.std.specs.Prelude.{◌≡◌, ℕ, List}
 use Rattle.std.specs.List.{AllByRecursion}
 use Rattle.tree_topology.specs.declared.graph.Link.{Link}
-use Rattle.tree_topology.specs.Graph.{Joined}
-use Rattle.tree_topology.specs.Topology.{Topology, HasPort}
+use Rattle.tree_topology.specs.{Graph.Joined, Topology.Topology, Topology.HasPort}
 use Rattle.group_file.specs.declared.entries.GroupKind.{GroupKind}
 use Rattle.group_file.specs.declared.entries.GroupKind.TheVariants as kinds
 use Rattle.mmrp.specs.declared.events.GroupEvent.{GroupEvent}

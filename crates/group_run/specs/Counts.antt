@@ -3,8 +3,7 @@ use Rattle.std.specs.Prelude.{ℕ, ◌==◌, Bool, true, false, ◌&&◌, List, 
 use Rattle.srp_base.specs.declared.numbers.EgressPort.{EgressPort}
 use Rattle.report_words.specs.declared.tally.Tally.{Tally}
 use Rattle.report_words.specs.Tally.{tally_by, with_answer}
-use Rattle.mmrp.specs.declared.events.GroupReply.{GroupReply}
-use Rattle.mmrp.specs.declared.events.GroupReply.TheVariants.{Sent, Discarded}
+use Rattle.mmrp.specs.declared.{events.GroupReply.GroupReply, events.GroupReply.TheVariants.Sent, events.GroupReply.TheVariants.Discarded}
 
 -- ---- what the steps of a port answered, in order
 

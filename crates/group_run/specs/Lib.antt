@@ -4,3 +4,9 @@ pub mod Allowed
 pub mod Counts
 pub mod Lines
 pub mod Text
+pub use Ticks.*
+pub use Cursor.*
+pub use Allowed.*
+pub use Counts.*
+pub use Lines.*
+pub use Text.*

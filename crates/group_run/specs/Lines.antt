@@ -1,7 +1,6 @@
 -- The line of a group, beside the lines that every report has. A line ends with a line feed.
 use Rattle.std.specs.Prelude.{ℕ, List, [], ◌∷◌, codes}
-use Rattle.srp_base.specs.Hexadecimal.{hex12_text}
-use Rattle.srp_base.specs.Text.{whole_of}
+use Rattle.srp_base.specs.{Hexadecimal.hex12_text, Text.whole_of}
 use Rattle.registrar.specs.declared.Registrar.{Registrar}
 use Rattle.report_words.specs.Words.{state_name}
 

@@ -3,14 +3,11 @@
 use Rattle.std.specs.Prelude.{ℕ, List, ◌++◌, flat_map}
 use Rattle.srp_base.specs.declared.numbers.EgressPort.{EgressPort}
 use Rattle.group_file.specs.Plan.{GroupPlan}
-use Rattle.mmrp.specs.Match.{groups_at, registrar_at}
-use Rattle.mmrp.specs.Net.{NetGroups, is_in_step, is_quiet}
+use Rattle.mmrp.specs.{Match.groups_at, Match.registrar_at, Net.NetGroups, Net.is_in_step, Net.is_quiet}
 use Rattle.group_run.specs.declared.run.GroupRun.{GroupRun}
-use Rattle.report_words.specs.Lines.{end_lines, port_line, ticks_line}
-use Rattle.report_words.specs.Names.{port_name}
+use Rattle.report_words.specs.{Lines.end_lines, Lines.port_line, Lines.ticks_line, Names.port_name}
 use Rattle.tree_topology.specs.Topology.{link_ports}
-use Rattle.group_run.specs.Counts.{replies_of, tally_of}
-use Rattle.group_run.specs.Lines.{group_line}
+use Rattle.group_run.specs.{Counts.replies_of, Counts.tally_of, Lines.group_line}
 
 -- the line of a MAC address at a port of this name
 abbrev pub group_at : List ℕ → NetGroups → EgressPort → ℕ → List ℕ

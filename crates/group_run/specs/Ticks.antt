@@ -2,22 +2,16 @@
 -- is made of all ticks.
 use Rattle.std.specs.Prelude.{ℕ, zero, suc, ◌%◌, ◌==◌, Bool, if◌then◌else◌, List, [], ◌∷◌, ◌++◌, map, filter, fold, length, replicate, Option, Some, None}
 use Rattle.std.specs.List.{flat_map, range_with_len}
-use Rattle.srp_base.specs.declared.numbers.Cs.{Cs}
-use Rattle.srp_base.specs.declared.numbers.NodeNo.{NodeNo}
-use Rattle.srp_base.specs.declared.numbers.EgressPort.{EgressPort}
+use Rattle.srp_base.specs.declared.{numbers.Cs.Cs, numbers.NodeNo.NodeNo, numbers.EgressPort.EgressPort}
 use Rattle.tree_topology.specs.declared.graph.Link.{Link}
-use Rattle.tree_topology.specs.Topology.{Topology, link_ports}
-use Rattle.tree_topology.specs.Ports.{neighbours, port_to}
+use Rattle.tree_topology.specs.{Topology.Topology, Topology.link_ports, Ports.neighbours, Ports.port_to}
 use Rattle.group_file.specs.declared.entries.GroupKind.{GroupKind}
 use Rattle.group_file.specs.declared.entries.GroupKind.TheVariants as kinds
 use Rattle.group_file.specs.Plan.{GroupPlan}
-use Rattle.mmrp.specs.declared.events.GroupEvent.{GroupEvent}
+use Rattle.mmrp.specs.declared.{events.GroupEvent.GroupEvent, events.GroupReply.GroupReply, events.GroupStep.GroupStep}
 use Rattle.mmrp.specs.declared.events.GroupEvent.TheVariants as events
-use Rattle.mmrp.specs.declared.events.GroupReply.{GroupReply}
-use Rattle.mmrp.specs.declared.events.GroupStep.{GroupStep}
 use Rattle.mmrp.specs.declared.events.GroupStep.TheVariants.{Work, Due, Settle, Send}
-use Rattle.mmrp.specs.Net.{NetGroups, group_step, inbox, is_busy_at}
-use Rattle.mmrp.specs.Start.{net_of}
+use Rattle.mmrp.specs.{Net.NetGroups, Net.group_step, Net.inbox, Net.is_busy_at, Start.net_of}
 use Rattle.group_run.specs.declared.run.GroupRun.{GroupRun}
 
 -- ---- what the scenario's events are in the network

@@ -3,9 +3,7 @@
 ghost use Rattle.std.specs.Prelude.{ℕ};
 ghost use Rattle.tree_topology.specs.Topology.{Topology};
 ghost use Rattle.group_file.specs.declared.entries.GroupKind.{GroupKind};
-ghost use Rattle.group_file.specs.Events.{IsKnownGroup};
-ghost use Rattle.group_file.specs.Plan.{GroupPlan};
-ghost use Rattle.group_file.specs.Scenario.{KeepsGroupRules};
+ghost use Rattle.group_file.specs.{Events.IsKnownGroup, Plan.GroupPlan, Scenario.KeepsGroupRules};
 ghost use Rattle.mmrp.specs.declared.events.GroupEvent.{GroupEvent};
 ghost use Rattle.mmrp.specs.Net.{CanHappen, NetGroups, group_step};
 ghost use Rattle.group_run.specs.Allowed.{AreAllowed, IsAllowed, IsInTick, NamesNeighbours};

@@ -1,8 +1,7 @@
 //! The events of a file in one tick.
 
 ghost use Rattle.std.specs.Prelude.{◌≡◌, suc, IfOk, OnOk};
-ghost use Rattle.tree_topology.specs.Graph.{Joined};
-ghost use Rattle.tree_topology.specs.Ports.{port_to};
+ghost use Rattle.tree_topology.specs.{Graph.Joined, Ports.port_to};
 ghost use Rattle.group_run.specs.Allowed.{NamesNeighbours};
 ghost use Rattle.group_run.specs.Cursor.{IsCursor};
 ghost use Rattle.group_run.specs.Ticks.{event_of, script_at};

@@ -3,34 +3,18 @@ use Rattle.std.proofs.Common.{◌≡◌, ◌≢◌, ℕ, zero, suc, ◌<◌, ◌
 use Rattle.std.specs.Prelude.{slice_get, slice_set, Some}
 use Rattle.std.specs.List.{AllByRecursion}
 use Rattle.std.proofs.lemmas.Option.{slice_get_within}
-use Rattle.srp_base.specs.declared.numbers.NodeNo.{NodeNo}
-use Rattle.srp_base.specs.declared.numbers.PortNo.{PortNo}
-use Rattle.srp_base.specs.declared.numbers.EgressPort.{EgressPort}
-use Rattle.tree_topology.specs.Topology.{HasNode, HasPort, link_ports}
-use Rattle.tree_topology.specs.Ports.{neighbours}
+use Rattle.srp_base.specs.declared.{numbers.NodeNo.NodeNo, numbers.PortNo.PortNo, numbers.EgressPort.EgressPort}
+use Rattle.tree_topology.specs.{Topology.HasNode, Topology.HasPort, Topology.link_ports, Ports.neighbours}
 use Rattle.attribute_propagation.specs.Ports.{place_of}
 use Rattle.topology_file.specs.Plan.{Plan}
-use Rattle.node_core.specs.declared.types.NodeStep.{NodeStep}
-use Rattle.node_core.specs.declared.types.PortStep.{PortStep}
-use Rattle.node_core.specs.declared.types.StepReply.{StepReply}
-use Rattle.world_core.specs.declared.events.WorldEvent.{WorldEvent}
+use Rattle.node_core.specs.declared.{types.NodeStep.NodeStep, types.PortStep.PortStep, types.StepReply.StepReply}
+use Rattle.world_core.specs.declared.{events.WorldEvent.WorldEvent, events.WorldReply.WorldReply, events.WorldReply.TheVariants.Step, journal.NodeSteps.NodeSteps, journal.Tick.Tick}
 use Rattle.world_core.specs.declared.events.WorldEvent.TheVariants.{Port, Carry, Clock}
-use Rattle.world_core.specs.declared.events.WorldReply.{WorldReply}
-use Rattle.world_core.specs.declared.events.WorldReply.TheVariants.{Step}
-use Rattle.world_core.specs.declared.journal.NodeSteps.{NodeSteps}
-use Rattle.world_core.specs.declared.journal.Tick.{Tick}
-use Rattle.world_core.specs.World.{WorldState, world_step, world_after, replies_to}
-use Rattle.world_core.specs.Apart.{events_of}
-use Rattle.world_core.specs.Ticks.{script_at, after_script, step_events, closing_events, tick_events, IsLegalTick, LeadTo}
-use Rattle.world_core.specs.During.{IsDuring}
-use Rattle.world_core.specs.OneByOne.{node_jobs, IsNextJob, MakeLeft, steps_before, MakeAll, IsOneByOne}
+use Rattle.world_core.specs.{World.WorldState, World.world_step, World.world_after, World.replies_to, Apart.events_of, Ticks.script_at, Ticks.after_script, Ticks.step_events, Ticks.closing_events, Ticks.tick_events, Ticks.IsLegalTick, Ticks.LeadTo, During.IsDuring, OneByOne.node_jobs, OneByOne.IsNextJob, OneByOne.MakeLeft, OneByOne.steps_before, OneByOne.MakeAll, OneByOne.IsOneByOne}
 use Rattle.report_words.specs.Names.{port_name}
 use Rattle.journal_lines.specs.Lines.{place_text, made_text, line_at}
-use Rattle.journal_audit.specs.Texts.{lines_of}
-use Rattle.journal_audit.specs.Reading.{Reading, IsStuck}
-use Rattle.journal_audit.specs.Journal.{answer_line, answer_lines, made_lines, steps_lines, ticks_lines}
-use Rattle.journal_audit.specs.Follow.{FollowTicks, FollowNodes, FollowJobs, FollowAnswers, nodes_from}
-use Rattle.journal_audit.specs.Replay.{ReplayLaws}
+use Rattle.journal_audit.specs.{lines_of, IsStuck, answer_line, answer_lines, made_lines, steps_lines, ticks_lines, FollowTicks, FollowNodes, FollowJobs, FollowAnswers, nodes_from, ReplayLaws}
+use Rattle.journal_audit.specs.Reading.{Reading}
 use Rattle.journal_audit.proofs.ReadingLemmas.{Lines, stuck_here}
 
 abbrev pub node : ℕ → NodeNo

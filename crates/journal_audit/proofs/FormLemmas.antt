@@ -2,14 +2,9 @@
 use Rattle.std.proofs.Common.{◌≡◌, ℕ, suc, ◌+◌, ◌<◌, ◌≤◌, ◌^◌, Bool, List, [], ◌∷◌, ◌++◌, length, take, refl, sym, ap, subst, ◌∙◌, inl, inr, append_assoc, arith}
 use Rattle.std.specs.Prelude.{IsTrue, ◌↔◌, nat_le}
 use Rattle.std.specs.Fmt.{decimal}
-use Rattle.std.proofs.lemmas.Bool.{cases_lt}
-use Rattle.std.proofs.lemmas.Bool.Decides.{nat_tests}
-use Rattle.std.proofs.lemmas.Fmt.{decimal_injective}
-use Rattle.std.proofs.lemmas.List.{append-nil, length-append}
-use Rattle.journal_audit.specs.declared.form.Known.{Known}
-use Rattle.journal_audit.specs.Texts.{lines_of}
-use Rattle.journal_audit.specs.Form.{IsWordThen, IsNumeralOf, IsFormed, AreFormed, IsFirstUnformed}
-use Rattle.journal_audit.proofs.TextLemmas.{behind_same}
+use Rattle.std.proofs.lemmas.{Bool.cases_lt, Bool.Decides.nat_tests, Fmt.decimal_injective, List.append-nil, List.length-append}
+use Rattle.srp_base.proofs.Lists.{behind_same}
+use Rattle.journal_audit.specs.{Known, lines_of, IsWordThen, IsNumeralOf, IsFormed, AreFormed, IsFirstUnformed}
 
 -- a word and a space stand at a text's beginning in one way alone
 pub word_then : (P : List ℕ → Type 0) (word text rest : List ℕ) (b : Bool) → text ≡ word ++ 32 ∷ rest → (IsTrue b ↔ P rest) → (IsTrue b ↔ IsWordThen P word text)

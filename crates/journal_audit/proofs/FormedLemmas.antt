@@ -1,51 +1,29 @@
 -- The lines of a legal journal are of the form.
 use Rattle.std.proofs.Common.{◌≡◌, ◌≢◌, ℕ, zero, suc, ◌+◌, ◌-◌, ◌/◌, ◌%◌, ◌<◌, ◌≤◌, ◌^◌, Bool, true, false, List, [], ◌∷◌, ◌++◌, length, map, refl, sym, ap, subst, ◌∙◌, inl, inr, append_assoc, arith}
 use Rattle.std.specs.Prelude.{◌==◌, if◌then◌else◌, nat_lt, codes, flat_map, slice_set, slice_index, Option, Some, None}
-use Rattle.std.specs.List.{AllByRecursion, Any, range_with_len}
-use Rattle.std.specs.Fmt.{decimal, digits, digits_onto, digit_glyph}
-use Rattle.std.proofs.lemmas.Bool.Decides.{nat_tests}
-use Rattle.std.proofs.lemmas.List.{append-nil}
+use Rattle.std.specs.{List.AllByRecursion, List.Any, List.range_with_len, Fmt.decimal, Fmt.digits, Fmt.digits_onto, Fmt.digit_glyph}
+use Rattle.std.proofs.lemmas.{Bool.Decides.nat_tests, List.append-nil}
 use Rattle.std.proofs.Math.Nat.{pow-zero, pow-suc}
-use Rattle.srp_base.specs.declared.numbers.NodeNo.{NodeNo}
-use Rattle.srp_base.specs.declared.mrp.App.TheVariants.{Mvrp, Msrp}
+use Rattle.srp_base.specs.declared.{numbers.NodeNo.NodeNo, mrp.App.TheVariants.Mvrp, mrp.App.TheVariants.Msrp}
 use Rattle.tree_topology.specs.declared.graph.Link.{Link}
-use Rattle.tree_topology.specs.Topology.{HasNode, HasPort}
-use Rattle.tree_topology.specs.Ports.{neighbours}
+use Rattle.tree_topology.specs.{Topology.HasNode, Topology.HasPort, Ports.neighbours}
 use Rattle.frame_flow.specs.Copies.{port_of}
 use Rattle.attribute_propagation.specs.Ports.{place_of}
 use Rattle.mvrp_codec.specs.Meaning.{mvrp_reading}
 use Rattle.msrp_codec.specs.Meaning.{msrp_reading}
 use Rattle.std.specs.Prelude.{Err}
-use Rattle.topology_file.specs.declared.entries.StreamEntry.{StreamEntry}
-use Rattle.topology_file.specs.declared.entries.EventEntry.{EventEntry}
+use Rattle.srp_base.proofs.Lists.{length_set, each_append, each-get as each_at}
+use Rattle.topology_file.specs.declared.{entries.StreamEntry.StreamEntry, entries.EventEntry.EventEntry}
 use Rattle.topology_file.specs.Plan.{Plan}
-use Rattle.node_core.specs.declared.types.NodeStep.{NodeStep}
-use Rattle.node_core.specs.declared.types.PortStep.{PortStep}
+use Rattle.node_core.specs.declared.{types.NodeStep.NodeStep, types.PortStep.PortStep, types.StepReply.StepReply}
 use Rattle.node_core.specs.declared.types.PortStep.TheVariants.{Work, LeaveNow, LeaveAllNow, PeriodicNow, Due, Settle, Send}
-use Rattle.node_core.specs.declared.types.StepReply.{StepReply}
 use Rattle.node_core.specs.declared.types.StepReply.TheVariants.{Nothing, Discarded, Received, Fired, Settled, Silent, Sent, Taken}
-use Rattle.world_core.specs.declared.events.WorldEvent.{WorldEvent}
-use Rattle.world_core.specs.declared.events.WorldEvent.TheVariants.{Port}
-use Rattle.world_core.specs.declared.events.WorldReply.{WorldReply}
-use Rattle.world_core.specs.declared.journal.NodeSteps.{NodeSteps}
-use Rattle.world_core.specs.declared.journal.Tick.{Tick}
-use Rattle.world_core.specs.World.{WorldState, world_step, world_after}
-use Rattle.world_core.specs.Apart.{events_of}
-use Rattle.world_core.specs.Ticks.{event_of, with_event, scripted_from, script_at, after_script, tick_events, IsLegalTick, LeadTo}
-use Rattle.world_core.specs.During.{IsDuring}
-use Rattle.world_core.specs.OneByOne.{node_jobs, MakeLeft, MakeAll}
-use Rattle.world_core.specs.Missed.{is_missed}
+use Rattle.world_core.specs.declared.{events.WorldEvent.WorldEvent, events.WorldEvent.TheVariants.Port, events.WorldReply.WorldReply, journal.NodeSteps.NodeSteps, journal.Tick.Tick}
+use Rattle.world_core.specs.{World.WorldState, World.world_step, World.world_after, Apart.events_of, Ticks.event_of, Ticks.with_event, Ticks.scripted_from, Ticks.script_at, Ticks.after_script, Ticks.tick_events, Ticks.IsLegalTick, Ticks.LeadTo, During.IsDuring, OneByOne.node_jobs, OneByOne.MakeLeft, OneByOne.MakeAll, Missed.is_missed}
 use Rattle.report_words.specs.Names.{port_name}
 use Rattle.journal_lines.specs.Lines.{step_name, reply_name, event_name, event_line, made_text, line_at}
-use Rattle.journal_audit.specs.declared.form.Known.{Known}
-use Rattle.journal_audit.specs.Form.{IsWordThen, IsNumeralOf, IsEntryText, IsDigit, IsNumber, IsNumberText, IsReplyText, IsMadeText, IsFormed, AreFormed}
-use Rattle.journal_audit.specs.Audit.{names_at, known_of}
-use Rattle.journal_audit.specs.Journal.{answer_lines, made_lines, steps_lines, tick_lines, ticks_lines}
-use Rattle.journal_audit.specs.Replay.{ReplayLaws}
-use Rattle.journal_audit.proofs.FollowLemmas.{node, before_lines, has_port, upto}
-use Rattle.journal_audit.proofs.PartLemmas.{length_set}
-use Rattle.journal_audit.proofs.RunLemmas.{each_append}
-use Rattle.journal_audit.proofs.ReplyLemmas.{IsJob, AreJobs, IsTold, node_jobs_are, each_at, each_set, reply_told}
+use Rattle.journal_audit.specs.{Known, IsWordThen, IsNumeralOf, IsEntryText, IsDigit, IsNumber, IsNumberText, IsReplyText, IsMadeText, IsFormed, AreFormed, names_at, known_of, answer_lines, made_lines, steps_lines, tick_lines, ticks_lines, ReplayLaws}
+use Rattle.journal_audit.proofs.{FollowLemmas.node, FollowLemmas.before_lines, FollowLemmas.has_port, FollowLemmas.upto, ReplyLemmas.IsJob, ReplyLemmas.AreJobs, ReplyLemmas.IsTold, ReplyLemmas.node_jobs_are, ReplyLemmas.each_set, ReplyLemmas.reply_told}
 
 -- ---- numbers
 

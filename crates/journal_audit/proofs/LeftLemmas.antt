@@ -1,18 +1,14 @@
 -- All jobs of a node's ports at its turn.
 use Rattle.std.proofs.Common.{◌≡◌, ℕ, zero, suc, ◌+◌, ◌≤◌, List, [], ◌∷◌, length, map, refl, sym, ap, subst, ◌∙◌, arith}
 use Rattle.std.specs.Prelude.{slice_get, Option, Some}
-use Rattle.std.specs.Option.{option_map_or}
-use Rattle.std.specs.List.{range_with_len}
+use Rattle.std.specs.{Option.option_map_or, List.range_with_len}
 use Rattle.srp_base.specs.declared.numbers.NodeNo.{NodeNo}
 use Rattle.tree_topology.specs.Topology.{HasNode}
 use Rattle.topology_file.specs.Plan.{Plan}
 use Rattle.node_core.specs.declared.types.PortStep.{PortStep}
 use Rattle.node_core.specs.State.{NodeState, ports_of, job_list}
-use Rattle.world_core.specs.World.{WorldState, node_at}
-use Rattle.world_core.specs.During.{IsDuring}
-use Rattle.world_core.specs.OneByOne.{node_jobs}
-use Rattle.journal_audit.specs.Left.{LeftState, jobs_left, left_at, left_of, place_at, ArePortsLeft}
-use Rattle.journal_audit.specs.Replay.{ReplayLaws}
+use Rattle.world_core.specs.{World.WorldState, World.node_at, During.IsDuring, OneByOne.node_jobs}
+use Rattle.journal_audit.specs.{LeftState, jobs_left, left_at, left_of, place_at, ArePortsLeft, ReplayLaws}
 use Rattle.journal_audit.proofs.FollowLemmas.{node}
 
 jobs_of_all : (plan : Plan) (t : ℕ) (n : NodeNo) (s : NodeState) (places : List ℕ) → jobs_left (map (left_at plan t n s) places) ≡ map (λ at. job_list at s) places

@@ -1,13 +1,9 @@
 -- Lists that a loop makes.
 use Rattle.std.proofs.Common.{◌≡◌, ℕ, zero, suc, ◌+◌, ◌-◌, ◌<◌, List, [], ◌∷◌, ◌++◌, length, map, take, drop, get_or, refl, sym, ap, ◌∙◌, append_assoc, arith}
 use Rattle.std.specs.Prelude.{flat_map, ◌==◌, true, false}
-use Rattle.std.proofs.lemmas.Bool.Decides.{nat_tests}
+use Rattle.std.proofs.lemmas.{Bool.Decides.nat_tests}
 use Rattle.std.specs.List.{range_with_len}
-use Rattle.std.proofs.lemmas.List.{length-append}
-
-range_more : {B : Type 0} (f : ℕ → B) (a c : ℕ) → 0 < c → map f (range_with_len a c) ≡ f a ∷ map f (range_with_len (a + 1) (c - 1))
-range_more f a zero lt = absurd (omega (arith, lt))
-range_more f a (suc c) lt = let less : c ≡ suc c - 1 = omega arith in ap (λ (k : ℕ). f a ∷ map f (range_with_len (a + 1) k)) less
+use Rattle.srp_base.proofs.Lists.{range_more}
 
 ranges_more : {B : Type 0} (f : ℕ → List B) (a c : ℕ) → 0 < c → flat_map f (range_with_len a c) ≡ f a ++ flat_map f (range_with_len (a + 1) (c - 1))
 ranges_more f a zero lt = absurd (omega (arith, lt))
@@ -28,9 +24,6 @@ list_more f a c d done next all lt less push so_far =
     ap (λ (k : ℕ). next ++ flat_map f (range_with_len (a + 1) k)) less
     ∙ (ap (λ x. x ++ flat_map f (range_with_len (a + 1) (c - 1))) push
     ∙ (append_assoc done (f a) (flat_map f (range_with_len (a + 1) (c - 1))) ∙ (ap (λ x. done ++ x) (sym (ranges_more f a c lt)) ∙ so_far)))
-
-pub pushed_length : {X : Type 0} (xs ys : List X) (y : X) (a : ℕ) → ys ≡ xs ++ y ∷ [] → length xs ≡ a → length ys ≡ a + 1
-pushed_length xs ys y a e h = ap length e ∙ (length-append xs (y ∷ []) ∙ ap (λ (k : ℕ). k + 1) h)
 
 -- a list is its front, the element at a place, and what stands behind it
 pub at_place : {X : Type 0} (xs : List X) (i : ℕ) (d : X) → i < length xs → xs ≡ take i xs ++ get_or xs i d ∷ drop (suc i) xs

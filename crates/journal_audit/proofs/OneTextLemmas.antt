@@ -1,28 +1,16 @@
 -- Legal journals of one scenario with one text are one.
 use Rattle.std.proofs.Common.{◌≡◌, ℕ, zero, suc, ◌+◌, ◌≤◌, List, [], ◌∷◌, ◌++◌, length, map, refl, sym, ap, subst, ◌∙◌, append_assoc, arith}
 use Rattle.std.specs.Prelude.{slice_set}
-use Rattle.tree_topology.specs.Topology.{HasNode}
-use Rattle.tree_topology.specs.Ports.{neighbours}
+use Rattle.srp_base.proofs.Lists.{length_set}
+use Rattle.tree_topology.specs.{Topology.HasNode, Ports.neighbours}
 use Rattle.attribute_propagation.specs.Ports.{place_of}
 use Rattle.topology_file.specs.Plan.{Plan}
-use Rattle.node_core.specs.declared.types.NodeStep.{NodeStep}
-use Rattle.node_core.specs.declared.types.PortStep.{PortStep}
-use Rattle.world_core.specs.declared.events.WorldEvent.TheVariants.{Port}
-use Rattle.world_core.specs.declared.events.WorldReply.{WorldReply}
-use Rattle.world_core.specs.declared.events.WorldEvent.{WorldEvent}
-use Rattle.world_core.specs.declared.journal.NodeSteps.{NodeSteps}
-use Rattle.world_core.specs.declared.journal.Tick.{Tick}
-use Rattle.world_core.specs.World.{WorldState, world_step, world_after}
-use Rattle.world_core.specs.Apart.{events_of}
-use Rattle.world_core.specs.Ticks.{script_at, after_script, tick_events, IsLegalTick, LeadTo}
-use Rattle.world_core.specs.During.{IsDuring}
-use Rattle.world_core.specs.OneByOne.{node_jobs, MakeLeft, steps_before, MakeAll}
+use Rattle.node_core.specs.declared.{types.NodeStep.NodeStep, types.PortStep.PortStep}
+use Rattle.world_core.specs.declared.{events.WorldEvent.TheVariants.Port, events.WorldReply.WorldReply, events.WorldEvent.WorldEvent, journal.NodeSteps.NodeSteps, journal.Tick.Tick}
+use Rattle.world_core.specs.{World.WorldState, World.world_step, World.world_after, Apart.events_of, Ticks.script_at, Ticks.after_script, Ticks.tick_events, Ticks.IsLegalTick, Ticks.LeadTo, During.IsDuring, OneByOne.node_jobs, OneByOne.MakeLeft, OneByOne.steps_before, OneByOne.MakeAll}
 use Rattle.journal_lines.specs.Lines.{made_text, line_at}
-use Rattle.journal_audit.specs.Journal.{answer_lines, made_lines, steps_lines, ticks_lines}
-use Rattle.journal_audit.specs.Replay.{ReplayLaws}
-use Rattle.journal_audit.proofs.ReadingLemmas.{Lines, same_behind}
-use Rattle.journal_audit.proofs.FollowLemmas.{node, pairs_same, none_at, before_lines, upto, has_port, next_same, ports_same}
-use Rattle.journal_audit.proofs.PartLemmas.{length_set}
+use Rattle.journal_audit.specs.{answer_lines, made_lines, steps_lines, ticks_lines, ReplayLaws}
+use Rattle.journal_audit.proofs.{ReadingLemmas.Lines, ReadingLemmas.same_behind, FollowLemmas.node, FollowLemmas.pairs_same, FollowLemmas.none_at, FollowLemmas.before_lines, FollowLemmas.upto, FollowLemmas.has_port, FollowLemmas.next_same, FollowLemmas.ports_same}
 
 module _ (plan : Plan) (laws : ReplayLaws plan) where
   -- the jobs of a node

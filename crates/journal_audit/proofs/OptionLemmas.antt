@@ -1,9 +1,6 @@
 -- What is said of an answer that may be none.
 use Rattle.std.proofs.Common.{◌≡◌, subst}
-use Rattle.std.specs.Prelude.{Option, Some, None, IfSome, IfNone}
-
-pub of_some : {A : Type 0} (P : A → Type 0) (o : Option A) (x : A) → o ≡ Some x → IfSome o P → P x
-of_some P o x e h = subst (λ q. IfSome q P) e h
+use Rattle.std.specs.Prelude.{Option, None, IfNone}
 
 pub of_none : {A : Type 0} (P : Type 0) (o : Option A) → o ≡ None → IfNone o P → P
 of_none P o e h = subst (λ q. IfNone q P) e h

@@ -1,53 +1,29 @@
 -- The replay goes on: a step more, a node more, the answers of a tick's events.
-use Rattle.std.proofs.Common.{◌≡◌, ℕ, zero, suc, ◌<◌, Bool, true, false, List, [], ◌∷◌, ◌++◌, length, map, refl, sym, ap, subst, ◌∙◌, append_assoc, arith}
-use Rattle.std.specs.Prelude.{slice_set, Option, Some, flat_map, ◌||◌, if◌then◌else◌, nat_lt}
-use Rattle.std.specs.Option.{option_map_or}
-use Rattle.std.specs.List.{AllByRecursion, range_with_len}
-use Rattle.std.proofs.lemmas.Bool.Decides.{nat_tests}
-use Rattle.std.proofs.lemmas.List.{append-nil}
-use Rattle.srp_base.specs.declared.numbers.NodeNo.{NodeNo}
-use Rattle.tree_topology.specs.Topology.{HasNode}
-use Rattle.tree_topology.specs.Ports.{neighbours}
+use Rattle.std.proofs.Common.{◌≡◌, ℕ, suc, ◌<◌, Bool, true, false, List, [], ◌∷◌, ◌++◌, length, map, refl, sym, ap, subst, ◌∙◌, append_assoc, arith}
+use Rattle.std.specs.Prelude.{slice_set, Option, Some, ◌||◌, if◌then◌else◌, nat_lt}
+use Rattle.std.specs.{Option.option_map_or, List.AllByRecursion, List.range_with_len}
+use Rattle.std.proofs.lemmas.{Bool.Decides.nat_tests, List.append-nil}
+use Rattle.std.proofs.lemmas.Grind.{flat_map-append as flat_append}
+use Rattle.srp_base.proofs.Lists.{length_set}
+use Rattle.srp_base.specs.declared.{numbers.NodeNo.NodeNo, mrp.App.TheVariants.Mvrp, mrp.App.TheVariants.Msrp}
+use Rattle.tree_topology.specs.{Topology.HasNode, Ports.neighbours}
 use Rattle.attribute_propagation.specs.Ports.{place_of}
 use Rattle.topology_file.specs.Plan.{Plan}
-use Rattle.node_core.specs.declared.types.NodeStep.{NodeStep}
-use Rattle.node_core.specs.declared.types.PortStep.{PortStep}
+use Rattle.node_core.specs.declared.{types.NodeStep.NodeStep, types.PortStep.PortStep}
 use Rattle.node_core.specs.declared.types.PortStep.TheVariants.{Due, Settle, Send}
-use Rattle.srp_base.specs.declared.mrp.App.TheVariants.{Mvrp, Msrp}
 use Rattle.node_core.specs.State.{NodeState, ports_of, box_at, works, job_list, is_busy_node, is_sending_time}
-use Rattle.world_core.specs.declared.events.WorldEvent.{WorldEvent}
-use Rattle.world_core.specs.declared.events.WorldEvent.TheVariants.{Port}
-use Rattle.world_core.specs.declared.events.WorldReply.{WorldReply}
-use Rattle.world_core.specs.declared.journal.NodeSteps.{NodeSteps}
-use Rattle.world_core.specs.declared.journal.Tick.{Tick}
-use Rattle.world_core.specs.World.{WorldState, node_at, world_step, world_after, replies_to}
-use Rattle.world_core.specs.Apart.{events_of}
-use Rattle.world_core.specs.Ticks.{script_at, after_script, step_events, closing_events}
-use Rattle.world_core.specs.During.{IsDuring}
-use Rattle.world_core.specs.OneByOne.{node_jobs, MakeLeft, steps_before, MakeAll, IsOneByOne}
+use Rattle.world_core.specs.declared.{events.WorldEvent.WorldEvent, events.WorldEvent.TheVariants.Port, events.WorldReply.WorldReply, journal.NodeSteps.NodeSteps, journal.Tick.Tick}
+use Rattle.world_core.specs.{World.WorldState, World.node_at, World.world_step, World.world_after, World.replies_to, Apart.events_of, Ticks.script_at, Ticks.after_script, Ticks.step_events, Ticks.closing_events, During.IsDuring, OneByOne.node_jobs, OneByOne.MakeLeft, OneByOne.steps_before, OneByOne.MakeAll, OneByOne.IsOneByOne}
 use Rattle.journal_lines.specs.Lines.{line_at}
-use Rattle.journal_audit.specs.Left.{LeftState, jobs_left, is_any_left}
-use Rattle.journal_audit.specs.Reading.{Reading, IsStuck, AreTaken, HasRead}
-use Rattle.journal_audit.specs.Journal.{answer_line, answer_lines, made_lines, steps_lines, tick_lines}
-use Rattle.journal_audit.specs.Follow.{FollowTicks, FollowNodes, FollowJobs, FollowAnswers, nodes_from}
-use Rattle.journal_audit.specs.Replay.{ReplayLaws, IsOtherAnswer, IsStepRead, IsPartRead, IsNodeRead, AreNodesRead, with_steps, IsTickRead}
-use Rattle.journal_audit.proofs.ReadingLemmas.{Lines, read_none, read_same, same_read, read_then, read_one, stuck_then, stuck_as, same_behind}
-use Rattle.journal_audit.proofs.FollowLemmas.{node, after_append, answers_out, answers_in, answers_stuck, one_less, none_behind, jobs_out, jobs_in, nodes_none_out, nodes_none_in, left_none_out, left_none_in, has_port, step_onto, step_back}
+use Rattle.journal_audit.specs.{LeftState, jobs_left, is_any_left, IsStuck, AreTaken, HasRead, answer_line, answer_lines, made_lines, steps_lines, tick_lines, FollowTicks, FollowNodes, FollowJobs, FollowAnswers, nodes_from, ReplayLaws, IsOtherAnswer, IsStepRead, IsPartRead, IsNodeRead, AreNodesRead, with_steps, IsTickRead}
+use Rattle.journal_audit.specs.Reading.{Reading}
+use Rattle.journal_audit.proofs.{ReadingLemmas.Lines, ReadingLemmas.read_none, ReadingLemmas.read_same, ReadingLemmas.same_read, ReadingLemmas.read_then, ReadingLemmas.read_one, ReadingLemmas.stuck_then, ReadingLemmas.stuck_as, ReadingLemmas.same_behind, FollowLemmas.node, FollowLemmas.after_append, FollowLemmas.answers_out, FollowLemmas.answers_in, FollowLemmas.answers_stuck, FollowLemmas.one_less, FollowLemmas.none_behind, FollowLemmas.jobs_out, FollowLemmas.jobs_in, FollowLemmas.nodes_none_out, FollowLemmas.nodes_none_in, FollowLemmas.left_none_out, FollowLemmas.left_none_in, FollowLemmas.has_port, FollowLemmas.step_onto, FollowLemmas.step_back}
 
 -- ---- lists
 
 map_append : {A B : Type 0} (f : A → B) (xs ys : List A) → map f (xs ++ ys) ≡ map f xs ++ map f ys
 map_append f [] ys = refl
 map_append f (x ∷ xs) ys = ap (λ zs. f x ∷ zs) (map_append f xs ys)
-
-flat_append : {A B : Type 0} (f : A → List B) (xs ys : List A) → flat_map f (xs ++ ys) ≡ flat_map f xs ++ flat_map f ys
-flat_append f [] ys = refl
-flat_append f (x ∷ xs) ys = ap (λ zs. f x ++ zs) (flat_append f xs ys) ∙ sym (append_assoc (f x) (flat_map f xs) (flat_map f ys))
-
-pub length_set : {X : Type 0} (xs : List X) (i : ℕ) (y : X) → length (slice_set xs i y) ≡ length xs
-length_set [] i y = refl
-length_set (x ∷ xs) zero y = refl
-length_set (x ∷ xs) (suc i) y = ap suc (length_set xs i y)
 
 -- ---- whether a job is left
 

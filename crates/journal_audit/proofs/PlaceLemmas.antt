@@ -3,15 +3,10 @@ use Rattle.std.proofs.Common.{◌≡◌, ℕ, zero, suc, ◌+◌, ◌-◌, ◌�
 use Rattle.std.specs.Prelude.{◌==◌, if◌then◌else◌, slice_get, Option, Some, None}
 use Rattle.std.specs.List.{AllByRecursion}
 use Rattle.std.proofs.lemmas.List.{length-append}
-use Rattle.mrpdu_codec.specs.declared.form.AppForm.{AppForm}
-use Rattle.mrpdu_codec.specs.declared.form.AppForm.TheVariants.{Msrp}
-use Rattle.mrpdu_codec.specs.declared.form.TypeForm.{TypeForm}
-use Rattle.mrpdu_codec.specs.Octets.{number}
-use Rattle.mrpdu_codec.specs.Types.{row_of}
-use Rattle.mrpdu_codec.specs.Grammar.{Breaks}
-use Rattle.mrpdu_codec.specs.Places.{span_of, places_in, body_places, behind_body, known_places, places_from, first_places, first_value_place}
+use Rattle.srp_base.proofs.Lists.{each_append}
+use Rattle.mrpdu_codec.specs.declared.{form.AppForm.AppForm, form.AppForm.TheVariants.Msrp, form.TypeForm.TypeForm}
+use Rattle.mrpdu_codec.specs.{Octets.number, Types.row_of, Grammar.Breaks, Places.span_of, Places.places_in, Places.body_places, Places.behind_body, Places.known_places, Places.places_from, Places.first_places, Places.first_value_place}
 use Rattle.msrp_codec.specs.Meaning.{MsrpBreaks}
-use Rattle.journal_audit.proofs.RunLemmas.{each_append}
 
 -- ---- where a field breaks
 

@@ -1,8 +1,8 @@
 -- Reading on, and where it stops.
 use Rattle.std.proofs.Common.{◌≡◌, ℕ, zero, suc, ◌+◌, List, [], ◌∷◌, ◌++◌, length, take, refl, sym, ap, subst, ◌∙◌, append_assoc, arith}
 use Rattle.std.proofs.lemmas.List.{append-nil, length-append}
-use Rattle.journal_audit.specs.Texts.{lines_of}
-use Rattle.journal_audit.specs.Reading.{Reading, IsTaken, Agrees, IsStuck, HasRead}
+use Rattle.journal_audit.specs.{lines_of, IsTaken, Agrees, IsStuck, HasRead}
+use Rattle.journal_audit.specs.Reading.{Reading}
 
 abbrev pub Lines : Type 0
 Lines = List (List ℕ)

@@ -1,35 +1,23 @@
 -- What a node answers in a tick: which steps it makes, and that the numbers of their answers are small.
-use Rattle.std.proofs.Common.{◌≡◌, ℕ, zero, suc, ◌+◌, ◌-◌, ◌<◌, ◌≤◌, ◌^◌, Bool, true, false, List, [], ◌∷◌, ◌++◌, length, map, refl, subst, arith}
-use Rattle.std.specs.Prelude.{if◌then◌else◌, slice_get, slice_set, Option, Some, None, Result, Ok, Err}
-use Rattle.std.specs.Option.{option_map_or}
-use Rattle.std.specs.List.{AllByRecursion, range_with_len}
+use Rattle.std.proofs.Common.{◌≡◌, ℕ, zero, suc, ◌-◌, ◌<◌, ◌≤◌, ◌^◌, Bool, true, false, List, [], ◌∷◌, ◌++◌, length, map, refl, subst, arith}
+use Rattle.std.specs.Prelude.{if◌then◌else◌, slice_set, Option, Some, None, Result, Ok, Err}
+use Rattle.std.specs.{Option.option_map_or, List.AllByRecursion, List.range_with_len}
 use Rattle.std.proofs.Math.Nat.{min-le_right}
-use Rattle.srp_base.specs.declared.numbers.NodeNo.{NodeNo}
-use Rattle.srp_base.specs.declared.numbers.PortNo.{PortNo}
-use Rattle.srp_base.specs.declared.mrp.App.{App}
-use Rattle.srp_base.specs.declared.mrp.App.TheVariants.{Mvrp, Msrp}
+use Rattle.srp_base.proofs.Lists.{each_append}
+use Rattle.srp_base.specs.declared.{numbers.NodeNo.NodeNo, numbers.PortNo.PortNo, mrp.App.App, mrp.App.TheVariants.Mvrp, mrp.App.TheVariants.Msrp}
 use Rattle.tree_topology.specs.Topology.{Topology}
 use Rattle.attribute_propagation.specs.Ports.{count_of, place_of}
 use Rattle.mvrp_codec.specs.declared.pdu.MvrpPdu.{MvrpPdu}
 use Rattle.mvrp_codec.specs.Meaning.{mvrp_reading}
 use Rattle.msrp_codec.specs.declared.pdu.MsrpPdu.{MsrpPdu}
 use Rattle.msrp_codec.specs.Meaning.{msrp_reading}
-use Rattle.node_core.specs.declared.types.Wire.{Wire}
+use Rattle.node_core.specs.declared.{types.Wire.Wire, types.PortStep.PortStep, types.StepReply.StepReply}
 use Rattle.node_core.specs.declared.types.NodeEvent.TheVariants as node_events
-use Rattle.node_core.specs.declared.types.PortStep.{PortStep}
 use Rattle.node_core.specs.declared.types.PortStep.TheVariants.{Work, LeaveNow, LeaveAllNow, PeriodicNow, Due, Settle, Send}
-use Rattle.node_core.specs.declared.types.StepReply.{StepReply}
 use Rattle.node_core.specs.declared.types.StepReply.TheVariants.{Nothing, Discarded, Received, Fired, Settled, Silent, Sent, Taken}
-use Rattle.node_core.specs.Wires.{AreShort}
-use Rattle.node_core.specs.State.{NodeState, ports_of, box_at, works, job_list, is_busy_node, is_sending_time}
-use Rattle.node_core.specs.Step.{worked_mvrp, worked_msrp, worked_app, after_work, sent_octets, octets_to_say, port_step, node_step, all_due, all_awaiting}
-use Rattle.node_core.specs.Links.{IsKeptNode}
-use Rattle.world_core.specs.declared.events.WorldEvent.TheVariants.{Port}
-use Rattle.world_core.specs.declared.events.WorldReply.TheVariants.{Step, Missed}
-use Rattle.world_core.specs.World.{WorldState, node_at, after_step, world_step}
-use Rattle.world_core.specs.During.{IsDuring}
-use Rattle.world_core.specs.OneByOne.{node_jobs}
-use Rattle.journal_audit.proofs.RunLemmas.{each_append}
+use Rattle.node_core.specs.{Wires.AreShort, State.NodeState, State.ports_of, State.box_at, State.works, State.job_list, State.is_busy_node, State.is_sending_time, Step.worked_mvrp, Step.worked_msrp, Step.worked_app, Step.after_work, Step.sent_octets, Step.octets_to_say, Step.port_step, Step.node_step, Step.all_due, Step.all_awaiting, Links.IsKeptNode}
+use Rattle.world_core.specs.declared.{events.WorldEvent.TheVariants.Port, events.WorldReply.TheVariants.Step, events.WorldReply.TheVariants.Missed}
+use Rattle.world_core.specs.{World.WorldState, World.node_at, World.after_step, World.world_step, During.IsDuring, OneByOne.node_jobs}
 
 -- ---- which steps
 
@@ -74,11 +62,6 @@ node_jobs_are n w = by (node_at n w)
     by : (o : Option NodeState) → AllByRecursion AreJobs (option_map_or (λ (s : NodeState). map (λ at. job_list at s) (range_with_len 0 (ports_of s))) o [])
     by None = tt
     by (Some s) = lists_are s (range_with_len 0 (ports_of s))
-
-pub each_at : {X : Type 0} (P : X → Type 0) (xs : List X) (i : ℕ) (x : X) → AllByRecursion P xs → slice_get xs i ≡ Some x → P x
-each_at P [] i x h get = cc
-each_at P (y ∷ xs) zero x h get = let some : Some y ≡ Some x = get in let same : y ≡ x = cc in subst P same h.0
-each_at P (y ∷ xs) (suc i) x h get = each_at P xs i x h.1 get
 
 pub each_set : {X : Type 0} (P : X → Type 0) (xs : List X) (i : ℕ) (x : X) → AllByRecursion P xs → P x → AllByRecursion P (slice_set xs i x)
 each_set P [] i x h k = tt

@@ -2,35 +2,18 @@
 use Rattle.std.proofs.Common.{◌≡◌, ℕ, suc, ◌+◌, ◌<◌, List, [], ◌∷◌, ◌++◌, length, map, take, refl, sym, ap, subst, ◌∙◌, append_assoc, arith}
 use Rattle.std.specs.List.{AllByRecursion}
 use Rattle.std.proofs.lemmas.List.{append-nil}
+use Rattle.srp_base.proofs.Lists.{each_append}
 use Rattle.srp_base.specs.Text.{whole_of}
-use Rattle.srp_base.specs.declared.numbers.NodeNo.{NodeNo}
-use Rattle.srp_base.specs.declared.ports.PortChange.{PortChange}
+use Rattle.srp_base.specs.declared.{numbers.NodeNo.NodeNo, ports.PortChange.PortChange}
 use Rattle.tree_topology.specs.Topology.{HasPort, link_ports}
 use Rattle.topology_file.specs.Plan.{Plan}
 use Rattle.node_core.specs.declared.types.NodeStep.{NodeStep}
-use Rattle.world_core.specs.declared.events.WorldReply.{WorldReply}
-use Rattle.world_core.specs.declared.events.WorldEvent.TheVariants.{Carry, Clock}
-use Rattle.world_core.specs.declared.journal.NodeSteps.{NodeSteps}
-use Rattle.world_core.specs.declared.journal.Tick.{Tick}
-use Rattle.world_core.specs.declared.journal.Run.{Run}
-use Rattle.world_core.specs.World.{WorldState, CanHappen, world_step, world_after}
-use Rattle.world_core.specs.Start.{world_of}
-use Rattle.world_core.specs.Ticks.{closing_events, after_steps, tick_events, IsLegalTick, LeadTo}
-use Rattle.world_core.specs.During.{IsDuring}
-use Rattle.world_core.specs.Carrying.{NothingWaits}
-use Rattle.world_core.specs.History.{HistoryState, acts_noted}
-use Rattle.world_core.specs.NotedRuns.{IsNotedRun}
-use Rattle.world_core.specs.Missed.{is_missed}
+use Rattle.world_core.specs.declared.{events.WorldReply.WorldReply, events.WorldEvent.TheVariants.Carry, events.WorldEvent.TheVariants.Clock, journal.NodeSteps.NodeSteps, journal.Tick.Tick, journal.Run.Run}
+use Rattle.world_core.specs.{World.WorldState, World.CanHappen, World.world_step, World.world_after, Start.world_of, Ticks.closing_events, Ticks.after_steps, Ticks.tick_events, Ticks.IsLegalTick, Ticks.LeadTo, During.IsDuring, Carrying.NothingWaits, History.HistoryState, History.acts_noted, NotedRuns.IsNotedRun, Missed.is_missed}
 use Rattle.journal_lines.specs.Lines.{IsLine}
-use Rattle.journal_audit.specs.Texts.{lines_of}
-use Rattle.journal_audit.specs.Reading.{Reading, IsStuck, HasRead}
-use Rattle.journal_audit.specs.Journal.{answer_lines, made_lines, steps_lines, tick_lines, ticks_lines}
-use Rattle.journal_audit.specs.Follow.{FollowTicks}
-use Rattle.journal_audit.specs.Replay.{ReplayLaws, IsTickRead, AreTicksRead, IsRunRead}
-use Rattle.journal_audit.specs.Audit.{IsJournalOf, IsFirstIllegal}
-use Rattle.journal_audit.proofs.TextLemmas.{line_first, lines_join}
-use Rattle.journal_audit.proofs.ReadingLemmas.{Lines, read_none, read_then, stuck_here, stuck_then}
-use Rattle.journal_audit.proofs.FollowLemmas.{after_append, tick_closes, nothing_follows}
+use Rattle.journal_audit.specs.{lines_of, IsStuck, HasRead, answer_lines, made_lines, steps_lines, tick_lines, ticks_lines, FollowTicks, ReplayLaws, IsTickRead, AreTicksRead, IsRunRead, IsJournalOf, IsFirstIllegal}
+use Rattle.journal_audit.specs.Reading.{Reading}
+use Rattle.journal_audit.proofs.{TextLemmas.line_first, TextLemmas.lines_join, ReadingLemmas.Lines, ReadingLemmas.read_none, ReadingLemmas.read_then, ReadingLemmas.stuck_here, ReadingLemmas.stuck_then, FollowLemmas.after_append, FollowLemmas.tick_closes, FollowLemmas.nothing_follows}
 
 -- one tick more
 ticks_push : (plan : Plan) (s : ℕ) (ticks : List Tick) (tick : Tick) → ticks_lines plan s (ticks ++ tick ∷ []) ≡ ticks_lines plan s ticks ++ tick_lines plan (s + length ticks) tick
@@ -47,10 +30,6 @@ ticks_push plan s (first ∷ ticks) tick =
 lines_whole : (lines : Lines) → AllByRecursion IsLine lines → lines_of (whole_of lines) ≡ lines
 lines_whole [] all = refl
 lines_whole (line ∷ lines) all = line_first line (whole_of lines) all.0 ∙ ap (λ (ls : Lines). line ∷ ls) (lines_whole lines all.1)
-
-pub each_append : {X : Type 0} (P : X → Type 0) (xs ys : List X) → AllByRecursion P xs → AllByRecursion P ys → AllByRecursion P (xs ++ ys)
-each_append P [] ys h k = k
-each_append P (x ∷ xs) ys h k = (h.0, each_append P xs ys h.1 k)
 
 -- a text with something in it has a line
 no_line : (text : List ℕ) → lines_of text ≡ [] → text ≡ []

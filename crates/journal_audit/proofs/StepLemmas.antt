@@ -1,33 +1,21 @@
 -- One step of the replay: which port makes it, and where no port can.
 use Rattle.std.proofs.Common.{◌≡◌, ◌≢◌, ◌⊎◌, inl, inr, ℕ, zero, suc, ◌+◌, ◌<◌, true, false, List, [], ◌∷◌, ◌++◌, length, refl, sym, ap, subst, ◌∙◌, append_assoc, arith}
 use Rattle.std.specs.Prelude.{slice_get, slice_index_or, slice_set, Some}
-use Rattle.std.proofs.lemmas.List.{length-append}
-use Rattle.std.proofs.lemmas.Option.{slice_get_within}
+use Rattle.std.proofs.lemmas.{List.length-append, Option.slice_get_within}
+use Rattle.srp_base.proofs.Lists.{length_set}
 use Rattle.srp_base.specs.Text.{whole_of}
-use Rattle.srp_base.specs.declared.numbers.NodeNo.{NodeNo}
-use Rattle.srp_base.specs.declared.numbers.PortNo.{PortNo}
+use Rattle.srp_base.specs.declared.{numbers.NodeNo.NodeNo, numbers.PortNo.PortNo}
 use Rattle.tree_topology.specs.Topology.{HasNode, HasPort}
 use Rattle.attribute_propagation.specs.Ports.{place_of}
 use Rattle.topology_file.specs.Plan.{Plan}
-use Rattle.node_core.specs.declared.types.NodeStep.{NodeStep}
-use Rattle.node_core.specs.declared.types.PortStep.{PortStep}
-use Rattle.world_core.specs.declared.events.WorldEvent.TheVariants.{Port}
-use Rattle.world_core.specs.declared.events.WorldReply.{WorldReply}
-use Rattle.world_core.specs.declared.events.WorldReply.TheVariants.{Step}
-use Rattle.world_core.specs.World.{WorldState, Happened, world_step}
-use Rattle.world_core.specs.During.{IsDuring}
-use Rattle.world_core.specs.OneByOne.{IsNextJob}
+use Rattle.node_core.specs.declared.{types.NodeStep.NodeStep, types.PortStep.PortStep}
+use Rattle.world_core.specs.declared.{events.WorldEvent.TheVariants.Port, events.WorldReply.WorldReply, events.WorldReply.TheVariants.Step}
+use Rattle.world_core.specs.{World.WorldState, World.Happened, World.world_step, During.IsDuring, OneByOne.IsNextJob}
 use Rattle.report_words.specs.Names.{port_name}
 use Rattle.journal_lines.specs.Lines.{place_text, made_text, line_at}
-use Rattle.journal_audit.specs.Texts.{lines_of}
-use Rattle.journal_audit.specs.Left.{LeftState, jobs_left, place_at, ArePortsLeft, MayBeNext, is_any_left}
-use Rattle.journal_audit.specs.Reading.{Reading, IsTaken, IsStuck, TakesOrStays, AreTaken}
-use Rattle.journal_audit.specs.Journal.{answer_line, answer_lines}
-use Rattle.journal_audit.specs.Follow.{FollowJobs}
-use Rattle.journal_audit.specs.Replay.{ReplayLaws, IsOtherAnswer, IsStepRead}
-use Rattle.journal_audit.proofs.TextLemmas.{first_begins}
-use Rattle.journal_audit.proofs.FollowLemmas.{node, jobs_stuck, ports_same, next_same}
-use Rattle.journal_audit.proofs.PartLemmas.{any_some}
+use Rattle.journal_audit.specs.{lines_of, LeftState, jobs_left, place_at, ArePortsLeft, MayBeNext, is_any_left, IsTaken, IsStuck, TakesOrStays, AreTaken, answer_line, answer_lines, FollowJobs, ReplayLaws, IsOtherAnswer, IsStepRead}
+use Rattle.journal_audit.specs.Reading.{Reading}
+use Rattle.journal_audit.proofs.{TextLemmas.first_begins, FollowLemmas.node, FollowLemmas.jobs_stuck, FollowLemmas.ports_same, FollowLemmas.next_same, PartLemmas.any_some}
 
 -- ---- answers
 
@@ -71,11 +59,6 @@ jobs_set : (ports : List LeftState) (at : ℕ) (q : LeftState) → jobs_left (sl
 jobs_set [] at q = refl
 jobs_set (p ∷ ports) zero q = refl
 jobs_set (p ∷ ports) (suc at) q = ap (λ (js : List (List PortStep)). p.jobs ∷ js) (jobs_set ports at q)
-
-length_set : {X : Type 0} (xs : List X) (i : ℕ) (y : X) → length (slice_set xs i y) ≡ length xs
-length_set [] i y = refl
-length_set (x ∷ xs) zero y = refl
-length_set (x ∷ xs) (suc i) y = ap suc (length_set xs i y)
 
 get_set : {X : Type 0} (xs : List X) (i k : ℕ) (y r : X) → slice_get (slice_set xs i y) k ≡ Some r → ((i ≡ k) × (r ≡ y)) ⊎ (slice_get xs k ≡ Some r)
 get_set [] i k y r get = inr get

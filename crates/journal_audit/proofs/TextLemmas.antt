@@ -1,14 +1,13 @@
 -- Parts of a text, and its lines.
 use Rattle.std.proofs.Common.{◌≡◌, ◌≢◌, ℕ, suc, ◌+◌, ◌<◌, ◌≤◌, Bool, true, false, cond, List, [], ◌∷◌, ◌++◌, length, take, drop, refl, sym, ap, subst, ◌∙◌, inl, inr, append_assoc, arith}
 use Rattle.std.specs.Prelude.{◌==◌, ◌⊎◌, if◌then◌else◌, nat_lt, Option, Some, None, IfSome, IfNone}
-use Rattle.std.specs.Option.{MatchOption}
-use Rattle.std.specs.List.{AllByRecursion, position, position_or_len}
-use Rattle.std.proofs.lemmas.Bool.{cases_Bool, cases_lt, ne_eqb, false≢true}
-use Rattle.std.proofs.lemmas.Bool.Decides.{Decides-eqb, Decides-ltb}
+use Rattle.std.specs.{Option.MatchOption, List.AllByRecursion, List.position, List.position_or_len}
+use Rattle.std.proofs.lemmas.{Bool.cases_Bool, Bool.cases_lt, Bool.ne_eqb, Bool.false≢true, Bool.Decides.Decides-eqb, Bool.Decides.Decides-ltb}
+use Rattle.srp_base.proofs.Lists.{behind_same}
 use Rattle.srp_base.specs.Text.{whole_of}
 use Rattle.journal_lines.specs.Lines.{IsLine}
-use Rattle.journal_audit.specs.Texts.{with_octet, lines_of}
-use Rattle.journal_audit.specs.Reading.{Reading, IsTaken}
+use Rattle.journal_audit.specs.{with_octet, lines_of, IsTaken}
+use Rattle.journal_audit.specs.Reading.{Reading}
 
 pub found_is : {A : Type 0} (o : Option A) (N : Type 0) (S : A → Type 0) → MatchOption o N S → IfSome o S
 found_is None N S h = tt
@@ -17,11 +16,6 @@ found_is (Some x) N S h = h
 pub none_is : {A : Type 0} (o : Option A) (N : Type 0) (S : A → Type 0) → MatchOption o N S → IfNone o N
 none_is None N S h = h
 none_is (Some x) N S h = tt
-
--- what stands behind one text is one where the whole is
-pub behind_same : (xs a b : List ℕ) → xs ++ a ≡ xs ++ b → a ≡ b
-behind_same [] a b e = e
-behind_same (x ∷ xs) a b e = let rest : xs ++ a ≡ xs ++ b = cc in behind_same xs a b rest
 
 -- a word without what has to stand behind it
 pub not_word : {A : Type 0} (word text rest : List ℕ) (o : Option A) → text ≡ word ++ rest → IfNone o ((r : List ℕ) → rest ≢ 32 ∷ r) → IfNone o ((r : List ℕ) → text ≢ word ++ 32 ∷ r)

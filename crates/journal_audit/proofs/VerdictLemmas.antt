@@ -5,16 +5,8 @@ use Rattle.std.proofs.lemmas.Bool.{cases_lt}
 use Rattle.topology_file.specs.Plan.{Plan}
 use Rattle.world_core.specs.declared.journal.Tick.{Tick}
 use Rattle.world_core.specs.World.{WorldState}
-use Rattle.journal_audit.specs.declared.form.Known.{Known}
-use Rattle.journal_audit.specs.declared.verdict.Verdict.{Verdict}
-use Rattle.journal_audit.specs.declared.verdict.Verdict.TheVariants.{Legal, No}
-use Rattle.journal_audit.specs.Texts.{lines_of}
-use Rattle.journal_audit.specs.Form.{AreFormed, IsFirstUnformed}
-use Rattle.journal_audit.specs.Journal.{ticks_lines}
-use Rattle.journal_audit.specs.Audit.{known_of, IsJournalOf, AgreesFor, IsFirstIllegal, IsRefusal, IsVerdict, RefusesBehind}
-use Rattle.journal_audit.specs.Replay.{ReplayLaws}
-use Rattle.journal_audit.proofs.ReadingLemmas.{take_less}
-use Rattle.journal_audit.proofs.RunLemmas.{none_is}
+use Rattle.journal_audit.specs.{Known, Verdict, Legal, No, lines_of, AreFormed, IsFirstUnformed, ticks_lines, known_of, IsJournalOf, AgreesFor, IsFirstIllegal, IsRefusal, IsVerdict, RefusesBehind, ReplayLaws}
+use Rattle.journal_audit.proofs.{ReadingLemmas.take_less, RunLemmas.none_is}
 
 -- ---- one place alone
 

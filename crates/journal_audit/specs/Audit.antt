@@ -5,16 +5,10 @@ use Rattle.tree_topology.specs.Ports.{neighbours}
 use Rattle.frame_flow.specs.Copies.{port_of}
 use Rattle.topology_file.specs.Plan.{Plan}
 use Rattle.world_core.specs.declared.journal.Tick.{Tick}
-use Rattle.world_core.specs.World.{WorldState}
-use Rattle.world_core.specs.Ticks.{AreLegalTicks}
-use Rattle.world_core.specs.Timeline.{IsTimelineOf}
+use Rattle.world_core.specs.{World.WorldState, Ticks.AreLegalTicks, Timeline.IsTimelineOf}
 use Rattle.report_words.specs.Names.{port_name}
-use Rattle.journal_audit.specs.declared.form.Known.{Known}
-use Rattle.journal_audit.specs.declared.verdict.Verdict.{Verdict}
-use Rattle.journal_audit.specs.declared.verdict.Verdict.TheVariants.{Legal, No}
-use Rattle.journal_audit.specs.Texts.{lines_of}
-use Rattle.journal_audit.specs.Form.{AreFormed, IsFirstUnformed}
-use Rattle.journal_audit.specs.Journal.{ticks_lines, journal_text}
+use Rattle.journal_audit.specs.declared.{form.Known.Known, verdict.Verdict.Verdict, verdict.Verdict.TheVariants.Legal, verdict.Verdict.TheVariants.No}
+use Rattle.journal_audit.specs.{Texts.lines_of, Form.AreFormed, Form.IsFirstUnformed, Journal.ticks_lines, Journal.journal_text}
 
 -- the names of a node's ports
 abbrev pub names_at : Plan → ℕ → List (List ℕ)

@@ -2,15 +2,9 @@
 -- have left of their jobs, and from the events of a tick on.
 use Rattle.std.specs.Prelude.{◌≡◌, ℕ, suc, ◌-◌, List, ◌++◌, length}
 use Rattle.topology_file.specs.Plan.{Plan}
-use Rattle.node_core.specs.declared.types.NodeStep.{NodeStep}
-use Rattle.node_core.specs.declared.types.PortStep.{PortStep}
-use Rattle.world_core.specs.declared.events.WorldReply.{WorldReply}
-use Rattle.world_core.specs.declared.journal.NodeSteps.{NodeSteps}
-use Rattle.world_core.specs.declared.journal.Tick.{Tick}
-use Rattle.world_core.specs.World.{WorldState, world_after}
-use Rattle.world_core.specs.Apart.{events_of}
-use Rattle.world_core.specs.Ticks.{step_events, closing_events, IsLegalTick, LeadTo}
-use Rattle.world_core.specs.OneByOne.{MakeLeft, MakeAll}
+use Rattle.node_core.specs.declared.{types.NodeStep.NodeStep, types.PortStep.PortStep}
+use Rattle.world_core.specs.declared.{events.WorldReply.WorldReply, journal.NodeSteps.NodeSteps, journal.Tick.Tick}
+use Rattle.world_core.specs.{World.WorldState, World.world_after, Apart.events_of, Ticks.step_events, Ticks.closing_events, Ticks.IsLegalTick, Ticks.LeadTo, OneByOne.MakeLeft, OneByOne.MakeAll}
 use Rattle.journal_audit.specs.Journal.{answer_lines, made_lines, steps_lines, ticks_lines}
 
 -- those of legal ticks from tick t on, up to the scenario's end

@@ -1,7 +1,6 @@
 -- The form of a journal's lines, without a run: which words may stand where.
 use Rattle.std.specs.Prelude.{◌≡◌, ◌<◌, ◌≤◌, ◌⊎◌, ℕ, suc, List, [], ◌∷◌, ◌++◌, codes, length, take, slice_index}
-use Rattle.std.specs.List.{AllByRecursion, Any}
-use Rattle.std.specs.Fmt.{decimal}
+use Rattle.std.specs.{List.AllByRecursion, List.Any, Fmt.decimal}
 use Rattle.journal_audit.specs.declared.form.Known.{Known}
 use Rattle.journal_audit.specs.Texts.{lines_of}
 

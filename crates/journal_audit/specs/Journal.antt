@@ -4,9 +4,7 @@ use Rattle.srp_base.specs.Text.{whole_of}
 use Rattle.srp_base.specs.declared.numbers.NodeNo.{NodeNo}
 use Rattle.topology_file.specs.Plan.{Plan}
 use Rattle.node_core.specs.declared.types.NodeStep.{NodeStep}
-use Rattle.world_core.specs.declared.events.WorldReply.{WorldReply}
-use Rattle.world_core.specs.declared.journal.NodeSteps.{NodeSteps}
-use Rattle.world_core.specs.declared.journal.Tick.{Tick}
+use Rattle.world_core.specs.declared.{events.WorldReply.WorldReply, journal.NodeSteps.NodeSteps, journal.Tick.Tick}
 use Rattle.world_core.specs.Missed.{is_missed}
 use Rattle.journal_lines.specs.Lines.{event_line, line_at}
 

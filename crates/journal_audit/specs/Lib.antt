@@ -6,3 +6,14 @@ pub mod Follow
 pub mod Left
 pub mod Replay
 pub mod Audit
+pub use Texts.*
+pub use Form.*
+pub use Reading.*
+pub use Journal.*
+pub use Follow.*
+pub use Left.*
+pub use Replay.*
+pub use Audit.*
+pub use Rattle.journal_audit.specs.declared.form.Known.{Known}
+pub use Rattle.journal_audit.specs.declared.verdict.Verdict.{Verdict}
+pub use Rattle.journal_audit.specs.declared.verdict.Verdict.TheVariants.{Legal, No}

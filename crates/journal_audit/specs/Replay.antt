@@ -1,37 +1,18 @@
 -- The replay of a journal, part by part: what has been read, and where it is stuck.
 use Rattle.std.specs.Prelude.{◌≡◌, ◌≢◌, ◌<◌, ◌≤◌, ◌^◌, ℕ, suc, ◌+◌, Bool, List, [], ◌∷◌, ◌++◌, length, map, slice_set}
 use Rattle.std.specs.List.{AllByRecursion}
-use Rattle.srp_base.specs.declared.numbers.NodeNo.{NodeNo}
-use Rattle.srp_base.specs.declared.numbers.EgressPort.{EgressPort}
-use Rattle.tree_topology.specs.Topology.{HasNode, HasPort, link_ports}
-use Rattle.tree_topology.specs.Ports.{neighbours}
+use Rattle.srp_base.specs.declared.{numbers.NodeNo.NodeNo, numbers.EgressPort.EgressPort}
+use Rattle.tree_topology.specs.{Topology.HasNode, Topology.HasPort, Topology.link_ports, Ports.neighbours}
 use Rattle.attribute_propagation.specs.Ports.{place_of}
-use Rattle.topology_file.specs.Plan.{Plan}
-use Rattle.topology_file.specs.Scenario.{KeepsRules}
-use Rattle.node_core.specs.declared.types.NodeStep.{NodeStep}
-use Rattle.node_core.specs.declared.types.PortStep.{PortStep}
-use Rattle.world_core.specs.declared.events.WorldEvent.{WorldEvent}
+use Rattle.topology_file.specs.{Plan.Plan, Scenario.KeepsRules}
+use Rattle.node_core.specs.declared.{types.NodeStep.NodeStep, types.PortStep.PortStep}
+use Rattle.world_core.specs.declared.{events.WorldEvent.WorldEvent, events.WorldReply.WorldReply, journal.NodeSteps.NodeSteps, journal.Run.Run, journal.Tick.Tick}
 use Rattle.world_core.specs.declared.events.WorldEvent.TheVariants.{Port, Carry, Clock}
-use Rattle.world_core.specs.declared.events.WorldReply.{WorldReply}
 use Rattle.world_core.specs.declared.events.WorldReply.TheVariants.{Step, Done, Missed}
-use Rattle.world_core.specs.declared.journal.NodeSteps.{NodeSteps}
-use Rattle.world_core.specs.declared.journal.Run.{Run}
-use Rattle.world_core.specs.declared.journal.Tick.{Tick}
-use Rattle.world_core.specs.World.{WorldState, CanHappen, world_step, world_after}
-use Rattle.world_core.specs.Apart.{events_of}
-use Rattle.world_core.specs.Ticks.{script_at, step_events, closing_events, tick_events, after_steps, IsLegalTick, LeadTo}
-use Rattle.world_core.specs.Start.{world_of}
-use Rattle.world_core.specs.Carrying.{NothingWaits}
-use Rattle.world_core.specs.History.{HistoryState}
-use Rattle.world_core.specs.NotedRuns.{IsNotedRun}
-use Rattle.world_core.specs.During.{IsDuring, IsAllowed}
-use Rattle.world_core.specs.OneByOne.{node_jobs, IsNextJob, MakeLeft, MakeAll, IsOneByOne}
+use Rattle.world_core.specs.{World.WorldState, World.CanHappen, World.world_step, World.world_after, Apart.events_of, Ticks.script_at, Ticks.step_events, Ticks.closing_events, Ticks.tick_events, Ticks.after_steps, Ticks.IsLegalTick, Ticks.LeadTo, Start.world_of, Carrying.NothingWaits, History.HistoryState, NotedRuns.IsNotedRun, During.IsDuring, During.IsAllowed, OneByOne.node_jobs, OneByOne.IsNextJob, OneByOne.MakeLeft, OneByOne.MakeAll, OneByOne.IsOneByOne}
 use Rattle.report_words.specs.Names.{port_name}
 use Rattle.journal_lines.specs.Lines.{place_text, event_line, line_at, IsLine}
-use Rattle.journal_audit.specs.Texts.{lines_of}
-use Rattle.journal_audit.specs.Reading.{Reading, IsTaken, AreTaken, HasRead}
-use Rattle.journal_audit.specs.Journal.{answer_line, answer_lines, made_lines, steps_lines, tick_lines, ticks_lines}
-use Rattle.journal_audit.specs.Follow.{FollowTicks, FollowNodes, FollowJobs, nodes_from}
+use Rattle.journal_audit.specs.{Texts.lines_of, Reading.Reading, Reading.IsTaken, Reading.AreTaken, Reading.HasRead, Journal.answer_line, Journal.answer_lines, Journal.made_lines, Journal.steps_lines, Journal.tick_lines, Journal.ticks_lines, Follow.FollowTicks, Follow.FollowNodes, Follow.FollowJobs, Follow.nodes_from}
 
 -- what the replay rests on: the laws of ticks and of lines, of one scenario
 pub record ReplayLaws (plan : Plan) : Type 0 where

@@ -1,8 +1,7 @@
 //! The form of a journal's lines, which tells neither what happens nor when.
 
 ghost use Rattle.std.specs.Prelude.{◌≡◌, ◌∷◌, ◌++◌, ◌<◌, ◌≤◌, ◌-◌, ◌^◌, ◌↔◌, ℕ, codes, IfSome, IfNone, IsTrue};
-ghost use Rattle.std.specs.List.{AllByRecursion};
-ghost use Rattle.std.specs.Fmt.{decimal};
+ghost use Rattle.std.specs.{List.AllByRecursion, Fmt.decimal};
 ghost use Rattle.journal_audit.specs.Texts.{lines_of};
 ghost use Rattle.journal_audit.specs.Form.{IsDigit, IsLed, IsNumber, IsNumberText, IsCountText, IsReplyText, IsMadeText, IsEntryText, IsHappeningText, IsFormed, AreFormed, IsFirstUnformed, IsWordThen, IsNumeralOf, IsEntryBefore};
 

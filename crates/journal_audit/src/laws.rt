@@ -4,11 +4,9 @@
 ghost use Rattle.std.specs.Prelude.{◌≡◌, ◌≤◌, ◌↔◌, ℕ, List, length, Err};
 ghost use Rattle.mvrp_codec.specs.Meaning.{mvrp_reading};
 ghost use Rattle.msrp_codec.specs.Meaning.{msrp_reading};
-ghost use Rattle.topology_file.specs.Plan.{Plan};
-ghost use Rattle.topology_file.specs.Scenario.{KeepsRules};
+ghost use Rattle.topology_file.specs.{Plan.Plan, Scenario.KeepsRules};
 ghost use Rattle.world_core.specs.declared.journal.Tick.{Tick};
-ghost use Rattle.world_core.specs.World.{WorldState};
-ghost use Rattle.world_core.specs.Ticks.{AreLegalTicks};
+ghost use Rattle.world_core.specs.{World.WorldState, Ticks.AreLegalTicks};
 ghost use Rattle.journal_audit.specs.Texts.{lines_of};
 ghost use Rattle.journal_audit.specs.Form.{AreFormed, IsFirstUnformed};
 ghost use Rattle.journal_audit.specs.Journal.{ticks_lines, journal_text};

@@ -2,12 +2,7 @@
 
 ghost use Rattle.std.specs.Prelude.{◌≡◌, ◌<◌, suc, false, map, IfOk, IfSome, IfNone, OnOk};
 ghost use Rattle.tree_topology.specs.Topology.{link_ports};
-ghost use Rattle.world_core.specs.World.{world_after};
-ghost use Rattle.world_core.specs.Ticks.{closing_events};
-ghost use Rattle.world_core.specs.During.{IsDuring};
-ghost use Rattle.world_core.specs.Carrying.{has_send};
-ghost use Rattle.world_core.specs.Cursor.{IsCursor};
-ghost use Rattle.world_core.specs.Start.{world_of};
+ghost use Rattle.world_core.specs.{World.world_after, Ticks.closing_events, During.IsDuring, Carrying.has_send, Cursor.IsCursor, Start.world_of};
 ghost use Rattle.journal_audit.specs.Reading.{IsStuck};
 ghost use Rattle.journal_audit.specs.Follow.{FollowTicks};
 ghost use Rattle.journal_audit.specs.Replay.{IsTickRead, IsRunRead};

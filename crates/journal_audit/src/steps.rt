@@ -3,9 +3,7 @@
 ghost use Rattle.std.specs.Prelude.{◌≡◌, ◌≢◌, ◌<◌, ◌≤◌, ◌||◌, ◌∷◌, suc, length, true, false, IfOk, IfSome, IfNone, OnOk};
 ghost use Rattle.tree_topology.specs.Topology.{HasNode, HasPort};
 ghost use Rattle.node_core.specs.State.{is_busy_node, is_sending_time};
-ghost use Rattle.world_core.specs.World.{world_step};
-ghost use Rattle.world_core.specs.During.{IsDuring};
-ghost use Rattle.world_core.specs.OneByOne.{node_jobs};
+ghost use Rattle.world_core.specs.{World.world_step, During.IsDuring, OneByOne.node_jobs};
 ghost use Rattle.journal_lines.specs.Lines.{line_at};
 ghost use Rattle.journal_audit.specs.Left.{ArePortsLeft, jobs_left, is_any_left};
 ghost use Rattle.journal_audit.specs.Reading.{IsStuck, TakesOrStays, AreTaken};

@@ -1,18 +1,15 @@
 -- Each line ends with its only line feed.
-use Rattle.std.proofs.Common.{◌≡◌, ◌≢◌, ℕ, zero, suc, ◌+◌, ◌/◌, ◌%◌, Bool, true, false, ◌&&◌, List, [], ◌∷◌, ◌++◌, refl, sym, ap, ◌∙◌, append_assoc, arith}
-use Rattle.std.specs.Prelude.{◌==◌, if◌then◌else◌, not, codes, nat_lt}
-use Rattle.std.specs.Fmt.{decimal, digits, digits_onto, digit_glyph}
-use Rattle.std.specs.List.{AllByRecursion, list_all}
+use Rattle.std.proofs.Common.{◌≡◌, ℕ, zero, suc, ◌/◌, ◌%◌, Bool, true, false, ◌&&◌, List, [], ◌∷◌, ◌++◌, refl, sym, ap, ◌∙◌, append_assoc, arith}
+use Rattle.std.specs.Prelude.{◌==◌, if◌then◌else◌, not, codes}
+use Rattle.std.specs.{Fmt.decimal, Fmt.digits, Fmt.digits_onto, Fmt.digit_glyph, List.AllByRecursion, List.list_all}
 use Rattle.std.proofs.lemmas.Bool.Decides.{nat_tests}
+use Rattle.srp_base.proofs.Arithmetic.{glyph_plain}
 use Rattle.srp_base.specs.Text.{whole_of}
-use Rattle.srp_base.specs.declared.mrp.App.{App}
-use Rattle.srp_base.specs.declared.mrp.App.TheVariants.{Mvrp, Msrp}
-use Rattle.node_core.specs.declared.types.NodeStep.{NodeStep}
-use Rattle.node_core.specs.declared.types.PortStep.{PortStep}
+use Rattle.srp_base.specs.declared.{mrp.App.App, mrp.App.TheVariants.Mvrp, mrp.App.TheVariants.Msrp}
+use Rattle.node_core.specs.declared.{types.NodeStep.NodeStep, types.PortStep.PortStep, types.StepReply.StepReply}
 use Rattle.node_core.specs.declared.types.PortStep.TheVariants.{Work, LeaveNow, LeaveAllNow, PeriodicNow, Due, Settle, Send}
-use Rattle.node_core.specs.declared.types.StepReply.{StepReply}
 use Rattle.node_core.specs.declared.types.StepReply.TheVariants.{Nothing, Discarded, Received, Fired, Settled, Silent, Sent, Taken}
-use Rattle.journal_lines.specs.Lines.{app_name, step_name, reply_name, event_name, event_line, place_text, step_line, IsLine}
+use Rattle.journal_lines.specs.{app_name, step_name, reply_name, event_name, event_line, place_text, step_line, IsLine}
 use Rattle.journal_lines.proofs.NameLemmas.{Lacks}
 
 -- ---- texts without a line feed
@@ -37,13 +34,6 @@ plain_whole [] h = tt
 plain_whole (p ∷ pieces) h = plain_append p (whole_of pieces) h.0 (plain_whole pieces h.1)
 
 -- ---- numbers
-
-glyph_plain : (d : ℕ) → digit_glyph false d ≢ 10
-glyph_plain d = by (nat_lt d 10)
-  where
-    by : (b : Bool) → (if b then 48 + d else (if false then 55 + d else 87 + d)) ≢ 10
-    by true e = absurd (omega (arith, e))
-    by false e = absurd (omega (arith, e))
 
 digits_plain : (k n : ℕ) (acc : List ℕ) → Lacks 10 acc → Lacks 10 (digits_onto k 10 false n acc)
 digits_plain zero n acc h = h

@@ -1,23 +1,15 @@
 -- The names of two ports of a node differ, and no name has a space or a line feed in it.
 use Rattle.std.proofs.Common.{◌≡◌, ◌≢◌, inl, inr, ℕ, suc, ◌-◌, ◌<◌, ◌≤◌, Bool, true, false, ◌&&◌, List, [], ◌∷◌, ◌++◌, length, get_or, refl, sym, ap, subst, ◌∙◌, append_assoc, arith}
 use Rattle.std.specs.Prelude.{slice_get, Option, ◌==◌, if◌then◌else◌, codes}
-use Rattle.std.specs.Option.{option_map_or}
-use Rattle.std.specs.List.{AllByRecursion, list_all}
-use Rattle.std.proofs.lemmas.Bool.Decides.{nat_tests}
-use Rattle.std.proofs.lemmas.Bool.{cases_lt}
-use Rattle.std.proofs.lemmas.List.{append-nil}
-use Rattle.std.proofs.lemmas.Option.{slice_get-get_or}
+use Rattle.std.specs.{Option.option_map_or, List.AllByRecursion, List.list_all}
+use Rattle.std.proofs.lemmas.{Bool.Decides.nat_tests, Bool.cases_lt, List.append-nil, Option.slice_get-get_or}
+use Rattle.srp_base.proofs.Lists.{behind_same}
 use Rattle.srp_base.specs.Text.{whole_of}
-use Rattle.srp_base.specs.declared.numbers.NodeNo.{NodeNo}
-use Rattle.srp_base.specs.declared.numbers.EgressPort.{EgressPort}
+use Rattle.srp_base.specs.declared.{numbers.NodeNo.NodeNo, numbers.EgressPort.EgressPort}
 use Rattle.tree_topology.specs.declared.graph.Link.{Link}
-use Rattle.tree_topology.specs.Topology.{Topology, HasPort}
-use Rattle.tree_topology.specs.Ports.{peer_of, port_to, far_node}
-use Rattle.tree_topology.specs.PortLaws.{HasPortLaws}
+use Rattle.tree_topology.specs.{Topology.Topology, Topology.HasPort, Ports.peer_of, Ports.port_to, Ports.far_node, PortLaws.HasPortLaws}
 use Rattle.topology_file.specs.declared.entries.NodeEntry.{NodeEntry}
-use Rattle.topology_file.specs.Entries.{is_name_char}
-use Rattle.topology_file.specs.Plan.{Plan}
-use Rattle.topology_file.specs.Scenario.{KeepsRules, node_kinds}
+use Rattle.topology_file.specs.{Entries.is_name_char, Plan.Plan, Scenario.KeepsRules, Scenario.node_kinds}
 use Rattle.report_words.specs.Names.{name_of, port_name}
 
 -- ---- texts without a certain octet
@@ -35,11 +27,6 @@ cut_same c (x ∷ xs) (y ∷ ys) a b no_x no_y e =
     let rest : xs ++ c ∷ a ≡ ys ++ c ∷ b = cc in
     let later = cut_same c xs ys a b no_x.1 no_y.1 rest in
     cc
-
--- what stands behind one text is one where the whole is
-pub behind_same : (xs a b : List ℕ) → xs ++ a ≡ xs ++ b → a ≡ b
-behind_same [] a b e = e
-behind_same (x ∷ xs) a b e = let rest : xs ++ a ≡ xs ++ b = cc in behind_same xs a b rest
 
 -- ---- names
 

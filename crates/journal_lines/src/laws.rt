@@ -2,11 +2,9 @@
 //! brings the law to a proof.
 
 ghost use Rattle.std.specs.Prelude.{◌≡◌, ◌++◌, ℕ, Bool, List};
-ghost use Rattle.srp_base.specs.declared.numbers.EgressPort.{EgressPort};
-ghost use Rattle.srp_base.specs.declared.numbers.NodeNo.{NodeNo};
+ghost use Rattle.srp_base.specs.declared.{numbers.EgressPort.EgressPort, numbers.NodeNo.NodeNo};
 ghost use Rattle.tree_topology.specs.Topology.{HasPort};
-ghost use Rattle.topology_file.specs.Plan.{Plan};
-ghost use Rattle.topology_file.specs.Scenario.{KeepsRules};
+ghost use Rattle.topology_file.specs.{Plan.Plan, Scenario.KeepsRules};
 ghost use Rattle.report_words.specs.Names.{port_name};
 ghost use Rattle.node_core.specs.declared.types.NodeStep.{NodeStep};
 ghost use Rattle.journal_lines.specs.Lines.{event_line, place_text, line_at, IsLine};

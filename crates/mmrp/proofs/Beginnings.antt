@@ -1,32 +1,17 @@
 -- The network of a file keeps what every network keeps, at its start.
 use Rattle.std.proofs.Common.{◌≡◌, ℕ, zero, suc, ◌+◌, ◌-◌, ◌*◌, Bool, true, false, if◌then◌else◌, List, [], ◌∷◌, ◌++◌, length, map, refl, sym, ap, subst, ◌∙◌, arith}
 use Rattle.std.specs.Prelude.{slice_get, Some, None, ◌==◌}
-use Rattle.std.specs.List.{AllByRecursion, cons_option}
-use Rattle.std.specs.Ordering.{nat_cmp}
+use Rattle.std.specs.{List.AllByRecursion, List.cons_option, Ordering.nat_cmp}
 use Rattle.std.proofs.lemmas.List.{length-map}
-use Rattle.srp_base.specs.declared.numbers.Cs.{Cs}
-use Rattle.srp_base.specs.declared.numbers.EgressPort.{EgressPort}
-use Rattle.srp_base.specs.declared.ports.PortSetup.{PortSetup}
-use Rattle.tree_topology.specs.Topology.{Topology, HasPort, IsSound}
-use Rattle.tree_topology.specs.Ports.{peer_of, far_end, neighbours}
-use Rattle.tree_topology.specs.PortLaws.{HasPortLaws}
-use Rattle.topology_file.specs.declared.entries.NodeEntry.{NodeEntry}
-use Rattle.topology_file.specs.declared.entries.LinkEntry.{LinkEntry}
-use Rattle.topology_file.specs.Network.{KeepsNetworkRules}
-use Rattle.topology_file.specs.Scenario.{tree_links, ends_of_entry}
-use Rattle.mrp_participant.specs.State.{IsTime, new_state}
-use Rattle.mrp_participant.specs.Link.{AreDutiesMet, new_link}
+use Rattle.srp_base.specs.declared.{numbers.Cs.Cs, numbers.EgressPort.EgressPort, ports.PortSetup.PortSetup}
+use Rattle.tree_topology.specs.{Topology.Topology, Topology.HasPort, Topology.IsSound, Ports.peer_of, Ports.far_end, Ports.neighbours, PortLaws.HasPortLaws}
+use Rattle.topology_file.specs.declared.{entries.NodeEntry.NodeEntry, entries.LinkEntry.LinkEntry}
+use Rattle.topology_file.specs.{Network.KeepsNetworkRules, Scenario.tree_links, Scenario.ends_of_entry}
+use Rattle.mrp_participant.specs.{State.IsTime, State.new_state, Link.AreDutiesMet, Link.new_link}
 use Rattle.attribute_propagation.specs.Ports.{place_of}
 use Rattle.flat_side.specs.Side.{new_flat}
-use Rattle.mmrp.specs.Macs.{Part, IsProper}
-use Rattle.mmrp.specs.Node.{NodeGroups, IsProperNode, box_at, new_node, ports_of}
-use Rattle.mmrp.specs.Start.{period_of, setup_of, end_setup, setups_from, nodes_from, net_of}
-use Rattle.mmrp.specs.Net.{NetGroups, inbox, outbox}
-use Rattle.mmrp.specs.Duty.{AreGroupDutiesMet, part_at, part_in}
-use Rattle.mmrp.specs.Kept.{IsKeptNet}
-use Rattle.mmrp.proofs.Boxes.{IsShortPdu, each_new}
-use Rattle.mmrp.proofs.Nodes.{Base, node_there, part_is, inbox_is, outbox_is}
-use Rattle.mmrp.proofs.Views.{met_same}
+use Rattle.mmrp.specs.{Part, IsProper, NodeGroups, IsProperNode, box_at, new_node, ports_of, period_of, setup_of, end_setup, setups_from, nodes_from, net_of, NetGroups, inbox, outbox, AreGroupDutiesMet, part_at, part_in, IsKeptNet}
+use Rattle.mmrp.proofs.{Boxes.IsShortPdu, Boxes.each_new, Nodes.Base, Nodes.node_there, Nodes.part_is, Nodes.inbox_is, Nodes.outbox_is, Views.met_same}
 
 -- a port for each link of the node
 one_end : (n x : ℕ) (l : LinkEntry) (rest : List PortSetup) (others : List ℕ) → length rest ≡ length others

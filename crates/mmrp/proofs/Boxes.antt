@@ -1,11 +1,10 @@
 -- The PDUs at a place of a list of boxes, where one place is set.
-use Rattle.std.proofs.Common.{◌≡◌, ◌≢◌, ◌<◌, ◌≤◌, ℕ, zero, suc, List, [], ◌∷◌, ◌++◌, length, map, refl, sym, ap, subst, ◌∙◌, arith}
+use Rattle.std.proofs.Common.{◌≡◌, ◌≢◌, ◌<◌, ◌≤◌, ℕ, zero, suc, List, [], ◌∷◌, length, map, refl, sym, ap, subst, ◌∙◌, arith}
 use Rattle.std.specs.Prelude.{slice_get, slice_set, slice_index_or, Option, Some}
-use Rattle.std.specs.List.{AllByRecursion, insert}
-use Rattle.std.specs.Option.{option_map_or}
+use Rattle.std.specs.{List.AllByRecursion, List.insert, Option.option_map_or}
+use Rattle.srp_base.proofs.Lists.{get_set_other}
 use Rattle.mrp_participant.specs.Link.{with_repeat}
-use Rattle.mmrp.specs.Node.{Waiting, AreShort, box_at, without}
-use Rattle.mmrp.proofs.Lists.{get_set_other}
+use Rattle.mmrp.specs.{Waiting, AreShort, box_at, without}
 
 pub box_other : (boxes : List Waiting) (at k : ℕ) (wires : Waiting) → at ≢ k → box_at k (slice_set boxes at wires) ≡ box_at k boxes
 box_other boxes at k wires ne = ap (λ (o : Option (Waiting)). option_map_or (λ wires. wires) o []) (get_set_other boxes at k wires ne)
@@ -31,32 +30,15 @@ box_none (b ∷ boxes) (suc at) = box_none boxes at
 abbrev pub IsShortPdu : List ℕ → Type 0
 IsShortPdu pdu = length pdu ≤ 1500
 
--- what stands at a place is set there twice, or is set to what it is
-pub set_set : {X : Type 0} (xs : List X) (i : ℕ) (x y : X) → slice_set (slice_set xs i x) i y ≡ slice_set xs i y
-set_set [] i x y = refl
-set_set (z ∷ xs) zero x y = refl
-set_set (z ∷ xs) (suc i) x y = ap (λ ys. z ∷ ys) (set_set xs i x y)
-
 pub set_same : (boxes : List Waiting) (i : ℕ) → slice_set boxes i (box_at i boxes) ≡ boxes
 set_same [] i = refl
 set_same (b ∷ boxes) zero = refl
 set_same (b ∷ boxes) (suc i) = ap (λ bs. b ∷ bs) (set_same boxes i)
 
--- what holds of each element holds where one is set, and of each one that is read
-pub each_set : {X : Type 0} (P : X → Type 0) (xs : List X) (i : ℕ) (y : X) → P y → AllByRecursion P xs → AllByRecursion P (slice_set xs i y)
-each_set P [] i y h hs = tt
-each_set P (x ∷ xs) zero y h hs = (h, hs.1)
-each_set P (x ∷ xs) (suc i) y h hs = (hs.0, each_set P xs i y h hs.1)
-
 pub each_box : (P : List ℕ → Type 0) (boxes : List Waiting) (i : ℕ) → AllByRecursion (AllByRecursion P) boxes → AllByRecursion P (box_at i boxes)
 each_box P [] i hs = tt
 each_box P (b ∷ boxes) zero hs = hs.0
 each_box P (b ∷ boxes) (suc i) hs = each_box P boxes i hs.1
-
--- so it does of lists behind one another, of one without the PDU at a place, and of one with it twice
-pub each_append : {X : Type 0} (P : X → Type 0) (xs ys : List X) → AllByRecursion P xs → AllByRecursion P ys → AllByRecursion P (xs ++ ys)
-each_append P [] ys h k = k
-each_append P (x ∷ xs) ys h k = (h.0, each_append P xs ys h.1 k)
 
 pub each_without : (P : List ℕ → Type 0) (i : ℕ) (xs : Waiting) → AllByRecursion P xs → AllByRecursion P (without i xs)
 each_without P i [] h = nil i

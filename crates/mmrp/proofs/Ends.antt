@@ -2,20 +2,12 @@
 use Rattle.std.proofs.Common.{◌≡◌, ◌≢◌, ◌⊎◌, inl, inr, ℕ, ◌-◌, refl, sym, ap, subst, ◌∙◌, arith}
 use Rattle.std.specs.Prelude.{Some, option_map, IsTrue}
 use Rattle.srp_base.specs.declared.numbers.EgressPort.{EgressPort}
-use Rattle.tree_topology.specs.Topology.{Topology, HasPort}
-use Rattle.tree_topology.specs.Ports.{peer_of}
-use Rattle.tree_topology.specs.PortLaws.{HasPortLaws}
-use Rattle.tree_topology.specs.Walk.{is_behind}
+use Rattle.tree_topology.specs.{Topology.Topology, Topology.HasPort, Ports.peer_of, PortLaws.HasPortLaws, Walk.is_behind}
 use Rattle.std.specs.Ordering.{nat_cmp}
 use Rattle.mrp_participant.specs.Link.{Link, AreDutiesMet, other_view}
 use Rattle.attribute_propagation.specs.Ports.{place_of}
-use Rattle.mmrp.specs.Macs.{Part}
-use Rattle.mmrp.specs.Node.{NodeGroups, box_at}
-use Rattle.mmrp.specs.Net.{NetGroups, node_at, with_changed, inbox, outbox}
-use Rattle.mmrp.specs.Duty.{AreGroupDutiesMet, part_at}
-use Rattle.mmrp.proofs.Lists.{decide_port, same_numbers}
-use Rattle.mmrp.proofs.Views.{KeepsLink, boxed, boxed_same}
-use Rattle.mmrp.proofs.Nodes.{Base, SameAt, SameAtPort, same_port, node_same, node_there, part_there, part_is, inbox_is, outbox_is}
+use Rattle.mmrp.specs.{Part, NodeGroups, box_at, NetGroups, node_at, with_changed, inbox, outbox, AreGroupDutiesMet, part_at}
+use Rattle.mmrp.proofs.{Lists.decide_port, Lists.same_numbers, Views.KeepsLink, Views.boxed, Views.boxed_same, Nodes.Base, Nodes.SameAt, Nodes.SameAtPort, Nodes.same_port, Nodes.node_same, Nodes.node_there, Nodes.part_there, Nodes.part_is, Nodes.inbox_is, Nodes.outbox_is}
 
 module _ (tree : Topology) (laws : HasPortLaws tree) where
   -- a port's peer is at another node

@@ -3,28 +3,14 @@ use Rattle.std.proofs.Common.{◌≡◌, ◌≢◌, ◌⊎◌, inl, inr, ℕ, �
 use Rattle.std.specs.Prelude.{slice_get, Some, option_map, filter_map}
 use Rattle.std.specs.Ordering.{nat_cmp}
 use Rattle.std.proofs.lemmas.List.{append-nil}
-use Rattle.srp_base.specs.declared.numbers.NodeNo.{NodeNo}
-use Rattle.srp_base.specs.declared.numbers.EgressPort.{EgressPort}
-use Rattle.tree_topology.specs.Topology.{HasPort}
-use Rattle.tree_topology.specs.Ports.{peer_of}
-use Rattle.tree_topology.specs.PortLaws.{HasPortLaws}
-use Rattle.mrp_participant.specs.Link.{AreDutiesMet, with_repeat}
-use Rattle.mrp_participant.specs.Link.EndEvent.{Repeats}
-use Rattle.mrp_participant.specs.Link.LinkEvent.{AtFar}
+use Rattle.srp_base.proofs.Options.{one_some}
+use Rattle.srp_base.specs.declared.{numbers.NodeNo.NodeNo, numbers.EgressPort.EgressPort}
+use Rattle.tree_topology.specs.{Topology.HasPort, Ports.peer_of, PortLaws.HasPortLaws}
+use Rattle.mrp_participant.specs.{Link.AreDutiesMet, Link.with_repeat, Link.EndEvent.Repeats, Link.LinkEvent.AtFar}
 use Rattle.attribute_propagation.specs.Ports.{place_of}
-use Rattle.mmrp.specs.declared.events.GroupStep.{GroupStep}
-use Rattle.mmrp.specs.declared.events.GroupEvent.{GroupEvent}
-use Rattle.mmrp.specs.declared.events.GroupEvent.TheVariants.{Join, Part as Parted, Port, Lose, Repeat, Carry, Clock}
-use Rattle.mmrp.specs.Macs.{Part}
-use Rattle.mmrp.specs.Node.{NodeGroups, Waiting, asked, box_at, lost_at, port_step, repeated_at, spoilt_at, with_carried, with_outbox}
-use Rattle.mmrp.specs.Net.{NetGroups, node_at, with_changed, inbox, outbox, has_index, with_unsound_ends, with_loss, after_repeat, group_step, CanHappen}
-use Rattle.mmrp.specs.Duty.{AreGroupDutiesMet, message_of, part_at, part_in}
-use Rattle.mmrp.proofs.Lists.{one_some, said_twice}
-use Rattle.mmrp.proofs.Boxes.{box_got, box_other, box_none}
-use Rattle.mmrp.proofs.Views.{LinkLaws, KeepsLink, boxed, boxed_same, met_same, unsound}
-use Rattle.mmrp.proofs.Nodes.{Base, SameAtPort, same_then, same_port, node_same, node_other, node_there, place_within, inbox_there, part_there, part_is, inbox_is, outbox_is, proper_at}
-use Rattle.mmrp.proofs.PartSteps.{WrittenLaw, asked_same, spoilt_apart, spoilt_own, step_apart, step_kept}
-use Rattle.mmrp.proofs.Ends.{one_link, other_node, other_place, on_tree, nowhere, duties_changed}
+use Rattle.mmrp.specs.{GroupStep, GroupEvent, Join, Port, Lose, Repeat, Carry, Clock, Part, NodeGroups, Waiting, asked, box_at, lost_at, port_step, repeated_at, spoilt_at, with_carried, with_outbox, NetGroups, node_at, with_changed, inbox, outbox, has_index, with_unsound_ends, with_loss, after_repeat, group_step, CanHappen, AreGroupDutiesMet, message_of, part_at, part_in}
+use Rattle.mmrp.specs.declared.events.GroupEvent.TheVariants.{Part as Parted}
+use Rattle.mmrp.proofs.{Lists.said_twice, Boxes.box_got, Boxes.box_other, Boxes.box_none, Views.LinkLaws, Views.KeepsLink, Views.boxed, Views.boxed_same, Views.met_same, Views.unsound, Nodes.Base, Nodes.SameAtPort, Nodes.same_then, Nodes.same_port, Nodes.node_same, Nodes.node_other, Nodes.node_there, Nodes.place_within, Nodes.inbox_there, Nodes.part_there, Nodes.part_is, Nodes.inbox_is, Nodes.outbox_is, Nodes.proper_at, PartSteps.WrittenLaw, PartSteps.asked_same, PartSteps.spoilt_apart, PartSteps.spoilt_own, PartSteps.step_apart, PartSteps.step_kept, Ends.one_link, Ends.other_node, Ends.other_place, Ends.on_tree, Ends.nowhere, Ends.duties_changed}
 
 module _ (links : LinkLaws) (written : WrittenLaw) where
   -- ---- a request, and a step of a port

@@ -1,41 +1,19 @@
 -- In a network at rest a MAC address is registered at a port exactly where the far node's application, or another port of
 -- the far node, has it; and so, by the tree, exactly where a station behind the port has joined it.
-use Rattle.std.proofs.Common.{◌≡◌, ◌≢◌, ◌⊎◌, inl, inr, ℕ, suc, ◌+◌, ◌-◌, ◌<◌, Bool, true, false, ◌&&◌, List, [], ◌∷◌, ◌++◌, length, map, refl, sym, ap, ◌∙◌, arith}
+use Rattle.std.proofs.Common.{◌≡◌, ◌≢◌, ◌⊎◌, inl, inr, ℕ, suc, ◌+◌, ◌-◌, ◌<◌, true, false, ◌&&◌, List, [], ◌∷◌, ◌++◌, length, map, refl, sym, ap, ◌∙◌, arith}
 use Rattle.std.specs.Prelude.{slice_get, filter_map, Option, Some, ◌==◌, ◌↔◌}
-use Rattle.std.specs.List.{list_all}
-use Rattle.std.specs.Option.{option_map_or, option_and_then, is_some}
-use Rattle.std.specs.Ordering.{nat_cmp}
-use Rattle.std.proofs.lemmas.Bool.{and_parts}
-use Rattle.std.proofs.lemmas.Option.{slice_get_within}
+use Rattle.std.specs.{List.list_all, Option.option_map_or, Option.option_and_then, Option.is_some, Ordering.nat_cmp}
+use Rattle.std.proofs.lemmas.{Bool.and_parts, Option.slice_get_within}
+use Rattle.std.proofs.lemmas.Bool.{and_from as both}
+use Rattle.srp_base.proofs.{Options.one_some as one, Lists.within, Lists.get-all, Lists.get-map, Lists.map-get, Bools.one-test}
 use Rattle.srp_base.specs.declared.numbers.EgressPort.{EgressPort}
-use Rattle.tree_topology.specs.declared.graph.NodeKind.{NodeKind}
-use Rattle.tree_topology.specs.declared.graph.NodeKind.TheVariants.{Station, Bridge}
-use Rattle.tree_topology.specs.Topology.{HasNode, HasPort}
-use Rattle.tree_topology.specs.Ports.{neighbours, peer_of, far_node, LiesBehind}
-use Rattle.tree_topology.specs.Refusal.{is_station}
-use Rattle.tree_topology.specs.Walk.{is_behind}
-use Rattle.tree_topology.specs.PortLaws.{HasPortLaws, IsPropagated, HasBeyond, HasBehind}
-use Rattle.attribute_propagation.specs.Dirty.{is_awaiting}
-use Rattle.attribute_propagation.specs.Flat.{elsewhere}
-use Rattle.attribute_propagation.specs.Ports.{place_of}
-use Rattle.mrp_participant.specs.Link.{Link, AreDutiesMet}
-use Rattle.mrp_participant.specs.State.{is_still, registered_at, declared_at}
+use Rattle.tree_topology.specs.declared.{graph.NodeKind.NodeKind, graph.NodeKind.TheVariants.Station, graph.NodeKind.TheVariants.Bridge}
+use Rattle.tree_topology.specs.{Topology.HasNode, Topology.HasPort, Ports.neighbours, Ports.peer_of, Ports.far_node, Ports.LiesBehind, Refusal.is_station, Walk.is_behind, PortLaws.HasPortLaws, PortLaws.IsPropagated, PortLaws.HasBeyond, PortLaws.HasBehind}
+use Rattle.attribute_propagation.specs.{Dirty.is_awaiting, Flat.elsewhere, Ports.place_of}
+use Rattle.mrp_participant.specs.{Link.Link, Link.AreDutiesMet, State.is_still, State.registered_at, State.declared_at}
 use Rattle.flat_side.specs.Side.{are_still, is_flat}
-use Rattle.mmrp.specs.Macs.{Part, registers, declares, has_joined}
-use Rattle.mmrp.specs.Node.{NodeGroups, Waiting, are_all_sound, are_empty, box_at, is_still_node}
-use Rattle.mmrp.specs.Net.{NetGroups, node_at, inbox, outbox}
-use Rattle.mmrp.specs.Duty.{in_flight, link_of, message_of, part_at, part_in}
-use Rattle.mmrp.specs.Kept.{IsKeptNet}
-use Rattle.mmrp.specs.Match.{is_registered, is_station_at, is_joined_at, is_joined_behind, HasJoinedBehind, GroupsMatch, IsAtRest}
-use Rattle.mmrp.proofs.Lists.{within}
-use Rattle.mmrp.proofs.Places.{empty-box, get-all, get-empty, is_other, other-at, other-from, flat-cases, flat-own, flat-other, get-map, map-get, range-from, range-at, one-test}
-
-both : (a b : Bool) → a ≡ true → b ≡ true → (a && b) ≡ true
-both true b h k = k
-both false b h k = cc
-
-one : {X : Type 0} (o : Option X) (x y : X) → o ≡ Some x → o ≡ Some y → x ≡ y
-one o x y a b = cc
+use Rattle.mmrp.specs.{Part, registers, declares, has_joined, NodeGroups, Waiting, are_all_sound, are_empty, box_at, is_still_node, NetGroups, node_at, inbox, outbox, in_flight, link_of, message_of, part_at, part_in, IsKeptNet, is_registered, is_station_at, is_joined_at, is_joined_behind, HasJoinedBehind, GroupsMatch, IsAtRest}
+use Rattle.mmrp.proofs.Places.{empty-box, get-empty, is_other, other-at, other-from, flat-cases, flat-own, flat-other, range-from, range-at}
 
 -- what a still link registers at its near end
 abbrev pub StillLink : Type 0

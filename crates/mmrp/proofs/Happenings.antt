@@ -1,22 +1,15 @@
 -- One of a list of nodes becomes another: the list then, and where ports stand in it.
 use Rattle.std.proofs.Common.{◌≡◌, ℕ, zero, suc, ◌-◌, ◌∷◌, Bool, true, List, [], length, refl, sym, ap, subst, ◌∙◌, arith}
-use Rattle.std.specs.Prelude.{◌<◌, ◌≤◌, nat_lt, slice_get, slice_set, Option, Some, None, Result, Ok, Err, OnOk}
-use Rattle.std.proofs.lemmas.Option.{slice_get_read}
-use Rattle.std.proofs.lemmas.List.{append-nil}
-use Rattle.std.proofs.lemmas.Bool.{ltb-true}
+use Rattle.std.specs.Prelude.{◌<◌, ◌≤◌, nat_lt, slice_get, slice_set, Option, Some, None}
+use Rattle.std.proofs.lemmas.{Option.slice_get_read, List.append-nil, Bool.ltb-true}
 use Rattle.std.specs.Option.{option_map_or}
 use Rattle.std.proofs.Math.ListN.{length-set, get_or}
-use Rattle.srp_base.specs.declared.numbers.Cs.{Cs}
-use Rattle.srp_base.specs.declared.numbers.EgressPort.{EgressPort}
-use Rattle.tree_topology.specs.Topology.{Topology}
-use Rattle.tree_topology.specs.Ports.{peer_of}
+use Rattle.srp_base.proofs.Lists.{set_set, get_set}
+use Rattle.srp_base.specs.declared.{numbers.Cs.Cs, numbers.EgressPort.EgressPort}
+use Rattle.tree_topology.specs.{Topology.Topology, Ports.peer_of}
 use Rattle.attribute_propagation.specs.Ports.{IsLinkPort, place_of}
-use Rattle.mmrp.specs.Node.{NodeGroups, Waiting, Stepped, box_at, lost_at, ports_of, spoilt_at, with_carried, with_outbox}
-use Rattle.mmrp.specs.Net.{NetGroups, StandsAt, after_carrying, answer_of, has_index, nodes_with, outbox, with_loss}
-use Rattle.mmrp.specs.declared.events.GroupReply.TheVariants.{Done}
-use Rattle.mmrp.proofs.Boxes.{set_set, set_same}
-use Rattle.mmrp.proofs.Lists.{get_set, set_each}
-use Rattle.mmrp.proofs.Sizes.{of_spoilt}
+use Rattle.mmrp.specs.{NodeGroups, Waiting, Stepped, box_at, lost_at, ports_of, spoilt_at, with_carried, with_outbox, NetGroups, StandsAt, after_carrying, answer_of, has_index, nodes_with, outbox, with_loss, Done}
+use Rattle.mmrp.proofs.{Boxes.set_same, Lists.set_each, Sizes.of_spoilt}
 
 -- ---- the node that was read at a port's place
 
@@ -139,10 +132,6 @@ put_back_is p nodes a b pdus ew ea eb = eb ∙ (ap (nodes_with p.node (with_outb
         ∙ set_back nodes i s is))
 
 -- ---- what holds of a list's becoming another holds where it is so
-
-pub on_ok : {A E P Q : Type 0} (r : Result A E) → (P → Q) → OnOk r P → OnOk r Q
-on_ok (Ok a) f h = f h
-on_ok (Err e) f h = h
 
 -- a PDU is lost, and both ends are spoilt
 pub lose_is : (p q : EgressPort) (index : ℕ) (tree : Topology) (clock : Cs) (nodes a b d : List NodeGroups) → q ≡ peer_of tree.links p

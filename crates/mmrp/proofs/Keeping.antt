@@ -2,29 +2,16 @@
 use Rattle.std.proofs.Common.{◌≡◌, ℕ, ◌-◌, ◌≤◌, ◌^◌, Bool, true, false, List, [], ◌∷◌, refl, sym, subst, ◌∙◌, arith}
 use Rattle.std.specs.Prelude.{slice_get, Option, Some, None, Result, Ok, Err}
 use Rattle.std.specs.List.{AllByRecursion}
-use Rattle.srp_base.specs.declared.numbers.Cs.{Cs}
-use Rattle.srp_base.specs.declared.numbers.NodeNo.{NodeNo}
-use Rattle.srp_base.specs.declared.numbers.EgressPort.{EgressPort}
+use Rattle.srp_base.specs.declared.{numbers.Cs.Cs, numbers.NodeNo.NodeNo, numbers.EgressPort.EgressPort}
 use Rattle.tree_topology.specs.declared.graph.NodeKind.TheVariants.{Station, Bridge}
-use Rattle.tree_topology.specs.Topology.{Topology, HasPort, IsSound}
-use Rattle.tree_topology.specs.Ports.{peer_of}
-use Rattle.tree_topology.specs.PortLaws.{HasPortLaws}
+use Rattle.tree_topology.specs.{Topology.Topology, Topology.HasPort, Topology.IsSound, Ports.peer_of, PortLaws.HasPortLaws}
 use Rattle.mmrp_codec.specs.declared.pdu.GroupPdu.{GroupPdu}
 use Rattle.mmrp_codec.specs.Meaning.{mmrp_reading}
 use Rattle.attribute_propagation.specs.Ports.{place_of}
 use Rattle.flat_side.specs.Side.{with_part}
-use Rattle.mmrp.specs.declared.events.GroupStep.{GroupStep}
-use Rattle.mmrp.specs.declared.events.GroupStep.TheVariants.{Work, Due, Settle, Send}
-use Rattle.mmrp.specs.declared.events.GroupEvent.{GroupEvent}
-use Rattle.mmrp.specs.declared.events.GroupEvent.TheVariants.{Join, Part as Parted, Port, Lose, Repeat, Carry, Clock}
-use Rattle.mmrp.specs.Macs.{Part, Groups}
-use Rattle.mmrp.specs.Node.{NodeGroups, Waiting, AreShort, after_work, asked, box_at, lost_at, port_step, repeated_at, sent_octets, said, spoilt_at, with_carried, with_outbox, worked}
-use Rattle.mmrp.specs.Net.{NetGroups, IsStation, with_changed, outbox, has_index, with_unsound_ends, with_loss, after_repeat, group_step, groups_after, CanHappen, CanAllHappen, IsEventInRange}
-use Rattle.mmrp.specs.Kept.{AreBridgesIdle, IsKeptNet}
-use Rattle.mmrp.proofs.Views.{LinkLaws}
-use Rattle.mmrp.proofs.Nodes.{Base, base_changed, each_changed, node_there, outbox_is, proper_at}
-use Rattle.mmrp.proofs.NodeSteps.{SideLaws, asked_stays, carried_stays, lost_stays, repeated_stays, short_out, spoilt_stays, step_stays, taken_stays}
-use Rattle.mmrp.proofs.EventSteps.{met_event}
+use Rattle.mmrp.specs.{GroupStep, Work, Due, Settle, Send, GroupEvent, Join, Port, Lose, Repeat, Carry, Clock, Part, Groups, NodeGroups, Waiting, AreShort, after_work, asked, box_at, lost_at, port_step, repeated_at, sent_octets, said, spoilt_at, with_carried, with_outbox, worked, NetGroups, IsStation, with_changed, outbox, has_index, with_unsound_ends, with_loss, after_repeat, group_step, groups_after, CanHappen, CanAllHappen, IsEventInRange, AreBridgesIdle, IsKeptNet}
+use Rattle.mmrp.specs.declared.events.GroupEvent.TheVariants.{Part as Parted}
+use Rattle.mmrp.proofs.{Views.LinkLaws, Nodes.Base, Nodes.base_changed, Nodes.each_changed, Nodes.node_there, Nodes.outbox_is, Nodes.proper_at, NodeSteps.SideLaws, NodeSteps.asked_stays, NodeSteps.carried_stays, NodeSteps.lost_stays, NodeSteps.repeated_stays, NodeSteps.short_out, NodeSteps.spoilt_stays, NodeSteps.step_stays, NodeSteps.taken_stays, EventSteps.met_event}
 
 -- the laws that this rests on, as the public laws say them
 pub record KeepingLaws : Type 0 where

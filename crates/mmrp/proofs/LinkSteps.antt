@@ -2,23 +2,14 @@
 -- the participant, the receipt of the front PDU, and the sending of one.
 use Rattle.std.proofs.Common.{◌≡◌, Bool, false, if◌then◌else◌, ℕ, List, [], ◌∷◌, ◌++◌, fold, refl, sym, ap, subst, ◌∙◌, append_assoc}
 use Rattle.std.specs.Prelude.{Option, Some, None, option_map, filter_map}
-use Rattle.std.specs.List.{cons_option}
+use Rattle.std.specs.{List.cons_option, Ordering.nat_cmp}
 use Rattle.std.proofs.lemmas.List.Elements.{filter_map-append}
-use Rattle.std.specs.Ordering.{nat_cmp}
+use Rattle.srp_base.proofs.Lists.{mapped}
 use Rattle.srp_base.specs.declared.numbers.Cs.{Cs}
-use Rattle.mrp_participant.specs.State.{Messages, is_silent, declared_state, withdrawn_state, due_state, received_state, sent_state, sent_messages}
-use Rattle.mrp_participant.specs.Link.{Link, AreDutiesMet}
-use Rattle.mrp_participant.specs.Link.EndEvent.{Declares, Withdraws, Fires, Sends, Receives}
-use Rattle.mrp_participant.specs.Link.LinkEvent.{AtNear}
+use Rattle.mrp_participant.specs.{State.Messages, State.is_silent, State.declared_state, State.withdrawn_state, State.due_state, State.received_state, State.sent_state, State.sent_messages, Link.Link, Link.AreDutiesMet, Link.EndEvent.Declares, Link.EndEvent.Withdraws, Link.EndEvent.Fires, Link.EndEvent.Sends, Link.EndEvent.Receives, Link.LinkEvent.AtNear}
 use Rattle.flat_side.specs.Part.{same_content}
-use Rattle.mmrp.specs.Macs.{Part, base, octets}
-use Rattle.mmrp.specs.Node.{NodeGroups, Waiting, box_at}
-use Rattle.mmrp.specs.Duty.{message_of, part_in}
+use Rattle.mmrp.specs.{Part, base, octets, NodeGroups, Waiting, box_at, message_of, part_in}
 use Rattle.mmrp.proofs.Views.{LinkLaws, KeepsLink, boxed, met_same}
-
--- what was there has become something else
-pub mapped : {X : Type 0} (f : X → X) (o : Option X) (x y : X) → o ≡ Some x → option_map f o ≡ Some y → f x ≡ y
-mapped f o x y old new = cc (ap (option_map f) old)
 
 module _ (laws : LinkLaws) where
   -- ---- calls of a participant

@@ -1,20 +1,10 @@
 -- One place of a list is set; and what says something in a list of PDUs.
-use Rattle.std.proofs.Common.{◌≡◌, ◌≢◌, ◌⊎◌, inl, inr, ℕ, zero, suc, ◌<◌, List, [], ◌∷◌, ◌++◌, length, refl, sym, ap, subst, ◌∙◌, arith}
+use Rattle.std.proofs.Common.{◌≡◌, ◌≢◌, ◌⊎◌, inl, inr, ℕ, zero, suc, List, [], ◌∷◌, ◌++◌, refl, sym, ap, subst, ◌∙◌}
 use Rattle.std.specs.Prelude.{slice_get, slice_set, Option, Some, None, option_map, filter_map}
-use Rattle.std.specs.Option.{option_map_or}
-use Rattle.std.specs.List.{cons_option, AllByRecursion}
+use Rattle.std.specs.{Option.option_map_or, List.cons_option}
+use Rattle.srp_base.proofs.{Lists.get-set_same as get_set_same, Lists.get_set_other, Arithmetic.decide, Lists.get_set}
 use Rattle.srp_base.specs.declared.numbers.EgressPort.{EgressPort}
 use Rattle.mrp_participant.specs.Link.{with_repeat}
-
-pub decide : (m n : ℕ) → (m ≡ n) ⊎ (m ≢ n)
-decide zero zero = inl refl
-decide zero (suc n) = inr (λ e. absurd (omega arith))
-decide (suc m) zero = inr (λ e. absurd (omega arith))
-decide (suc m) (suc n) = later (decide m n)
-  where
-    later : (m ≡ n) ⊎ (m ≢ n) → (suc m ≡ suc n) ⊎ (suc m ≢ suc n)
-    later (inl e) = inl (ap suc e)
-    later (inr ne) = inr (λ e. ne (omega arith))
 
 -- ports are one where their numbers are
 port_of : ℕ → ℕ → EgressPort
@@ -32,26 +22,6 @@ decide_port p e = by (decide p.node.0 e.node.0) (decide p.port.0 e.port.0)
     by (inl x) (inr k) = inr (λ i. k (ap (λ (r : EgressPort). r.port.0) i))
     by (inr x) k = inr (λ i. x (ap (λ (r : EgressPort). r.node.0) i))
 
-pub one_some : {X : Type 0} (o : Option X) (x y : X) → o ≡ Some x → o ≡ Some y → x ≡ y
-one_some o x y a b = cc
-
-pub get_set : {X : Type 0} (xs : List X) (i : ℕ) (x y : X) → slice_get xs i ≡ Some x → slice_get (slice_set xs i y) i ≡ Some y
-get_set [] i x y h = cc
-get_set (z ∷ xs) zero x y h = refl
-get_set (z ∷ xs) (suc i) x y h = get_set xs i x y h
-
-pub get_set_same : {X : Type 0} (xs : List X) (i : ℕ) (y z : X) → slice_get (slice_set xs i y) i ≡ Some z → y ≡ z
-get_set_same [] i y z h = cc
-get_set_same (x ∷ xs) zero y z h = cc
-get_set_same (x ∷ xs) (suc i) y z h = get_set_same xs i y z h
-
-pub get_set_other : {X : Type 0} (xs : List X) (i j : ℕ) (y : X) → i ≢ j → slice_get (slice_set xs i y) j ≡ slice_get xs j
-get_set_other [] i j y ne = refl
-get_set_other (x ∷ xs) zero zero y ne = absurd (ne refl)
-get_set_other (x ∷ xs) zero (suc j) y ne = refl
-get_set_other (x ∷ xs) (suc i) zero y ne = refl
-get_set_other (x ∷ xs) (suc i) (suc j) y ne = get_set_other xs i j y (λ e. ne (ap suc e))
-
 -- what holds of each element at its place holds where one is set
 pub set_each : {X : Type 0} (P : ℕ → X → Type 0) (xs : List X) (at : ℕ) (t : X) → P at t → ((j : ℕ) (p : X) → slice_get xs j ≡ Some p → P j p)
     → (j : ℕ) (p : X) → slice_get (slice_set xs at t) j ≡ Some p → P j p
@@ -62,22 +32,6 @@ set_each {X = X} P xs at t h hs j p get = by (decide at j)
         let is : t ≡ p = get_set_same xs at t p (ap (λ k. slice_get (slice_set xs at t) k) e ∙ get) in
         subst (λ (k : ℕ). P k p) e (subst (λ (x : X). P at x) is h)
     by (inr ne) = hs j p (sym (get_set_other xs at j t ne) ∙ get)
-
--- what holds of each by its place, and of each of the list
-pub each_of : {X : Type 0} (Q : X → Type 0) (xs : List X) → ((i : ℕ) (x : X) → slice_get xs i ≡ Some x → Q x) → AllByRecursion Q xs
-each_of Q [] h = tt
-each_of Q (x ∷ xs) h = (h zero x refl, each_of Q xs (λ i y get. h (suc i) y get))
-
-pub at_each : {X : Type 0} (Q : X → Type 0) (xs : List X) → AllByRecursion Q xs → (i : ℕ) (x : X) → slice_get xs i ≡ Some x → Q x
-at_each Q [] hs i x get = cc
-at_each Q (y ∷ xs) hs zero x get = let same : y ≡ x = cc in subst Q same hs.0
-at_each Q (y ∷ xs) hs (suc i) x get = at_each Q xs hs.1 i x get
-
--- there is an element at each place below the length
-pub within : {X : Type 0} (xs : List X) (i : ℕ) → i < length xs → (x : X) × (slice_get xs i ≡ Some x)
-within [] i h = absurd (omega arith)
-within (x ∷ xs) zero h = (x, refl)
-within (x ∷ xs) (suc i) h = let lt : i < length xs = omega arith in within xs i lt
 
 -- ---- what a list of PDUs says
 

@@ -1,26 +1,17 @@
 -- Each step of a node, and what happens to the PDUs that wait, keeps what every node keeps, and its number of ports.
 use Rattle.std.proofs.Common.{◌≡◌, ℕ, Bool, true, false, List, [], ◌∷◌, ◌++◌, length, map, refl, sym, ap, subst, ◌∙◌}
 use Rattle.std.specs.Prelude.{slice_get, slice_set, Option, Some, None, Result, Ok, Err, if◌then◌else◌}
-use Rattle.std.specs.Option.{option_map_or}
-use Rattle.std.specs.Ordering.{nat_cmp}
+use Rattle.std.specs.{Option.option_map_or, Ordering.nat_cmp}
 use Rattle.std.proofs.Math.ListN.{length-set}
 use Rattle.std.proofs.lemmas.List.{length-map}
-use Rattle.srp_base.specs.declared.numbers.Cs.{Cs}
-use Rattle.srp_base.specs.declared.ports.PortSetup.{PortSetup}
-use Rattle.srp_base.specs.declared.mrp.MrpEvent.{MrpEvent}
+use Rattle.srp_base.proofs.Lists.{at_each, each-set as each_set, each_append}
+use Rattle.srp_base.specs.declared.{numbers.Cs.Cs, ports.PortSetup.PortSetup, mrp.MrpEvent.MrpEvent}
 use Rattle.mmrp_codec.specs.declared.pdu.GroupPdu.{GroupPdu}
-use Rattle.mmrp_codec.specs.Meaning.{AreMacs, mmrp_reading}
-use Rattle.mmrp_codec.specs.Writing.{mmrp_spelling}
+use Rattle.mmrp_codec.specs.{Meaning.AreMacs, Meaning.mmrp_reading, Writing.mmrp_spelling}
 use Rattle.mrp_participant.specs.State.{AreRows, is_silent, new_state}
 use Rattle.flat_side.specs.Side.{IsKept, with_part, at_part, has_own, new_flat, received_flat, due_flat, settled_flat, sent_flat, requested_flat, spoilt_flat}
-use Rattle.mmrp.specs.declared.events.GroupStep.{GroupStep}
-use Rattle.mmrp.specs.declared.events.GroupStep.TheVariants.{Work, Due, Settle, Send}
-use Rattle.mmrp.specs.Macs.{Part, Groups, IsMac, IsProper, base, octets, pdu_sent}
-use Rattle.mmrp.specs.Node.{NodeGroups, Waiting, AreShort, IsKeptNode, IsProperNode, after_work, asked, box_at, lost_at, port_step, repeated_at, sent_octets, spoilt_at, with_carried, with_inbox, with_outbox, without, worked}
-use Rattle.mmrp.proofs.Lists.{at_each}
-use Rattle.mmrp.proofs.Boxes.{IsShortPdu, each_set, each_box, each_append, each_without, each_repeated, each_new}
-use Rattle.mmrp.proofs.Nodes.{IsOfSamePlace}
-use Rattle.mmrp.proofs.PartSteps.{WrittenLaw}
+use Rattle.mmrp.specs.{GroupStep, Work, Due, Settle, Send, Part, Groups, IsMac, IsProper, base, octets, pdu_sent, NodeGroups, Waiting, AreShort, IsKeptNode, IsProperNode, after_work, asked, box_at, lost_at, port_step, repeated_at, sent_octets, spoilt_at, with_carried, with_inbox, with_outbox, without, worked}
+use Rattle.mmrp.proofs.{Boxes.IsShortPdu, Boxes.each_box, Boxes.each_without, Boxes.each_repeated, Boxes.each_new, Nodes.IsOfSamePlace, PartSteps.WrittenLaw}
 
 -- the laws of MMRP at a node, as its public laws say them
 pub record SideLaws : Type 0 where

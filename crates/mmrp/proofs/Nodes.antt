@@ -3,16 +3,12 @@ use Rattle.std.proofs.Common.{◌≡◌, ◌≢◌, ◌⊎◌, inl, inr, ℕ, �
 use Rattle.std.specs.Prelude.{slice_get, slice_set, Option, Some, None, option_map}
 use Rattle.std.specs.Option.{option_map_or, option_and_then}
 use Rattle.std.proofs.Math.ListN.{length-set}
-use Rattle.srp_base.specs.declared.numbers.NodeNo.{NodeNo}
-use Rattle.srp_base.specs.declared.numbers.EgressPort.{EgressPort}
-use Rattle.tree_topology.specs.Topology.{HasPort, IsSound}
-use Rattle.tree_topology.specs.Ports.{neighbours}
+use Rattle.srp_base.proofs.{Arithmetic.decide, Lists.get_set, Lists.get_set_other, Lists.within}
+use Rattle.srp_base.specs.declared.{numbers.NodeNo.NodeNo, numbers.EgressPort.EgressPort}
+use Rattle.tree_topology.specs.{Topology.HasPort, Topology.IsSound, Ports.neighbours}
 use Rattle.attribute_propagation.specs.Ports.{place_of}
-use Rattle.mmrp.specs.Macs.{Part}
-use Rattle.mmrp.specs.Node.{NodeGroups, Waiting, IsProperNode, box_at, ports_of}
-use Rattle.mmrp.specs.Net.{NetGroups, node_at, nodes_with, with_changed, inbox, outbox}
-use Rattle.mmrp.specs.Duty.{part_at, part_in}
-use Rattle.mmrp.proofs.Lists.{decide, get_set, get_set_other, set_each, within}
+use Rattle.mmrp.specs.{Part, NodeGroups, Waiting, IsProperNode, box_at, ports_of, NetGroups, node_at, nodes_with, with_changed, inbox, outbox, part_at, part_in}
+use Rattle.mmrp.proofs.Lists.{set_each}
 
 module _ (n : NodeNo) (change : NodeGroups → NodeGroups) (w : NetGroups) where
   -- the node itself, and the others

@@ -2,26 +2,15 @@
 use Rattle.std.proofs.Common.{◌≡◌, ◌≢◌, ℕ, Bool, true, false, if◌then◌else◌, List, [], ◌∷◌, ◌++◌, map, refl, ap, subst, ◌∙◌}
 use Rattle.std.proofs.lemmas.Option.{slice_get_within}
 use Rattle.std.specs.Prelude.{slice_get, slice_set, Option, Some, None, option_map, Result, Ok, Err}
-use Rattle.std.specs.Option.{option_map_or}
-use Rattle.std.specs.Ordering.{nat_cmp}
-use Rattle.srp_base.specs.declared.numbers.Cs.{Cs}
-use Rattle.srp_base.specs.declared.mrp.MrpEvent.{MrpEvent}
+use Rattle.std.specs.{Option.option_map_or, Ordering.nat_cmp}
+use Rattle.srp_base.proofs.{Options.one_some, Lists.at_each}
+use Rattle.srp_base.specs.declared.{numbers.Cs.Cs, mrp.MrpEvent.MrpEvent}
 use Rattle.mmrp_codec.specs.declared.pdu.GroupPdu.{GroupPdu}
-use Rattle.mmrp_codec.specs.Meaning.{mmrp_reading}
-use Rattle.mmrp_codec.specs.Writing.{mmrp_spelling}
+use Rattle.mmrp_codec.specs.{Meaning.mmrp_reading, Writing.mmrp_spelling}
 use Rattle.mrp_participant.specs.State.{Messages, AreRows, is_active, is_silent, declared_state, withdrawn_state, due_state, left_keys, sent_messages, sent_events}
-use Rattle.flat_side.specs.Part.{same_content, settled_key, settled_part, told_by_receipt}
-use Rattle.flat_side.specs.Side.{with_part, at_part, with_part_at, with_told_part, awaiting_at, has_own, is_flat, received_flat, due_flat, settled_flat, sent_flat, spoilt_flat}
-use Rattle.mmrp.specs.declared.events.GroupStep.{GroupStep}
-use Rattle.mmrp.specs.declared.events.GroupStep.TheVariants.{Work, Due, Settle, Send}
-use Rattle.mmrp.specs.Macs.{Part, Groups, HasMacRows, IsWritten, base, octets, pdu_sent, received_part, sent_part}
-use Rattle.mmrp.specs.Node.{NodeGroups, Waiting, IsProperNode, after_work, asked, box_at, port_step, sent_octets, spoilt_at, worked}
-use Rattle.mmrp.specs.Duty.{message_of, part_in, said_by}
-use Rattle.mmrp.proofs.Lists.{one_some, at_each, set_at, set_at_there, set_at_other}
-use Rattle.mmrp.proofs.Boxes.{box_got, box_other, box_set}
-use Rattle.mmrp.proofs.Views.{LinkLaws, KeepsLink, unsound}
-use Rattle.mmrp.proofs.Nodes.{SameAt, outbox_there}
-use Rattle.mmrp.proofs.LinkSteps.{KeepsNear, HasSpoken, declares, withdraws, fires, all_keep, by_call, called, hearing, taken, spoken, still}
+use Rattle.flat_side.specs.{Part.same_content, Part.settled_key, Part.settled_part, Part.told_by_receipt, Side.with_part, Side.at_part, Side.with_part_at, Side.with_told_part, Side.awaiting_at, Side.has_own, Side.is_flat, Side.received_flat, Side.due_flat, Side.settled_flat, Side.sent_flat, Side.spoilt_flat}
+use Rattle.mmrp.specs.{GroupStep, Work, Due, Settle, Send, Part, Groups, HasMacRows, IsWritten, base, octets, pdu_sent, received_part, sent_part, NodeGroups, Waiting, IsProperNode, after_work, asked, box_at, port_step, sent_octets, spoilt_at, worked, message_of, part_in, said_by}
+use Rattle.mmrp.proofs.{Lists.set_at, Lists.set_at_there, Lists.set_at_other, Boxes.box_got, Boxes.box_other, Boxes.box_set, Views.LinkLaws, Views.KeepsLink, Views.unsound, Nodes.SameAt, Nodes.outbox_there, LinkSteps.KeepsNear, LinkSteps.HasSpoken, LinkSteps.declares, LinkSteps.withdraws, LinkSteps.fires, LinkSteps.all_keep, LinkSteps.by_call, LinkSteps.called, LinkSteps.hearing, LinkSteps.taken, LinkSteps.spoken, LinkSteps.still}
 
 -- what the public laws of what is sent say
 abbrev pub WrittenLaw : Type 0

@@ -3,7 +3,7 @@ use Rattle.std.proofs.Common.{◌≡◌, ◌<◌, ◌+◌, append_assoc, ℕ, ze
 use Rattle.std.specs.Prelude.{Option, Some, None, slice_get, filter_map, option_and_then, option_to_list}
 use Rattle.std.specs.List.{cons_option}
 use Rattle.mrp_participant.specs.declared.row.Row.{Row}
-use Rattle.mmrp.specs.Match.{registered_mac}
+use Rattle.mmrp.specs.{registered_mac}
 
 in_front : (o : Option ℕ) (macs : List ℕ) → cons_option o macs ≡ option_to_list o ++ macs
 in_front None macs = refl

@@ -2,13 +2,9 @@
 use Rattle.std.proofs.Common.{◌≡◌, ℕ, List, sym, ap, ◌∙◌}
 use Rattle.std.specs.Prelude.{slice_set, Option, Some, None, Result, Ok, Err, IfOk, OnErr}
 use Rattle.std.specs.Ordering.{nat_cmp}
-use Rattle.srp_base.specs.declared.numbers.Cs.{Cs}
-use Rattle.srp_base.specs.declared.memory.NoMemory.{NoMemory}
+use Rattle.srp_base.specs.declared.{numbers.Cs.Cs, memory.NoMemory.NoMemory}
 use Rattle.flat_side.specs.Side.{sent_flat}
-use Rattle.mmrp.specs.declared.events.GroupReply.{GroupReply}
-use Rattle.mmrp.specs.declared.events.GroupReply.TheVariants.{Silent}
-use Rattle.mmrp.specs.Macs.{Groups, base, octets}
-use Rattle.mmrp.specs.Node.{NodeGroups, Waiting, IsSaying, after_send, box_at, outcome_of_saying, said, sent_octets}
+use Rattle.mmrp.specs.{GroupReply, Silent, Groups, base, octets, NodeGroups, Waiting, IsSaying, after_send, box_at, outcome_of_saying, said, sent_octets}
 use Rattle.mmrp.proofs.Boxes.{set_same}
 
 -- the node that has this side and, at a place, this outbox

@@ -1,16 +1,14 @@
 -- What MMRP keeps at a node has as many ports after each call as before.
 use Rattle.std.proofs.Common.{◌≡◌, ℕ, Bool, true, false, if◌then◌else◌, [], length, refl}
 use Rattle.std.specs.Prelude.{slice_get, slice_set, Option, Some, None, IfSome}
-use Rattle.std.specs.Option.{option_map_or}
+use Rattle.std.specs.{Option.option_map_or, Ordering.nat_cmp}
 use Rattle.std.proofs.Math.ListN.{length-set}
-use Rattle.std.specs.Ordering.{nat_cmp}
 use Rattle.srp_base.specs.declared.numbers.Cs.{Cs}
 use Rattle.mmrp_codec.specs.declared.pdu.GroupPdu.{GroupPdu}
 use Rattle.mrp_participant.specs.State.{due_count, due_state, left_keys}
 use Rattle.attribute_propagation.specs.Ports.{count_of}
-use Rattle.flat_side.specs.Part.{settled_part, told_by_receipt}
-use Rattle.flat_side.specs.Side.{with_part, with_part_at, with_told_part, awaiting_at, has_own, is_flat, received_flat, due_flat, sent_flat, spoilt_flat, settled_flat, requested_flat}
-use Rattle.mmrp.specs.Macs.{Part, Groups, base, octets, received_part, sent_part}
+use Rattle.flat_side.specs.{Part.settled_part, Part.told_by_receipt, Side.with_part, Side.with_part_at, Side.with_told_part, Side.awaiting_at, Side.has_own, Side.is_flat, Side.received_flat, Side.due_flat, Side.sent_flat, Side.spoilt_flat, Side.settled_flat, Side.requested_flat}
+use Rattle.mmrp.specs.{Part, Groups, base, octets, received_part, sent_part}
 
 sized : (o : Option Part) (make : Part → Groups) (v : Groups) → ((s : Part) → length (make s).parts ≡ length v.parts) → length (with_part o make v).parts ≡ length v.parts
 sized None make v h = refl

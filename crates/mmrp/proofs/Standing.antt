@@ -1,29 +1,15 @@
 -- Where the ports of a network's tree stand among its nodes.
 use Rattle.std.proofs.Common.{◌≡◌, ◌-◌, ◌&&◌, ℕ, false, List, refl, sym, ap, subst, ◌∙◌, arith}
 use Rattle.std.specs.Prelude.{◌≤◌, length, slice_get, Option, Some, None, Result, Ok, Err, IfOk, OnErr}
-use Rattle.std.specs.Option.{option_map_or}
-use Rattle.std.specs.Ordering.{nat_cmp}
+use Rattle.std.specs.{Option.option_map_or, Ordering.nat_cmp}
 use Rattle.std.proofs.lemmas.Option.{slice_get_within}
-use Rattle.srp_base.specs.declared.numbers.Cs.{Cs}
-use Rattle.srp_base.specs.declared.numbers.EgressPort.{EgressPort}
-use Rattle.srp_base.specs.declared.numbers.NodeNo.{NodeNo}
+use Rattle.srp_base.proofs.Lists.{within}
+use Rattle.srp_base.specs.declared.{numbers.Cs.Cs, numbers.EgressPort.EgressPort, numbers.NodeNo.NodeNo}
 use Rattle.attribute_propagation.specs.Dirty.{is_awaiting}
-use Rattle.tree_topology.specs.declared.graph.NodeKind.{NodeKind}
-use Rattle.tree_topology.specs.declared.graph.NodeKind.TheVariants.{Station, Bridge}
-use Rattle.tree_topology.specs.Refusal.{is_station}
-use Rattle.tree_topology.specs.Topology.{Topology, HasNode, HasPort}
-use Rattle.tree_topology.specs.Ports.{peer_of}
-use Rattle.tree_topology.specs.PortLaws.{HasPortLaws}
-use Rattle.mmrp.specs.declared.events.GroupEvent.{GroupEvent}
-use Rattle.mmrp.specs.declared.events.GroupReply.{GroupReply}
-use Rattle.mmrp.specs.Node.{NodeGroups}
-use Rattle.mmrp.specs.Net.{NetGroups, Happened, IsStation, StandsAt, CanHappen}
-use Rattle.mmrp.specs.Kept.{IsKeptNet}
-use Rattle.mmrp.specs.Macs.{has_joined}
-use Rattle.mmrp.specs.Match.{is_joined_at}
-use Rattle.mmrp.proofs.Lists.{within}
-use Rattle.mmrp.proofs.Nodes.{node_there, place_within}
-use Rattle.mmrp.proofs.Keeping.{base_kept}
+use Rattle.tree_topology.specs.declared.{graph.NodeKind.NodeKind, graph.NodeKind.TheVariants.Station, graph.NodeKind.TheVariants.Bridge}
+use Rattle.tree_topology.specs.{Refusal.is_station, Topology.Topology, Topology.HasNode, Topology.HasPort, Ports.peer_of, PortLaws.HasPortLaws}
+use Rattle.mmrp.specs.{GroupEvent, GroupReply, NodeGroups, NetGroups, Happened, IsStation, StandsAt, CanHappen, IsKeptNet, has_joined, is_joined_at}
+use Rattle.mmrp.proofs.{Nodes.node_there, Nodes.place_within, Keeping.base_kept}
 
 -- a port of the tree stands at its node
 pub stands : (w : NetGroups) → IsKeptNet w → (p : EgressPort) → HasPort w.tree p → StandsAt p w.nodes
@@ -55,11 +41,6 @@ station_there w kept n station =
 -- an event that may happen, in other words
 pub can_as : (e f : GroupEvent) (v w : NetGroups) → e ≡ f → v ≡ w → CanHappen e v → CanHappen f w
 can_as e f v w same is can = subst (λ (x : GroupEvent). CanHappen x w) same (subst (CanHappen e) is can)
-
--- what holds of each answer that fits holds of the answer, where there is one
-pub if_ok : {A E : Type 0} (r : Result A E) (P Q : A → Type 0) → ((a : A) → P a → Q a) → IfOk r P → IfOk r Q
-if_ok (Ok a) P Q f h = f a h
-if_ok (Err e) P Q f h = h
 
 -- after an event that keeps what every network keeps, or after want of memory, it is kept
 pub kept_either : {E : Type 0} (r : Result GroupReply E) (h : Happened) (tree : Topology) (clock : Cs) (nodes new : List NodeGroups)

@@ -2,13 +2,9 @@
 use Rattle.std.proofs.Common.{◌≡◌, ℕ, false, List, ◌++◌, refl, subst}
 use Rattle.std.specs.Prelude.{Some, filter_map}
 use Rattle.std.specs.Ordering.{nat_cmp}
-use Rattle.mrp_participant.specs.Duty.{IsDutyMet}
-use Rattle.mrp_participant.specs.State.{Messages}
-use Rattle.mrp_participant.specs.Link.{Link, LinkEvent, AreDutiesMet, after_event, other_view}
+use Rattle.mrp_participant.specs.{Duty.IsDutyMet, State.Messages, Link.Link, Link.LinkEvent, Link.AreDutiesMet, Link.after_event, Link.other_view}
 use Rattle.flat_side.specs.Part.{same_content}
-use Rattle.mmrp.specs.Macs.{Part, base, octets}
-use Rattle.mmrp.specs.Node.{NodeGroups, Waiting, box_at}
-use Rattle.mmrp.specs.Duty.{message_of, part_in}
+use Rattle.mmrp.specs.{Part, base, octets, NodeGroups, Waiting, box_at, message_of, part_in}
 
 -- a link with these participants, and the boxes at its far end and at its near end
 abbrev pub boxed : Part → Part → Waiting → Waiting → Waiting → Waiting → Link ℕ (Unit {0})

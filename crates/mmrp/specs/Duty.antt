@@ -1,19 +1,14 @@
 -- What is on each link, as messages: the octets in flight read as what they say, so that the duty of a link's two ends
 -- (mrp_participant) speaks of the network.
 use Rattle.std.specs.Prelude.{◌≡◌, ℕ, List, ◌++◌, filter_map, Option, Some, None, Result, Ok, Err, slice_get}
-use Rattle.std.specs.Option.{option_and_then}
-use Rattle.std.specs.Ordering.{nat_cmp}
+use Rattle.std.specs.{Option.option_and_then, Ordering.nat_cmp}
 use Rattle.srp_base.specs.declared.numbers.EgressPort.{EgressPort}
-use Rattle.tree_topology.specs.Topology.{HasPort}
-use Rattle.tree_topology.specs.Ports.{peer_of}
+use Rattle.tree_topology.specs.{Topology.HasPort, Ports.peer_of}
 use Rattle.mmrp_codec.specs.declared.pdu.GroupPdu.{GroupPdu}
 use Rattle.mmrp_codec.specs.Meaning.{mmrp_reading}
-use Rattle.mrp_participant.specs.State.{Messages}
-use Rattle.mrp_participant.specs.Link.{Link, AreDutiesMet}
+use Rattle.mrp_participant.specs.{State.Messages, Link.Link, Link.AreDutiesMet}
 use Rattle.attribute_propagation.specs.Ports.{place_of}
-use Rattle.mmrp.specs.Macs.{Part, messages}
-use Rattle.mmrp.specs.Node.{NodeGroups, Waiting}
-use Rattle.mmrp.specs.Net.{NetGroups, node_at, inbox, outbox}
+use Rattle.mmrp.specs.{Macs.Part, Macs.messages, Node.NodeGroups, Node.Waiting, Net.NetGroups, Net.node_at, Net.inbox, Net.outbox}
 
 -- the PDUs in flight from a port: those that came in at its peer, and then those that are to go out
 abbrev pub in_flight : EgressPort → NetGroups → Waiting

@@ -1,11 +1,8 @@
 -- What every network that runs MMRP keeps.
 use Rattle.std.specs.Prelude.{◌≡◌, ◌≤◌, ◌+◌, ◌^◌, ℕ, [], length, slice_get, Some}
-use Rattle.tree_topology.specs.Topology.{IsSound}
-use Rattle.tree_topology.specs.Ports.{neighbours}
+use Rattle.tree_topology.specs.{Topology.IsSound, Ports.neighbours}
 use Rattle.tree_topology.specs.declared.graph.NodeKind.TheVariants.{Bridge}
-use Rattle.mmrp.specs.Node.{NodeGroups, IsProperNode, ports_of}
-use Rattle.mmrp.specs.Net.{NetGroups}
-use Rattle.mmrp.specs.Duty.{AreGroupDutiesMet}
+use Rattle.mmrp.specs.{Node.NodeGroups, Node.IsProperNode, Node.ports_of, Net.NetGroups, Duty.AreGroupDutiesMet}
 
 -- no bridge has joined anything
 abbrev pub AreBridgesIdle : NetGroups → Type 0

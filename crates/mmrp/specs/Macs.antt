@@ -2,14 +2,10 @@
 -- the words on a flat side, for MAC addresses.
 use Rattle.std.specs.Prelude.{◌<◌, ◌^◌, ℕ, Bool, List}
 use Rattle.std.specs.Ordering.{nat_cmp}
-use Rattle.srp_base.specs.declared.numbers.Cs.{Cs}
-use Rattle.srp_base.specs.declared.mrp.MrpEvent.{MrpEvent}
+use Rattle.srp_base.specs.declared.{numbers.Cs.Cs, mrp.MrpEvent.MrpEvent}
 use Rattle.mmrp_codec.specs.declared.pdu.GroupPdu.{GroupPdu}
-use Rattle.mmrp_codec.specs.Meaning.{mmrp_reading}
-use Rattle.mmrp_codec.specs.Writing.{mmrp_spelling}
-use Rattle.mrp_participant.specs.State.{sent_state}
-use Rattle.mrp_participant.specs.Lookup.{find}
-use Rattle.mrp_participant.specs.Row.{registrar_of}
+use Rattle.mmrp_codec.specs.{Meaning.mmrp_reading, Writing.mmrp_spelling}
+use Rattle.mrp_participant.specs.{State.sent_state, Lookup.find, Row.registrar_of}
 use Rattle.registrar.specs.declared.Registrar.{Registrar}
 use Rattle.flat_side.specs.Codec.{Codec, IsWritten as IsWrittenBy}
 use Rattle.flat_side.specs.Keys as keys

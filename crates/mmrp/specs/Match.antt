@@ -2,20 +2,13 @@
 -- 802.1Q-2018, 10.12). Either side by its own definition: one looks at the registrars, the other at the tree and at what the
 -- stations' applications have joined.
 use Rattle.std.specs.Prelude.{◌≡◌, ◌↔◌, ◌-◌, ℕ, Bool, true, false, ◌&&◌, if◌then◌else◌, List, [], Option, Some, None, length, slice_get, filter_map}
-use Rattle.std.specs.Option.{option_map_or}
-use Rattle.std.specs.List.{list_any, range_with_len}
+use Rattle.std.specs.{Option.option_map_or, List.list_any, List.range_with_len}
 use Rattle.srp_base.specs.declared.numbers.EgressPort.{EgressPort}
-use Rattle.tree_topology.specs.Topology.{HasNode, HasPort}
-use Rattle.tree_topology.specs.Refusal.{is_station}
-use Rattle.tree_topology.specs.Ports.{LiesBehind}
-use Rattle.tree_topology.specs.Walk.{is_behind}
-use Rattle.registrar.specs.declared.Registrar.{Registrar}
-use Rattle.registrar.specs.declared.Registrar.TheVariants.{Empty}
+use Rattle.tree_topology.specs.{Topology.HasNode, Topology.HasPort, Refusal.is_station, Ports.LiesBehind, Walk.is_behind}
+use Rattle.registrar.specs.declared.{Registrar.Registrar, Registrar.TheVariants.Empty}
 use Rattle.registrar.specs.Table.{is_registered_in}
 use Rattle.mrp_participant.specs.declared.row.Row.{Row}
-use Rattle.mmrp.specs.Macs.{Part, registers, registrar_in, has_joined}
-use Rattle.mmrp.specs.Net.{NetGroups, node_at, is_quiet, is_in_step}
-use Rattle.mmrp.specs.Duty.{part_at}
+use Rattle.mmrp.specs.{Macs.Part, Macs.registers, Macs.registrar_in, Macs.has_joined, Net.NetGroups, Net.node_at, Net.is_quiet, Net.is_in_step, Duty.part_at}
 
 -- the state of the registrar of a MAC address at a port, MT where there is no row
 abbrev pub registrar_at : NetGroups → ℕ → EgressPort → Registrar

@@ -1,20 +1,13 @@
 -- A network that runs MMRP, and one event of it: the network afterwards, and what it answers.
 use Rattle.std.specs.Prelude.{◌≡◌, ◌<◌, ◌≤◌, ◌^◌, ◌+◌, ◌-◌, ℕ, Bool, true, false, nat_lt, List, [], ◌∷◌, length, fold, Option, Some, None, slice_get, slice_set}
-use Rattle.std.specs.Option.{option_map_or}
-use Rattle.std.specs.List.{list_all}
-use Rattle.srp_base.specs.declared.numbers.Cs.{Cs}
-use Rattle.srp_base.specs.declared.numbers.NodeNo.{NodeNo}
-use Rattle.srp_base.specs.declared.numbers.EgressPort.{EgressPort}
-use Rattle.tree_topology.specs.Topology.{Topology, HasNode, HasPort}
-use Rattle.tree_topology.specs.Ports.{peer_of}
+use Rattle.std.specs.{Option.option_map_or, List.list_all}
+use Rattle.srp_base.specs.declared.{numbers.Cs.Cs, numbers.NodeNo.NodeNo, numbers.EgressPort.EgressPort}
+use Rattle.tree_topology.specs.{Topology.Topology, Topology.HasNode, Topology.HasPort, Ports.peer_of}
 use Rattle.tree_topology.specs.declared.graph.NodeKind.TheVariants.{Station}
 use Rattle.attribute_propagation.specs.Ports.{IsLinkPort, place_of}
-use Rattle.mmrp.specs.declared.events.GroupReply.{GroupReply}
-use Rattle.mmrp.specs.declared.events.GroupReply.TheVariants.{Done, Missed}
-use Rattle.mmrp.specs.declared.events.GroupEvent.{GroupEvent}
+use Rattle.mmrp.specs.declared.{events.GroupReply.GroupReply, events.GroupReply.TheVariants.Done, events.GroupReply.TheVariants.Missed, events.GroupEvent.GroupEvent}
 use Rattle.mmrp.specs.declared.events.GroupEvent.TheVariants as events
-use Rattle.mmrp.specs.Macs.{IsMac}
-use Rattle.mmrp.specs.Node.{NodeGroups, Stepped, Waiting, asked, box_at, is_busy_node, is_still_node, are_all_sound, lost_at, port_step, ports_of, repeated_at, spoilt_at, with_carried, with_outbox}
+use Rattle.mmrp.specs.{Macs.IsMac, Node.NodeGroups, Node.Stepped, Node.Waiting, Node.asked, Node.box_at, Node.is_busy_node, Node.is_still_node, Node.are_all_sound, Node.lost_at, Node.port_step, Node.ports_of, Node.repeated_at, Node.spoilt_at, Node.with_carried, Node.with_outbox}
 
 -- a tree, one clock, and what each node keeps, in the order of their numbers
 pub record NetGroups : Type 0 where

@@ -1,22 +1,14 @@
 -- A node that runs MMRP, and one step of one of its link ports: the node afterwards, and what it answers.
 use Rattle.std.specs.Prelude.{◌≡◌, ◌≤◌, ℕ, suc, ◌==◌, Bool, not, ◌&&◌, ◌||◌, if◌then◌else◌, List, [], ◌∷◌, ◌++◌, length, map, take, drop, Option, Some, None, slice_get, slice_set, Result, Ok, Err}
-use Rattle.std.specs.Option.{option_map_or}
-use Rattle.std.specs.List.{list_all, AllByRecursion}
-use Rattle.std.specs.Ordering.{nat_cmp}
-use Rattle.srp_base.specs.declared.numbers.Cs.{Cs}
-use Rattle.srp_base.specs.declared.memory.NoMemory.{NoMemory}
-use Rattle.srp_base.specs.declared.ports.PortSetup.{PortSetup}
+use Rattle.std.specs.{Option.option_map_or, List.list_all, List.AllByRecursion, Ordering.nat_cmp}
+use Rattle.srp_base.specs.declared.{numbers.Cs.Cs, memory.NoMemory.NoMemory, ports.PortSetup.PortSetup}
 use Rattle.mmrp_codec.specs.declared.pdu.GroupPdu.{GroupPdu}
-use Rattle.mmrp_codec.specs.Meaning.{mmrp_reading}
-use Rattle.mmrp_codec.specs.Writing.{mmrp_spelling}
-use Rattle.mrp_participant.specs.Link.{with_repeat}
-use Rattle.mrp_participant.specs.State.{is_silent, due_count}
+use Rattle.mmrp_codec.specs.{Meaning.mmrp_reading, Writing.mmrp_spelling}
+use Rattle.mrp_participant.specs.{Link.with_repeat, State.is_silent, State.due_count}
 use Rattle.attribute_propagation.specs.Ports.{count_of}
-use Rattle.flat_side.specs.Keys.{KeepsKeys}
-use Rattle.flat_side.specs.Side.{IsKept, are_still, is_busy, awaiting_at, new_flat, received_flat, due_flat, settled_flat, sent_flat, requested_flat, spoilt_flat}
-use Rattle.mmrp.specs.declared.events.GroupStep.{GroupStep}
+use Rattle.flat_side.specs.{Keys.KeepsKeys, Side.IsKept, Side.are_still, Side.is_busy, Side.awaiting_at, Side.new_flat, Side.received_flat, Side.due_flat, Side.settled_flat, Side.sent_flat, Side.requested_flat, Side.spoilt_flat}
+use Rattle.mmrp.specs.declared.{events.GroupStep.GroupStep, events.GroupReply.GroupReply}
 use Rattle.mmrp.specs.declared.events.GroupStep.TheVariants.{Work, Due, Settle, Send}
-use Rattle.mmrp.specs.declared.events.GroupReply.{GroupReply}
 use Rattle.mmrp.specs.declared.events.GroupReply.TheVariants.{Nothing, Discarded, Received, Fired, Settled, Silent, Sent}
 use Rattle.mmrp.specs.Macs.{Part, Groups, IsMac, base, octets, pdu_sent}
 

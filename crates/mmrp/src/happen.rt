@@ -2,8 +2,7 @@
 
 ghost use Rattle.std.specs.Prelude.{◌≡◌, ◌<◌, ◌≤◌, ◌-◌, ◌^◌, [], false, length, slice_get, Some, IfOk, OnOk, OnErr, IfErr};
 ghost use Rattle.std.specs.Option.{option_map_or};
-ghost use Rattle.tree_topology.specs.Topology.{Topology, HasPort};
-ghost use Rattle.tree_topology.specs.Ports.{peer_of};
+ghost use Rattle.tree_topology.specs.{Topology.Topology, Topology.HasPort, Ports.peer_of};
 ghost use Rattle.attribute_propagation.specs.Ports.{place_of};
 ghost use Rattle.mmrp.specs.Node.{NodeGroups, AreShort, box_at, lost_at, port_step, repeated_at, spoilt_at, with_carried, with_outbox};
 ghost use Rattle.mmrp.specs.Duty.{part_at};

@@ -2,14 +2,10 @@
 //! that does nothing; calling it brings the law to a proof.
 
 ghost use Rattle.std.specs.Prelude.{◌≡◌, ◌≢◌, ◌-◌, ℕ, Bool, false, List};
-ghost use Rattle.std.specs.List.{AllByRecursion};
-ghost use Rattle.std.specs.Ordering.{nat_cmp};
-ghost use Rattle.srp_base.specs.declared.numbers.Cs.{Cs};
-ghost use Rattle.srp_base.specs.declared.numbers.EgressPort.{EgressPort};
-ghost use Rattle.srp_base.specs.declared.numbers.NodeNo.{NodeNo};
+ghost use Rattle.std.specs.{List.AllByRecursion, Ordering.nat_cmp};
+ghost use Rattle.srp_base.specs.declared.{numbers.Cs.Cs, numbers.EgressPort.EgressPort, numbers.NodeNo.NodeNo};
 ghost use Rattle.tree_topology.specs.Topology.{Topology, HasPort};
-ghost use Rattle.topology_file.specs.declared.entries.LinkEntry.{LinkEntry};
-ghost use Rattle.topology_file.specs.declared.entries.NodeEntry.{NodeEntry};
+ghost use Rattle.topology_file.specs.declared.{entries.LinkEntry.LinkEntry, entries.NodeEntry.NodeEntry};
 ghost use Rattle.topology_file.specs.Network.{KeepsNetworkRules};
 ghost use Rattle.mmrp_codec.specs.Writing.{mmrp_spelling};
 ghost use Rattle.mrp_participant.specs.State.{AreRows, is_silent};

@@ -1,8 +1,7 @@
 //! Both sides of the law of groups, in any network, and which groups are registered at a port.
 
 ghost use Rattle.std.specs.Prelude.{◌≡◌, ◌++◌, ◌&&◌, slice_get, option_and_then, option_to_list, IfOk, OnOk};
-ghost use Rattle.tree_topology.specs.Topology.{HasNode, HasPort};
-ghost use Rattle.tree_topology.specs.Walk.{is_behind};
+ghost use Rattle.tree_topology.specs.{Topology.HasNode, Topology.HasPort, Walk.is_behind};
 ghost use Rattle.mmrp.specs.Match.{IsAtRest, groups_at, is_joined_at, is_joined_behind, is_registered, registered_in, registered_mac};
 
 use crate::app::MmrpApp;

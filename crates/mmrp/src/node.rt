@@ -1,11 +1,9 @@
 //! A node that runs MMRP: its side, and the PDUs that wait at its link ports.
 
 ghost use Rattle.std.specs.Prelude.{◌≡◌, ◌<◌, ◌^◌, [], length, map, slice_get, Some, IfOk, IfErr, OnOk, OnErr};
-ghost use Rattle.std.specs.List.{AllByRecursion};
-ghost use Rattle.std.specs.Ordering.{nat_cmp};
+ghost use Rattle.std.specs.{List.AllByRecursion, Ordering.nat_cmp, Option.option_map_or};
 ghost use Rattle.mrp_participant.specs.State.{IsTime};
 ghost use Rattle.attribute_propagation.specs.Ports.{IsLinkPort, place_of};
-ghost use Rattle.std.specs.Option.{option_map_or};
 ghost use Rattle.registrar.specs.declared.Registrar.TheVariants.{Empty};
 ghost use Rattle.mmrp.specs.Macs.{has_joined, registrar_in};
 ghost use Rattle.mmrp.specs.Node.{AreShort, IsKeptNode, after_send, after_work, are_all_sound, are_empty, asked, box_at, is_busy_node, is_still_node, lost_at, new_node, port_step, ports_of, repeated_at, spoilt_at, with_carried, with_outbox};

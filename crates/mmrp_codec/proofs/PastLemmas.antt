@@ -1,17 +1,11 @@
 -- The first vector whose values pass 48 bits, and its place.
 use Rattle.std.proofs.Common.{◌≡◌, ℕ, zero, suc, ◌+◌, Bool, true, false, eqb, inl, inr, List, [], ◌∷◌, take, Option, Some, None, refl, sym, ap, subst, ◌∙◌, arith}
 use Rattle.std.specs.Prelude.{slice_get, if◌then◌else◌}
-use Rattle.std.specs.List.{list_all}
-use Rattle.std.specs.Option.{unwrap_or}
-use Rattle.std.proofs.lemmas.Bool.{cases_Bool, and_parts, and_from}
-use Rattle.std.proofs.lemmas.Option.{some_pair_parts}
-use Rattle.mrpdu_codec.specs.declared.form.AppForm.TheVariants.{Mmrp}
-use Rattle.mrpdu_codec.specs.declared.pdu.VectorAttr.{VectorAttr}
-use Rattle.mrpdu_codec.specs.declared.pdu.Message.{Message}
-use Rattle.mrpdu_codec.specs.declared.pdu.Pdu.{Pdu}
-use Rattle.mrpdu_codec.specs.Grammar.{Spells}
-use Rattle.mrpdu_codec.specs.Places.{first_places, first_value_place, StandAt, AllStandAt}
-use Rattle.mmrp_codec.specs.Meaning.{mac_vectors, is_in_range, message_in_range, first_past_in, message_past, first_past, place_in, PassesEnd}
+use Rattle.std.specs.{List.list_all, Option.unwrap_or}
+use Rattle.std.proofs.lemmas.{Bool.cases_Bool, Bool.and_parts, Bool.and_from, Option.some_pair_parts}
+use Rattle.mrpdu_codec.specs.declared.{form.AppForm.TheVariants.Mmrp, pdu.VectorAttr.VectorAttr, pdu.Message.Message, pdu.Pdu.Pdu}
+use Rattle.mrpdu_codec.specs.{Grammar.Spells, Places.first_places, Places.first_value_place, Places.StandAt, Places.AllStandAt}
+use Rattle.mmrp_codec.specs.{mac_vectors, is_in_range, message_in_range, first_past_in, message_past, first_past, place_in, PassesEnd}
 
 -- ---- vectors
 

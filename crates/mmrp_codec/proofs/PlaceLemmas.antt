@@ -1,8 +1,7 @@
 -- The value at a place of a vector that lies in the octets: in which octet it is, and where in that.
 use Rattle.std.proofs.Common.{◌≡◌, ℕ, ◌+◌, ◌*◌, ◌/◌, ◌%◌, ◌<◌, ◌≤◌, min, List, [], ◌∷◌, length, get_or, take, refl, sym, ap, ◌∙◌, arith}
 use Rattle.std.specs.List.{flat_map}
-use Rattle.std.proofs.lemmas.List.{length-take, length-take-le, get_or-take}
-use Rattle.std.proofs.lemmas.List.Concat.{get_or-flat_map}
+use Rattle.std.proofs.lemmas.{List.length-take, List.length-take-le, List.get_or-take, List.Concat.get_or-flat_map}
 use Rattle.srp_base.specs.declared.mrp.MrpEvent.TheVariants.{New}
 use Rattle.mrpdu_codec.specs.Octets.{three_events}
 

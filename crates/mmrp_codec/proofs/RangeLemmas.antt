@@ -5,11 +5,8 @@ use Rattle.std.specs.List.{flat_map, list_all}
 use Rattle.std.proofs.lemmas.Bool.{and_parts}
 use Rattle.srp_base.specs.Hexadecimal.{number_high_first}
 use Rattle.srp_base.specs.declared.mrp.MrpEvent.{MrpEvent}
-use Rattle.mrpdu_codec.specs.declared.pdu.VectorAttr.{VectorAttr}
-use Rattle.mrpdu_codec.specs.declared.pdu.Message.{Message}
-use Rattle.mrpdu_codec.specs.declared.pdu.Pdu.{Pdu}
-use Rattle.mmrp_codec.specs.declared.pdu.GroupPdu.{GroupPdu}
-use Rattle.mmrp_codec.specs.Meaning.{MacEvent, AreMacs, mac_vectors, events_from, vector_events, message_events, meaning, is_in_range, message_in_range, first_past, meaning_or_place, read_as}
+use Rattle.mrpdu_codec.specs.declared.{pdu.VectorAttr.VectorAttr, pdu.Message.Message, pdu.Pdu.Pdu}
+use Rattle.mmrp_codec.specs.{GroupPdu, MacEvent, AreMacs, mac_vectors, events_from, vector_events, message_events, meaning, is_in_range, message_in_range, first_past, meaning_or_place, read_as}
 use Rattle.mmrp_codec.proofs.PastLemmas.{past_none}
 
 macs-append : (xs ys : List MacEvent) → AreMacs xs → AreMacs ys → AreMacs (xs ++ ys)

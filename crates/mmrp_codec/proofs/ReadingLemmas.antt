@@ -2,18 +2,11 @@
 use Rattle.std.proofs.Common.{◌≡◌, ℕ, ◌+◌, ◌<◌, ◌≤◌, Bool, true, false, eqb, List, [], ◌∷◌, ◌++◌, length, get_or, drop, map, refl, sym, ap, ◌∙◌, append_assoc, append-nil, arith}
 use Rattle.std.specs.Prelude.{if◌then◌else◌}
 use Rattle.std.specs.List.{list_all, flat_map}
-use Rattle.std.proofs.lemmas.List.{drop_all, drop_more}
-use Rattle.std.proofs.lemmas.List.Folds.{list_all-map, flat_map-map}
+use Rattle.std.proofs.lemmas.{List.drop_all, List.drop_more, List.Folds.list_all-map, List.Folds.flat_map-map}
 use Rattle.srp_base.specs.declared.mrp.MrpEvent.{MrpEvent}
-use Rattle.mrpdu_codec.specs.declared.form.AppForm.TheVariants.{Mmrp}
-use Rattle.mrpdu_codec.specs.declared.pdu.VectorAttr.{VectorAttr}
-use Rattle.mrpdu_codec.specs.declared.raw.RawVector.{RawVector}
-use Rattle.mrpdu_codec.specs.declared.raw.RawMessage.{RawMessage}
-use Rattle.mrpdu_codec.specs.Raw.{attr_in, attrs_in, message_in}
-use Rattle.mrpdu_codec.specs.Shape.{vector_fits, vectors_fit, has_form}
-use Rattle.mrpdu_codec.specs.Types.{row_of}
-use Rattle.mmrp_codec.specs.InPlace.{mac_form, fits_in_place, events_in_place}
-use Rattle.mmrp_codec.specs.Meaning.{MacEvent, events_from, vector_events, message_events}
+use Rattle.mrpdu_codec.specs.declared.{form.AppForm.TheVariants.Mmrp, pdu.VectorAttr.VectorAttr, raw.RawVector.RawVector, raw.RawMessage.RawMessage}
+use Rattle.mrpdu_codec.specs.{Raw.attr_in, Raw.attrs_in, Raw.message_in, Shape.vector_fits, Shape.vectors_fit, Shape.has_form, Types.row_of}
+use Rattle.mmrp_codec.specs.{mac_form, fits_in_place, events_in_place, MacEvent, events_from, vector_events, message_events}
 
 -- one event more of a list
 pub event_more : (events : List MrpEvent) (first i : ℕ) (d : MrpEvent) (done total : List MacEvent) → i < length events

@@ -1,12 +1,9 @@
 -- What `encode` writes, vector by vector.
 use Rattle.std.proofs.Common.{◌≡◌, ℕ, ◌+◌, zero, suc, ◌<◌, ◌≤◌, ◌^◌, Bool, true, false, List, [], ◌∷◌, ◌++◌, length, map, get_or, drop, take, refl, sym, ap, ◌∙◌, append_assoc, append-nil, arith}
 use Rattle.std.proofs.lemmas.List.{drop_all, drop_more}
-use Rattle.mrpdu_codec.specs.declared.form.AppForm.TheVariants.{Mmrp}
-use Rattle.mrpdu_codec.specs.declared.pdu.VectorAttr.{VectorAttr}
-use Rattle.mrpdu_codec.specs.Tree.{vector_octets, vectors_octets}
-use Rattle.mrpdu_codec.specs.Canonical.{vector_for, vectors_for}
-use Rattle.mmrp_codec.specs.Meaning.{MacEvent, AreMacs}
-use Rattle.mmrp_codec.specs.Writing.{leave_vector, event_vector, event_vectors}
+use Rattle.mrpdu_codec.specs.declared.{form.AppForm.TheVariants.Mmrp, pdu.VectorAttr.VectorAttr}
+use Rattle.mrpdu_codec.specs.{Tree.vector_octets, Tree.vectors_octets, Canonical.vector_for, Canonical.vectors_for}
+use Rattle.mmrp_codec.specs.{MacEvent, AreMacs, leave_vector, event_vector, event_vectors}
 
 -- the octets of the vectors of these events
 abbrev pub octets_of : Bool → List MacEvent → List ℕ

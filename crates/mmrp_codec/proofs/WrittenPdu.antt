@@ -1,21 +1,12 @@
 -- The PDU that is written: it can be written, says what was written, and is small.
-use Rattle.std.proofs.Common.{◌≡◌, ℕ, ◌+◌, ◌*◌, ◌^◌, ◌<◌, ◌≤◌, Bool, true, false, ltb, ◌||◌, List, [], ◌∷◌, ◌++◌, length, map, None, Option, Result, Ok, refl, sym, ap, ◌∙◌, append-nil, arith}
-use Rattle.std.specs.List.{flat_map, list_all, list_any, sum_by}
-use Rattle.std.specs.Int.{bytes_high_first}
-use Rattle.std.proofs.lemmas.Bool.{and_from, le-leb}
-use Rattle.std.proofs.lemmas.List.Sums.{sum_by-cons}
+use Rattle.std.proofs.Common.{◌≡◌, ℕ, ◌+◌, ◌*◌, ◌^◌, ◌<◌, ◌≤◌, Bool, true, false, List, [], ◌∷◌, ◌++◌, length, map, Result, Ok, refl, ap, ◌∙◌, append-nil, arith}
+use Rattle.std.specs.{List.flat_map, List.list_all, List.list_any, Int.bytes_high_first}
+use Rattle.std.proofs.lemmas.{Bool.and_from, Bool.le-leb, List.Sums.sum_by-cons}
+use Rattle.srp_base.proofs.Bools.{or_no}
 use Rattle.srp_base.specs.Hexadecimal.{number_high_first}
-use Rattle.mrpdu_codec.specs.declared.form.AppForm.TheVariants.{Mmrp}
-use Rattle.mrpdu_codec.specs.declared.pdu.VectorAttr.{VectorAttr}
-use Rattle.mrpdu_codec.specs.declared.pdu.Message.{Message}
-use Rattle.mrpdu_codec.specs.declared.pdu.Pdu.{Pdu}
-use Rattle.mrpdu_codec.specs.Shape.{vector_fits}
-use Rattle.mrpdu_codec.specs.Canonical.{well_formed, vector_size, vectors_size, pdu_size}
-use Rattle.mrpdu_codec.specs.Reading.{reading}
-use Rattle.mmrp_codec.specs.declared.pdu.GroupPdu.{GroupPdu}
-use Rattle.mmrp_codec.specs.InPlace.{mac_form}
-use Rattle.mmrp_codec.specs.Meaning.{MacEvent, AreMacs, vector_events, message_events, meaning, is_in_range, message_in_range, first_past, meaning_or_place, read_as, mmrp_reading}
-use Rattle.mmrp_codec.specs.Writing.{leave_vector, event_vector, event_vectors, service_messages, mac_message, pdu_for, mmrp_spelling, IsWritable}
+use Rattle.mrpdu_codec.specs.declared.{form.AppForm.TheVariants.Mmrp, pdu.VectorAttr.VectorAttr}
+use Rattle.mrpdu_codec.specs.{Shape.vector_fits, Canonical.well_formed, Canonical.vector_size, Canonical.vectors_size, Canonical.pdu_size, Reading.reading}
+use Rattle.mmrp_codec.specs.{GroupPdu, mac_form, MacEvent, AreMacs, vector_events, meaning, is_in_range, message_in_range, meaning_or_place, read_as, mmrp_reading, event_vector, event_vectors, pdu_for, mmrp_spelling, IsWritable}
 use Rattle.mmrp_codec.proofs.PastLemmas.{past_all}
 
 -- a number is read from what is written of it
@@ -57,10 +48,6 @@ vectors_leave true [] = refl
 vectors_leave false [] = refl
 vectors_leave true (x ∷ xs) = refl
 vectors_leave false (x ∷ xs) = none_leave xs
-
-or_no : (b : Bool) → (b || false) ≡ b
-or_no true = refl
-or_no false = refl
 
 made : Bool → List MacEvent → GroupPdu
 made leave events = record { leave_all = leave; events = events }

@@ -1,9 +1,7 @@
 -- What is asked and said of vectors that lie in the octets. No public contract names these words.
 use Rattle.std.specs.Prelude.{Bool, false, List}
-use Rattle.mrpdu_codec.specs.declared.form.TypeForm.{TypeForm}
-use Rattle.mrpdu_codec.specs.declared.raw.RawVector.{RawVector}
-use Rattle.mrpdu_codec.specs.Raw.{attr_in}
-use Rattle.mrpdu_codec.specs.Shape.{vector_fits}
+use Rattle.mrpdu_codec.specs.declared.{form.TypeForm.TypeForm, raw.RawVector.RawVector}
+use Rattle.mrpdu_codec.specs.{Raw.attr_in, Shape.vector_fits}
 use Rattle.mmrp_codec.specs.Meaning.{MacEvent, vector_events, is_in_range}
 
 -- what the octets of a vector of MAC addresses look like

@@ -1,18 +1,11 @@
 -- What an MRPDU of MMRP says (IEEE Std 802.1Q-2018, 10.8.1.2, 10.12.1), and where one that `mrpdu_codec` reads is
 -- malformed all the same.
 use Rattle.std.specs.Prelude.{◌≡◌, ◌<◌, ℕ, ◌+◌, ◌^◌, Bool, true, false, List, [], ◌∷◌, length, take, slice_get, Option, Some, None, Result, Ok, Err, nat_le, ◌==◌, if◌then◌else◌}
-use Rattle.std.specs.Option.{unwrap_or}
-use Rattle.std.specs.List.{flat_map, list_all, AllByRecursion}
+use Rattle.std.specs.{Option.unwrap_or, List.flat_map, List.list_all, List.AllByRecursion}
 use Rattle.srp_base.specs.Hexadecimal.{number_high_first}
 use Rattle.srp_base.specs.declared.mrp.MrpEvent.{MrpEvent}
-use Rattle.mrpdu_codec.specs.declared.form.AppForm.TheVariants.{Mmrp}
-use Rattle.mrpdu_codec.specs.declared.pdu.VectorAttr.{VectorAttr}
-use Rattle.mrpdu_codec.specs.declared.pdu.Message.{Message}
-use Rattle.mrpdu_codec.specs.declared.pdu.Pdu.{Pdu}
-use Rattle.mrpdu_codec.specs.Grammar.{Spells, Breaks}
-use Rattle.mrpdu_codec.specs.Reading.{reading}
-use Rattle.mrpdu_codec.specs.Shape.{has_leave_all}
-use Rattle.mrpdu_codec.specs.Places.{first_places, first_value_place}
+use Rattle.mrpdu_codec.specs.declared.{form.AppForm.TheVariants.Mmrp, pdu.VectorAttr.VectorAttr, pdu.Message.Message, pdu.Pdu.Pdu}
+use Rattle.mrpdu_codec.specs.{Grammar.Spells, Grammar.Breaks, Reading.reading, Shape.has_leave_all, Places.first_places, Places.first_value_place}
 use Rattle.mmrp_codec.specs.declared.pdu.GroupPdu.{GroupPdu}
 
 -- an event of a MAC address

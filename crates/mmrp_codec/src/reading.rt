@@ -4,9 +4,7 @@ ghost use Rattle.std.specs.Prelude.{◌≡◌, ◌++◌, ◌<◌, ◌≤◌, ◌
 ghost use Rattle.std.specs.List.{flat_map, list_all};
 ghost use Rattle.mrpdu_codec.specs.declared.error.DecodeErr.TheVariants as errors;
 ghost use Rattle.mrpdu_codec.specs.declared.form.AppForm.TheVariants.{Mmrp};
-ghost use Rattle.mrpdu_codec.specs.Raw.{attr_in, attrs_in, message_in, pdu_in};
-ghost use Rattle.mrpdu_codec.specs.Reading.{Answers};
-ghost use Rattle.mrpdu_codec.specs.Shape.{has_form};
+ghost use Rattle.mrpdu_codec.specs.{Raw.attr_in, Raw.attrs_in, Raw.message_in, Raw.pdu_in, Reading.Answers, Shape.has_form};
 ghost use Rattle.srp_base.specs.declared.mrp.MrpEvent.TheVariants.{New};
 ghost use Rattle.mmrp_codec.specs.declared.pdu.GroupPdu.{GroupPdu};
 ghost use Rattle.mmrp_codec.specs.InPlace.{fits_in_place, is_in_range_in_place, events_in_place};

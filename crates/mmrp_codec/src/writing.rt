@@ -2,8 +2,7 @@
 
 ghost use Rattle.std.specs.Prelude.{◌≡◌, ◌++◌, ◌≤◌, ◌<◌, ◌^◌, ◌∷◌, [], length, Ok, IfOk, OnOk};
 ghost use Rattle.std.specs.Int.{bytes_high_first};
-ghost use Rattle.mrpdu_codec.specs.Tree.{vector_octets, vectors_octets};
-ghost use Rattle.mrpdu_codec.specs.Canonical.{vector_for, vectors_for};
+ghost use Rattle.mrpdu_codec.specs.{Tree.vector_octets, Tree.vectors_octets, Canonical.vector_for, Canonical.vectors_for};
 ghost use Rattle.mmrp_codec.specs.Meaning.{AreMacs, mmrp_reading};
 ghost use Rattle.mmrp_codec.specs.Writing.{IsWritable, event_vector, event_vectors, mmrp_spelling};
 

@@ -1,7 +1,6 @@
 -- Loops that change each element of a list in place.
 use Rattle.std.proofs.Common.{◌≡◌, ℕ, ◌+◌, ◌<◌, ◌++◌, List, ap, ◌≤◌, ◌∙◌, sym, subst, slice_set, length, map, take, drop, get_or}
-use Rattle.std.proofs.lemmas.List.{append-nil, take_all, drop_all, take_at, length-map}
-use Rattle.std.proofs.lemmas.List.Edits.{map_over_more}
+use Rattle.std.proofs.lemmas.{List.append-nil, List.take_all, List.drop_all, List.take_at, List.length-map, List.Edits.map_over_more}
 
 -- a loop that writes f x over each element x of xs
 pub changed-in_place : {X : Type 0} (f : X → X) (xs whole ys : List X) (i : ℕ) (x y : X) → i < length whole

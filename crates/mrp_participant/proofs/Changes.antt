@@ -1,26 +1,16 @@
 -- The keys that receiving and the timers tell are those whose registration changed.
 use Rattle.std.proofs.Common.{◌≡◌, ℕ, zero, suc, ◌<◌, Bool, true, false, not, ◌&&◌, ◌||◌, if◌then◌else◌, nat_le, List, [], ◌∷◌, map, filter, fold, length, get_or, refl, sym, ap, ◌∙◌, subst, arith, inl, inr, option_map, option_and_then}
 use Rattle.std.specs.Prelude.{◌⊎◌, Contains, IsSome}
-use Rattle.std.specs.declared.option.Option.{Option}
-use Rattle.std.specs.declared.option.Option.TheVariants.{None, Some}
-use Rattle.std.specs.declared.cmp.Ordering.{Ordering}
-use Rattle.std.specs.declared.cmp.Ordering.TheVariants.{Less, Equal}
-use Rattle.std.specs.Cmp.{IsTotalOrder, IsEquivalence}
+use Rattle.std.specs.{declared.option.Option.Option, declared.option.Option.TheVariants.None, declared.option.Option.TheVariants.Some, declared.cmp.Ordering.Ordering, declared.cmp.Ordering.TheVariants.Less, declared.cmp.Ordering.TheVariants.Equal, Cmp.IsTotalOrder, Cmp.IsEquivalence, List.AllByRecursion, List.filter_map, List.cons_option, List.list_any, Option.option_eq}
+use Rattle.srp_base.proofs.Lists.{each_filter as Each-filtered}
 use Rattle.registrar.specs.declared.Registrar.{Registrar}
 use Rattle.registrar.specs.declared.Registrar.TheVariants.{Held, Leaving, Empty}
-use Rattle.srp_base.specs.declared.numbers.Cs.{Cs}
-use Rattle.srp_base.specs.declared.mrp.MrpEvent.{MrpEvent}
+use Rattle.srp_base.specs.declared.{numbers.Cs.Cs, mrp.MrpEvent.MrpEvent}
 use Rattle.mrp_participant.specs.declared.row.Row.{Row}
-use Rattle.mrp_participant.specs.Lookup.{Ascends, key_of, same, find}
-use Rattle.std.specs.List.{AllByRecursion, filter_map, cons_option, list_any}
-use Rattle.std.specs.Option.{option_eq}
+use Rattle.mrp_participant.specs.{Ascends, key_of, same, find, is_live, registered_in, row_hearing, row_after_receive, after_hear, leave_all_row, leave_is_due, after_leave_due, left_row, periodic_row, AreRows, changed_keys, rows_after_receive, left_keys, leave_timers_state, periodic_fired_state, due_leave_all_state, due_state, is_leave_all_due, is_periodic_due}
 use Rattle.registrar.specs.Table.{is_leaving}
-use Rattle.mrp_participant.specs.Row.{is_live, registered_in, row_hearing, row_after_receive, after_hear, leave_all_row, leave_is_due, after_leave_due, left_row, periodic_row}
-use Rattle.mrp_participant.specs.State.{State, AreRows, changed_keys, rows_after_receive, left_keys, leave_timers_state, periodic_fired_state, due_leave_all_state, due_state, is_leave_all_due, is_periodic_due}
-use Rattle.mrp_participant.proofs.Lookups.{same_is, Each-mapped}
-use Rattle.mrp_participant.proofs.SendingLimitLemmas.{In, In-filter, In-filtered, Each-filtered, find-in}
-use Rattle.mrp_participant.proofs.EachKey.{each-receive, each-mapped, each-kept}
-use Rattle.mrp_participant.proofs.Transitions.{due-keeps, leave_all_due-rows}
+use Rattle.mrp_participant.specs.State.{State}
+use Rattle.mrp_participant.proofs.{Lookups.same_is, Lookups.Each-mapped, SendingLimitLemmas.In, SendingLimitLemmas.In-filter, SendingLimitLemmas.In-filtered, SendingLimitLemmas.find-in, EachKey.each-receive, EachKey.each-mapped, EachKey.each-kept, Transitions.due-keeps, Transitions.leave_all_due-rows}
 
 -- ---- members of a list
 

@@ -1,16 +1,11 @@
 -- What a call that says nothing of a key's declaration or registration leaves of it, and what a request makes of
 -- it.
 use Rattle.std.proofs.Common.{◌≡◌, ℕ, Bool, true, false, not, ◌&&◌, ◌||◌, if◌then◌else◌, List, [], ◌∷◌, fold, refl, ap, ◌∙◌, option_map, option_and_then}
-use Rattle.std.specs.declared.option.Option.{Option}
-use Rattle.std.specs.declared.option.Option.TheVariants.{None, Some}
-use Rattle.std.specs.declared.cmp.Ordering.{Ordering}
-use Rattle.std.specs.Cmp.{IsTotalOrder}
-use Rattle.srp_base.specs.declared.numbers.Cs.{Cs}
-use Rattle.srp_base.specs.declared.mrp.MrpEvent.{MrpEvent}
+use Rattle.std.specs.{declared.option.Option.Option, declared.option.Option.TheVariants.None, declared.option.Option.TheVariants.Some, declared.cmp.Ordering.Ordering, Cmp.IsTotalOrder}
+use Rattle.srp_base.specs.declared.{numbers.Cs.Cs, mrp.MrpEvent.MrpEvent}
 use Rattle.srp_base.specs.declared.mrp.MrpEvent.TheVariants.{New, JoinIn, OnlyIn, JoinMt, OnlyMt, Lv}
-use Rattle.applicant.specs.declared.Applicant.{Applicant}
+use Rattle.applicant.specs.declared.{Applicant.Applicant, AppEvent.AppEvent}
 use Rattle.applicant.specs.declared.Applicant.TheVariants.{Vo, Vp, Vn, An, Aa, Qa, La}
-use Rattle.applicant.specs.declared.AppEvent.{AppEvent}
 use Rattle.applicant.specs.declared.AppEvent.TheVariants.{RxIn, RxMt, RxLv as AppRxLv, RxLeaveAll as AppRxLeaveAll, Periodic, Tx, TxLeaveAll, TxLeaveAllFull}
 use Rattle.applicant.specs.Table as applicant
 use Rattle.registrar.specs.declared.Registrar.{Registrar}
@@ -18,12 +13,10 @@ use Rattle.registrar.specs.declared.Registrar.TheVariants.{Held, Leaving, Empty}
 use Rattle.registrar.specs.declared.RegEvent.TheVariants.{RxJoin, RxLv as RegRxLv, RxLeaveAll as RegRxLeaveAll, TxLeaveAll as RegTxLeaveAll, LeaveTimer}
 use Rattle.registrar.specs.Table as registrar
 use Rattle.mrp_participant.specs.declared.row.Row.{Row}
-use Rattle.mrp_participant.specs.Lookup.{same, find}
+use Rattle.mrp_participant.specs.{same, find, kept_row, with_applicant, with_heard, applicant_takes, registrar_takes, after_declare, after_withdraw, left_row, after_leave, is_leaving_in, leave_all_row, heard_row, after_hear, row_hearing, row_after_receive, registered_in, declared_in, leave_is_due, after_leave_due, periodic_row, is_tried, sent_row}
 use Rattle.registrar.specs.Table.{is_in, is_leaving}
 use Rattle.registrar.proofs.RegistrarLemmas.{leave_all_sent-registered}
 use Rattle.applicant.specs.Table.{is_observer}
-use Rattle.mrp_participant.specs.Row.{kept_row, with_applicant, with_heard, applicant_takes, registrar_takes, after_declare, after_withdraw, left_row, after_leave, is_leaving_in, leave_all_row, heard_row, after_hear, row_hearing, row_after_receive, registered_in, declared_in, leave_is_due, after_leave_due, periodic_row}
-use Rattle.mrp_participant.specs.Sending.{is_tried, sent_row}
 use Rattle.mrp_participant.proofs.Lookups.{find-same, same_is}
 
 -- the applicant's law: nothing but a request changes whether the attribute is declared

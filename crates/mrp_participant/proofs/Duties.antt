@@ -1,25 +1,13 @@
 -- Each call keeps the duty of the participant that takes it, and its neighbour's.
 use Rattle.std.proofs.Common.{◌≡◌, ℕ, Bool, true, false, ◌||◌, if◌then◌else◌, List, [], ◌∷◌, ◌++◌, refl, sym, ap, ◌∙◌, subst, option_and_then}
 use Rattle.std.specs.Prelude.{option_to_list}
-use Rattle.std.specs.declared.option.Option.{Option}
-use Rattle.std.specs.declared.option.Option.TheVariants.{None}
-use Rattle.std.specs.declared.cmp.Ordering.{Ordering}
-use Rattle.std.specs.Cmp.{IsTotalOrder}
+use Rattle.std.specs.{declared.option.Option.Option, declared.option.Option.TheVariants.None, declared.cmp.Ordering.Ordering, Cmp.IsTotalOrder}
 use Rattle.srp_base.specs.declared.numbers.Cs.{Cs}
-use Rattle.leaveall.specs.declared.LeaveAll.{LeaveAll}
-use Rattle.leaveall.specs.declared.LeaveAll.TheVariants.{Active, Passive}
+use Rattle.leaveall.specs.declared.{LeaveAll.LeaveAll, LeaveAll.TheVariants.Active, LeaveAll.TheVariants.Passive}
 use Rattle.mrp_participant.specs.declared.row.Row.{Row}
-use Rattle.mrp_participant.specs.Lookup.{same, find}
-use Rattle.mrp_participant.specs.Row.{registered_in, declared_in, periodic_row, after_declare, after_withdraw, after_leave, after_leave_due}
-use Rattle.mrp_participant.specs.Sending.{sent_row, sent_event}
-use Rattle.mrp_participant.specs.Duty.{held_in, held_after, hears, has_leave_all, OwesOf, IsDutyMet}
-use Rattle.mrp_participant.specs.State.{State, Messages, AreRows, after, is_active, takes, leave_timers_state, leave_all_state, periodic_fired_state, due_leave_all_state, due_state, is_leave_all_due, is_periodic_due, declared_state, withdrawn_state, left_state, received_state, periodic_state, sent_state, sent_messages, is_still}
-use Rattle.mrp_participant.proofs.Lookups.{find-same, same_is}
-use Rattle.mrp_participant.proofs.EachKey.{each-declare, each-withdraw, each-leave, each-mapped, each-receive, each-kept}
-use Rattle.mrp_participant.proofs.Sendings.{sent-keeps}
-use Rattle.mrp_participant.proofs.StateLemmas.{each-due, one-sent, still-rows, settled-at}
-use Rattle.mrp_participant.proofs.DutyRows.{owes-same, owes-asked, declare-owes, withdraw-owes, leave-owes, leave_due-owes, periodic-owes, periodic_if-owes, receive-owes, declare-held, withdraw-held, leave-held, leave_due-held, periodic-held, periodic_if-held, receive-held, held_after_all, events-alone, sent-owes, sent-held, not_leaving-held, quiet-held}
-use Rattle.mrp_participant.proofs.Flying.{nothing-stays, hears-append, hears-twice, hears-nothing, leave_all-stays, leave_all-added, leave_all-twice, leave_all-nothing}
+use Rattle.mrp_participant.specs.{same, find, registered_in, declared_in, periodic_row, after_declare, after_withdraw, after_leave, after_leave_due, sent_row, sent_event, held_in, held_after, hears, has_leave_all, OwesOf, IsDutyMet, Messages, AreRows, after, is_active, takes, leave_timers_state, leave_all_state, periodic_fired_state, due_leave_all_state, due_state, is_leave_all_due, is_periodic_due, declared_state, withdrawn_state, left_state, received_state, periodic_state, sent_state, sent_messages, is_still}
+use Rattle.mrp_participant.specs.State.{State}
+use Rattle.mrp_participant.proofs.{Lookups.find-same, Lookups.same_is, EachKey.each-declare, EachKey.each-withdraw, EachKey.each-leave, EachKey.each-mapped, EachKey.each-receive, EachKey.each-kept, Sendings.sent-keeps, StateLemmas.each-due, StateLemmas.one-sent, StateLemmas.still-rows, StateLemmas.settled-at, DutyRows.owes-same, DutyRows.owes-asked, DutyRows.declare-owes, DutyRows.withdraw-owes, DutyRows.leave-owes, DutyRows.leave_due-owes, DutyRows.periodic-owes, DutyRows.periodic_if-owes, DutyRows.receive-owes, DutyRows.declare-held, DutyRows.withdraw-held, DutyRows.leave-held, DutyRows.leave_due-held, DutyRows.periodic-held, DutyRows.periodic_if-held, DutyRows.receive-held, DutyRows.held_after_all, DutyRows.events-alone, DutyRows.sent-owes, DutyRows.sent-held, DutyRows.not_leaving-held, DutyRows.quiet-held, Flying.nothing-stays, Flying.hears-append, Flying.hears-twice, Flying.hears-nothing, Flying.leave_all-stays, Flying.leave_all-added, Flying.leave_all-twice, Flying.leave_all-nothing}
 
 -- ---- a change of rows
 

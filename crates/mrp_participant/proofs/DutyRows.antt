@@ -1,28 +1,20 @@
 -- What each call makes of what is owed of one key, and of what a registrar holds of it.
 use Rattle.std.proofs.Common.{◌≡◌, ℕ, Bool, true, false, not, ◌&&◌, ◌||◌, if◌then◌else◌, List, [], ◌∷◌, filter, fold, refl, sym, ap, ◌∙◌, inl, inr, option_map, option_and_then}
 use Rattle.std.specs.Prelude.{option_to_list}
-use Rattle.std.specs.declared.option.Option.{Option}
-use Rattle.std.specs.declared.option.Option.TheVariants.{None, Some}
-use Rattle.std.specs.declared.cmp.Ordering.{Ordering}
-use Rattle.srp_base.specs.declared.numbers.Cs.{Cs}
-use Rattle.srp_base.specs.declared.mrp.MrpEvent.{MrpEvent}
+use Rattle.std.specs.{declared.option.Option.Option, declared.option.Option.TheVariants.None, declared.option.Option.TheVariants.Some, declared.cmp.Ordering.Ordering}
+use Rattle.srp_base.specs.declared.{numbers.Cs.Cs, mrp.MrpEvent.MrpEvent}
 use Rattle.srp_base.specs.declared.mrp.MrpEvent.TheVariants.{New, JoinIn, OnlyIn, JoinMt, OnlyMt, Lv}
-use Rattle.applicant.specs.declared.Applicant.{Applicant}
+use Rattle.applicant.specs.declared.{Applicant.Applicant, AppEvent.AppEvent}
 use Rattle.applicant.specs.declared.Applicant.TheVariants.{Vo, Vp, Vn, An, Aa, Qa, La}
-use Rattle.applicant.specs.declared.AppEvent.{AppEvent}
 use Rattle.applicant.specs.declared.AppEvent.TheVariants.{RxIn, RxMt, RxLv as AppRxLv, RxLeaveAll as AppRxLeaveAll, Periodic, Tx, TxLeaveAll, TxLeaveAllFull}
 use Rattle.applicant.specs.Table as applicant
-use Rattle.registrar.specs.declared.Registrar.{Registrar}
+use Rattle.registrar.specs.declared.{Registrar.Registrar, RegEvent.TheVariants.TxLeaveAll as RegTxLeaveAll, RegEvent.TheVariants.LeaveTimer}
 use Rattle.registrar.specs.declared.Registrar.TheVariants.{Held, Leaving, Empty}
-use Rattle.registrar.specs.declared.RegEvent.TheVariants.{TxLeaveAll as RegTxLeaveAll, LeaveTimer}
 use Rattle.registrar.specs.Table as registrar
 use Rattle.mrp_participant.specs.declared.row.Row.{Row}
-use Rattle.mrp_participant.specs.Lookup.{same}
+use Rattle.mrp_participant.specs.{same, is_leaving_in, applicant_of, kept_row, with_applicant, applicant_takes, registrar_takes, declared_row, after_declare, after_withdraw, left_row, after_leave, leave_all_row, heard_row, after_hear, row_hearing, row_after_receive, registered_in, declared_in, leave_is_due, after_leave_due, periodic_row, is_tried, sent_row, sent_event, held_in, held_after_event, held_hearing, held_after, Owes, OwesOf}
 use Rattle.registrar.specs.Table.{is_in}
 use Rattle.applicant.specs.Table.{is_observer, is_quiet}
-use Rattle.mrp_participant.specs.Row.{is_leaving_in, applicant_of, kept_row, with_applicant, applicant_takes, registrar_takes, declared_row, after_declare, after_withdraw, left_row, after_leave, leave_all_row, heard_row, after_hear, row_hearing, row_after_receive, registered_in, declared_in, leave_is_due, after_leave_due, periodic_row}
-use Rattle.mrp_participant.specs.Sending.{is_tried, sent_row, sent_event}
-use Rattle.mrp_participant.specs.Duty.{held_in, held_after_event, held_hearing, held_after, Owes, OwesOf}
 
 -- ---- what is owed, where more or less is held or asked
 

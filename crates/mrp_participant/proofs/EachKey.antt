@@ -1,18 +1,10 @@
 -- What each key has after each call.
 use Rattle.std.proofs.Common.{◌≡◌, Bool, true, false, if◌then◌else◌, List, [], ◌∷◌, map, fold, refl, sym, ap, ◌∙◌, option_map, option_and_then}
-use Rattle.std.specs.declared.option.Option.{Option}
-use Rattle.std.specs.declared.option.Option.TheVariants.{None, Some}
-use Rattle.std.specs.declared.cmp.Ordering.{Ordering}
-use Rattle.std.specs.Cmp.{IsTotalOrder}
-use Rattle.std.specs.List.{filter_map, cons_option}
-use Rattle.srp_base.specs.declared.numbers.Cs.{Cs}
-use Rattle.srp_base.specs.declared.mrp.MrpEvent.{MrpEvent}
+use Rattle.std.specs.{declared.option.Option.Option, declared.option.Option.TheVariants.None, declared.option.Option.TheVariants.Some, declared.cmp.Ordering.Ordering, Cmp.IsTotalOrder, List.filter_map, List.cons_option}
+use Rattle.srp_base.specs.declared.{numbers.Cs.Cs, mrp.MrpEvent.MrpEvent}
 use Rattle.mrp_participant.specs.declared.row.Row.{Row}
-use Rattle.mrp_participant.specs.Lookup.{Ascends, key_of, same, find, put}
-use Rattle.mrp_participant.specs.Row.{leave_all_row, after_declare, after_withdraw, after_leave, after_hear, row_hearing, row_after_receive}
-use Rattle.mrp_participant.specs.State.{AreRows, rows_hearing, rows_after_receive}
-use Rattle.mrp_participant.proofs.Lookups.{find-put, find-fits, find-same, none_above, same_is}
-use Rattle.mrp_participant.proofs.Transitions.{Keeps, declare-fits, withdraw-fits, leave-fits, hear-fits, AreRows-hear, AreRows-leave_all}
+use Rattle.mrp_participant.specs.{Ascends, key_of, same, find, put, leave_all_row, after_declare, after_withdraw, after_leave, after_hear, row_hearing, row_after_receive, AreRows, rows_hearing, rows_after_receive}
+use Rattle.mrp_participant.proofs.{Lookups.find-put, Lookups.find-fits, Lookups.find-same, Lookups.none_above, Lookups.same_is, Transitions.Keeps, Transitions.declare-fits, Transitions.withdraw-fits, Transitions.leave-fits, Transitions.hear-fits, Transitions.AreRows-hear, Transitions.AreRows-leave_all}
 
 module _ {K C : Type 0} {cmp : K → K → Ordering} (o : IsTotalOrder cmp) where
   pub each-declare : (eq : C → C → Bool) (k : K) (c : C) (rows : List (Row K C)) → AreRows cmp rows → (q : K)

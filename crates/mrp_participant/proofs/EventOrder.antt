@@ -1,26 +1,16 @@
 -- Each key hears its own events alone, so events in the order of their keys make the same of the rows.
 use Rattle.std.proofs.Common.{◌≡◌, Bool, true, false, not, ◌&&◌, if◌then◌else◌, cond, List, [], ◌∷◌, length, filter, fold, refl, sym, ap, ◌∙◌, option_map}
-use Rattle.std.specs.declared.option.Option.{Option}
-use Rattle.std.specs.declared.cmp.Ordering.{Ordering}
-use Rattle.std.specs.declared.cmp.Ordering.TheVariants.{Less, Equal, Greater}
-use Rattle.std.specs.Ordering.{is_eq, is_lt, ordering_reverse}
-use Rattle.std.specs.Cmp.{IsTotalOrder}
-use Rattle.std.specs.List.Sorted.{ties, IsPermutation, IsStableByKey}
+use Rattle.std.specs.{declared.option.Option.Option, declared.cmp.Ordering.Ordering, declared.cmp.Ordering.TheVariants.Less, declared.cmp.Ordering.TheVariants.Equal, declared.cmp.Ordering.TheVariants.Greater, Ordering.is_eq, Ordering.is_lt, Ordering.ordering_reverse, Cmp.IsTotalOrder, List.Sorted.ties, List.Sorted.IsPermutation, List.Sorted.IsStableByKey}
 use Rattle.std.proofs.lemmas.List.Sorted.{length_permutation}
-use Rattle.srp_base.specs.declared.numbers.Cs.{Cs}
-use Rattle.srp_base.specs.declared.mrp.MrpEvent.{MrpEvent}
+use Rattle.srp_base.proofs.Lists.{no_more}
+use Rattle.srp_base.specs.declared.{numbers.Cs.Cs, mrp.MrpEvent.MrpEvent}
 use Rattle.mrp_participant.specs.declared.row.Row.{Row}
-use Rattle.mrp_participant.specs.Lookup.{same}
-use Rattle.mrp_participant.specs.Row.{leave_all_row, after_hear, row_hearing, row_after_receive}
+use Rattle.mrp_participant.specs.{same, leave_all_row, after_hear, row_hearing, row_after_receive}
 
 filter-along : {X : Type 0} (p q : X → Bool) → ((x : X) → p x ≡ q x) → (xs : List X) → filter p xs ≡ filter q xs
 filter-along p q each [] = refl
 filter-along {X} p q each (x ∷ xs) =
     ap (λ (b : Bool). cond b (x ∷ filter p xs) (filter p xs)) (each x) ∙ ap (λ (t : List X). cond (q x) (x ∷ t) t) (filter-along p q each xs)
-
-no_more : {X : Type 0} (xs : List X) → length xs ≡ 0 → xs ≡ []
-no_more [] e = refl
-no_more (x ∷ xs) e = absurd cc
 
 tied_by : (c d : Ordering) → d ≡ ordering_reverse c → (not (is_lt d) && not (is_lt c)) ≡ is_eq c
 tied_by Less d e = rw e refl

@@ -1,26 +1,14 @@
 -- What receiving and the timers tell is no more than what happens: each key that is told had an event, and no two are one.
-use Rattle.std.proofs.Common.{◌≡◌, ◌≤◌, ℕ, zero, suc, Bool, true, false, not, ◌||◌, if◌then◌else◌, List, [], ◌∷◌, map, filter, fold, length, refl, sym, ap, ◌∙◌, subst, arith, inl, inr, option_map}
-use Rattle.std.specs.Prelude.{◌⊎◌, Contains}
-use Rattle.std.specs.declared.option.Option.{Option}
-use Rattle.std.specs.declared.option.Option.TheVariants.{None, Some}
-use Rattle.std.specs.declared.cmp.Ordering.{Ordering}
-use Rattle.std.specs.declared.cmp.Ordering.TheVariants.{Less, Equal}
-use Rattle.std.specs.Ordering.{is_eq}
-use Rattle.std.specs.Cmp.{IsTotalOrder, IsEquivalence}
-use Rattle.std.specs.List.{AllByRecursion, list_any}
+use Rattle.std.proofs.Common.{◌≡◌, ◌≤◌, suc, Bool, true, false, ◌||◌, if◌then◌else◌, List, [], ◌∷◌, map, filter, fold, length, refl, sym, ap, ◌∙◌, arith, option_map}
+use Rattle.std.specs.Prelude.{Contains}
+use Rattle.std.specs.{declared.option.Option.Option, declared.option.Option.TheVariants.None, declared.option.Option.TheVariants.Some, declared.cmp.Ordering.Ordering, declared.cmp.Ordering.TheVariants.Less, declared.cmp.Ordering.TheVariants.Equal, Ordering.is_eq, Cmp.IsTotalOrder, Cmp.IsEquivalence, List.AllByRecursion, List.list_any}
+use Rattle.srp_base.proofs.Lists.{each-contained}
 use Rattle.registrar.specs.declared.Registrar.{Registrar}
 use Rattle.registrar.specs.declared.Registrar.TheVariants.{Held, Leaving, Empty}
-use Rattle.registrar.specs.Table.{is_registered_in}
-use Rattle.srp_base.specs.declared.numbers.Cs.{Cs}
-use Rattle.srp_base.specs.declared.mrp.MrpEvent.{MrpEvent}
+use Rattle.srp_base.specs.declared.{numbers.Cs.Cs, mrp.MrpEvent.MrpEvent}
 use Rattle.mrp_participant.specs.declared.row.Row.{Row}
-use Rattle.mrp_participant.specs.Lookup.{Ascends, key_of, same, find}
-use Rattle.mrp_participant.specs.Row.{after_hear, leave_all_row, registered_in, row_after_receive, row_hearing}
-use Rattle.mrp_participant.specs.State.{AreRows, changed_keys, rows_after_receive}
-use Rattle.mrp_participant.proofs.Changes.{told-are_changes, told-ascend}
-use Rattle.mrp_participant.proofs.EachKey.{each-receive}
-use Rattle.mrp_participant.proofs.Lookups.{same_is}
-use Rattle.mrp_participant.proofs.Transitions.{AreRows-receive}
+use Rattle.mrp_participant.specs.{Ascends, key_of, same, find, after_hear, leave_all_row, registered_in, row_hearing, AreRows, changed_keys, rows_after_receive}
+use Rattle.mrp_participant.proofs.{Changes.told-are_changes, Changes.told-ascend, EachKey.each-receive, Lookups.same_is, Transitions.AreRows-receive}
 
 -- ---- lists
 
@@ -31,11 +19,6 @@ filter-fewer p f (x ∷ xs) = by (p x) (filter-fewer p f xs)
     by : (b : Bool) → length (map f (filter p xs)) ≤ length xs → length (map f (if b then x ∷ filter p xs else filter p xs)) ≤ suc (length xs)
     by true h = omega (arith, h)
     by false h = omega (arith, h)
-
--- what is contained is of each
-each-contained : {X : Type 0} (P : X → Type 0) (xs : List X) → ((x : X) → Contains xs x → P x) → AllByRecursion P xs
-each-contained P [] h = tt
-each-contained P (x ∷ xs) h = (h x (zero, omega arith, refl), each-contained P xs (λ y at. h y (suc at.0, omega (arith, at.1), at.2)))
 
 -- a list without the first element that passes a test
 abbrev without_first : {X : Type 0} → (X → Bool) → List X → List X

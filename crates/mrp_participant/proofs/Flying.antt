@@ -1,14 +1,12 @@
 -- What lists of messages in flight come to: each one either doesn't look at what was held of a key, or leaves it.
 use Rattle.std.proofs.Common.{◌≡◌, Bool, true, false, ◌||◌, if◌then◌else◌, List, [], ◌∷◌, ◌++◌, fold, refl, sym, ap, ◌∙◌, inl, inr}
 use Rattle.std.specs.Prelude.{◌⊎◌}
-use Rattle.std.specs.declared.option.Option.{Option}
-use Rattle.std.specs.declared.option.Option.TheVariants.{None}
-use Rattle.std.specs.declared.cmp.Ordering.{Ordering}
+use Rattle.std.specs.{declared.option.Option.Option, declared.option.Option.TheVariants.None, declared.cmp.Ordering.Ordering}
+use Rattle.std.proofs.lemmas.Bool.{or_right as or-true_right, or_left as or-true_left}
+use Rattle.srp_base.proofs.Bools.{or-map_right}
 use Rattle.srp_base.specs.declared.mrp.MrpEvent.{MrpEvent}
 use Rattle.srp_base.specs.declared.mrp.MrpEvent.TheVariants.{New, JoinIn, OnlyIn, JoinMt, OnlyMt, Lv}
-use Rattle.mrp_participant.specs.Lookup.{same}
-use Rattle.mrp_participant.specs.Duty.{held_after_event, held_hearing, held_after, hears, has_leave_all}
-use Rattle.mrp_participant.specs.State.{Messages}
+use Rattle.mrp_participant.specs.{same, held_after_event, held_hearing, held_after, hears, has_leave_all, Messages}
 
 -- ---- what leaves a value, or doesn't look at it
 
@@ -82,21 +80,6 @@ module _ {K C : Type 0} (cmp : K → K → Ordering) (k : K) where
   hears-nothing held (x ∷ front) back = hears-nothing (held_after cmp k held x) front back
 
 -- ---- whether a LeaveAll is in flight
-
--- a disjunction holds by what stands right
-pub or-true_right : (a b : Bool) → b ≡ true → (a || b) ≡ true
-or-true_right true b h = refl
-or-true_right false b h = h
-
--- and by what stands left
-pub or-true_left : (a b : Bool) → a ≡ true → (a || b) ≡ true
-or-true_left true b h = refl
-or-true_left false b h = cc
-
--- and goes on to hold where its right side does
-pub or-map_right : (a b b' : Bool) → (b ≡ true → b' ≡ true) → (a || b) ≡ true → (a || b') ≡ true
-or-map_right true b b' f h = refl
-or-map_right false b b' f h = f h
 
 or-same_right : (a b b' : Bool) → b ≡ b' → (a || b) ≡ (a || b')
 or-same_right a b b' e = ap (λ x. a || x) e

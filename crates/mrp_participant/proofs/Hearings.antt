@@ -1,29 +1,14 @@
 -- Rows found beside others and put over them are what the events make of the rows one after the other.
 use Rattle.std.proofs.Common.{◌≡◌, ℕ, zero, suc, ◌+◌, ◌<◌, Bool, true, false, not, ◌&&◌, if◌then◌else◌, List, [], ◌∷◌, length, map, filter, fold, drop, drop-cons, get_or, refl, sym, ap, ◌∙◌, subst, arith, add-one, inl, inr, option_map}
 use Rattle.std.specs.Prelude.{IsSome}
-use Rattle.std.specs.declared.option.Option.{Option}
-use Rattle.std.specs.declared.option.Option.TheVariants.{None, Some}
-use Rattle.std.specs.declared.cmp.Ordering.{Ordering}
-use Rattle.std.specs.declared.cmp.Ordering.TheVariants.{Less, Equal, Greater}
-use Rattle.std.specs.Ordering.{ordering_reverse, match_ordering}
-use Rattle.std.specs.Cmp.{IsTotalOrder, IsEquivalence}
-use Rattle.std.proofs.lemmas.Cmp.{tied_itself, tied_back}
-use Rattle.std.proofs.lemmas.List.{drop_more}
-use Rattle.std.specs.List.{AllByRecursion, list_all}
-use Rattle.std.specs.Option.{is_some, option_eq}
-use Rattle.srp_base.specs.declared.numbers.Cs.{Cs}
-use Rattle.srp_base.specs.declared.mrp.MrpEvent.{MrpEvent}
+use Rattle.std.specs.{declared.option.Option.Option, declared.option.Option.TheVariants.None, declared.option.Option.TheVariants.Some, declared.cmp.Ordering.Ordering, declared.cmp.Ordering.TheVariants.Less, declared.cmp.Ordering.TheVariants.Equal, declared.cmp.Ordering.TheVariants.Greater, Ordering.ordering_reverse, Ordering.match_ordering, Cmp.IsTotalOrder, Cmp.IsEquivalence, List.AllByRecursion, List.list_all, Option.is_some, Option.option_eq}
+use Rattle.std.proofs.lemmas.{Cmp.tied_itself, Cmp.tied_back, List.drop_more}
+use Rattle.srp_base.proofs.Lists.{Each-map}
+use Rattle.srp_base.specs.declared.{numbers.Cs.Cs, mrp.MrpEvent.MrpEvent}
 use Rattle.registrar.proofs.RegistrarLemmas.{leave_all-registered}
 use Rattle.mrp_participant.specs.declared.row.Row.{Row}
-use Rattle.mrp_participant.specs.Lookup.{Ascends, key_of, same, find, put}
-use Rattle.mrp_participant.specs.Row.{is_live, leave_all_row, after_hear, row_hearing, row_after_receive, registered_in}
-use Rattle.mrp_participant.specs.State.{AreRows, rows_after_receive, changed_keys}
-use Rattle.mrp_participant.specs.Hearing.{first_of, begun_row, row_so_far, heard_with, heard_rows, rows_as_one, put_over}
-use Rattle.mrp_participant.proofs.Lookups.{Fits, Each-map, filter-none, AreRows-put, Ascends-put, find-fits, find-above, above_all, above_same, none_above, find-put, find-same, same_is, same_left}
-use Rattle.mrp_participant.proofs.SendingLimitLemmas.{In, Each-from_in, same_refl, find-in}
-use Rattle.mrp_participant.proofs.Transitions.{hear-fits, leave_all-live, Ascends-mapped, AreRows-mapped, AreRows-receive}
-use Rattle.mrp_participant.proofs.EachKey.{each-mapped, each-receive}
-use Rattle.mrp_participant.proofs.Changes.{option_eq-refl}
+use Rattle.mrp_participant.specs.{Ascends, key_of, same, find, put, is_live, leave_all_row, after_hear, row_hearing, row_after_receive, registered_in, AreRows, rows_after_receive, changed_keys, first_of, begun_row, row_so_far, heard_with, heard_rows, rows_as_one, put_over}
+use Rattle.mrp_participant.proofs.{Lookups.Fits, Lookups.filter-none, Lookups.AreRows-put, Lookups.Ascends-put, Lookups.find-fits, Lookups.find-above, Lookups.above_all, Lookups.above_same, Lookups.none_above, Lookups.find-put, Lookups.find-same, Lookups.same_is, Lookups.same_left, SendingLimitLemmas.In, SendingLimitLemmas.Each-from_in, SendingLimitLemmas.same_refl, SendingLimitLemmas.find-in, Transitions.hear-fits, Transitions.leave_all-live, Transitions.Ascends-mapped, Transitions.AreRows-mapped, Transitions.AreRows-receive, EachKey.each-mapped, EachKey.each-receive, Changes.option_eq-refl}
 
 pub less_back : {K : Type 0} {cmp : K → K → Ordering} → IsTotalOrder cmp → (a b : K) → cmp a b ≡ Greater → cmp b a ≡ Less
 less_back o a b e = o.antisymm b a ∙ ap ordering_reverse e

@@ -1,6 +1,7 @@
 -- What a participant holds, part by part.
 use Rattle.std.proofs.Common.{◌≡◌, ◌≤◌, ◌∙◌, ℕ, Bool, true, false, if◌then◌else◌, List, length, refl, ap, subst, sym}
-use Rattle.mrp_participant.specs.State.{Holding, State}
+use Rattle.mrp_participant.specs.{Holding}
+use Rattle.mrp_participant.specs.State.{State}
 
 module _ {K C : Type 0} {h i : Holding K C} (is : h ≡ i) where
   pub state_is : h.state ≡ i.state

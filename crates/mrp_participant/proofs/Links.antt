@@ -1,19 +1,14 @@
 -- Whatever happens on a link keeps both duties met.
 use Rattle.std.proofs.Common.{◌≡◌, ℕ, zero, suc, Bool, true, false, not, ◌&&◌, if◌then◌else◌, List, [], ◌∷◌, ◌++◌, refl, sym, ◌∙◌, subst, append_assoc}
-use Rattle.std.specs.declared.cmp.Ordering.{Ordering}
-use Rattle.std.specs.Cmp.{IsTotalOrder}
+use Rattle.std.specs.{declared.cmp.Ordering.Ordering, Cmp.IsTotalOrder}
+use Rattle.std.proofs.lemmas.Bool.{or_right as or-true_right, or_left as or-true_left}
 use Rattle.srp_base.specs.declared.numbers.Cs.{Cs}
-use Rattle.mrp_participant.specs.Lookup.{find}
-use Rattle.mrp_participant.specs.Row.{registered_in, declared_in}
-use Rattle.mrp_participant.specs.Duty.{IsDutyMet}
-use Rattle.mrp_participant.specs.Link.{Link, EndEvent, LinkEvent, AreDutiesMet, is_loss, end_event_of, with_repeat, other_view, with_near, after_spoiling, after_receiving, after_sending, after_end_event, after_event, after_events}
+use Rattle.mrp_participant.specs.{find, registered_in, declared_in, IsDutyMet, EndEvent, LinkEvent, AreDutiesMet, is_loss, end_event_of, with_repeat, other_view, with_near, after_spoiling, after_receiving, after_sending, after_end_event, after_event, after_events, Messages, AreRows, after, is_active, is_silent, is_still, none_tried, takes, leave_all_state, sent_state, sent_messages}
+use Rattle.mrp_participant.specs.Link.{Link}
 use Rattle.mrp_participant.specs.Link.EndEvent.{Declares, Withdraws, Leaves, Fires, FiresLeaveAll, FiresPeriodic, Sends, Receives, Loses, Repeats}
 use Rattle.mrp_participant.specs.Link.LinkEvent.{AtNear, AtFar}
-use Rattle.mrp_participant.specs.State.{State, Messages, AreRows, after, is_active, is_silent, is_still, none_tried, takes, leave_all_state, sent_state, sent_messages}
-use Rattle.mrp_participant.proofs.Duties.{own-declare, far-declare, own-withdraw, far-withdraw, own-leave, far-leave, own-due, far-due, own-same, far-kept, own-periodic, far-periodic, own-send, far-send, own-receive, far-receive, twice-sent, twice-coming, unsound-met, still-held, due-sound}
-use Rattle.mrp_participant.proofs.Transitions.{AreRows-declare, AreRows-withdraw, AreRows-leave, AreRows-receive, AreRows-due, AreRows-periodic, AreRows-filter_mapped}
-use Rattle.mrp_participant.proofs.Sendings.{sent-keeps}
-use Rattle.mrp_participant.proofs.Flying.{or-true_right, or-true_left}
+use Rattle.mrp_participant.specs.State.{State}
+use Rattle.mrp_participant.proofs.{Duties.own-declare, Duties.far-declare, Duties.own-withdraw, Duties.far-withdraw, Duties.own-leave, Duties.far-leave, Duties.own-due, Duties.far-due, Duties.own-same, Duties.far-kept, Duties.own-periodic, Duties.far-periodic, Duties.own-send, Duties.far-send, Duties.own-receive, Duties.far-receive, Duties.twice-sent, Duties.twice-coming, Duties.unsound-met, Duties.still-held, Duties.due-sound, Transitions.AreRows-declare, Transitions.AreRows-withdraw, Transitions.AreRows-leave, Transitions.AreRows-receive, Transitions.AreRows-due, Transitions.AreRows-periodic, Transitions.AreRows-filter_mapped, Sendings.sent-keeps}
 
 -- what a repeat behind its original keeps, wherever it stands, the list with one element twice has
 pub repeated-keeps : {X : Type 0} (P : List X → Type 0)

@@ -1,26 +1,12 @@
 -- Rows ascending by key: the place of a key, and what `put` leaves at each key.
 use Rattle.std.proofs.Common.{◌≡◌, ℕ, zero, suc, ◌+◌, ◌<◌, ◌≤◌, Bool, true, false, if◌then◌else◌, List, [], ◌∷◌, length, map, filter, fold, drop, drop-cons, get_or, refl, sym, ap, ◌∙◌, subst, arith, add-one}
-use Rattle.std.specs.declared.option.Option.{Option}
-use Rattle.std.specs.declared.option.Option.TheVariants.{None, Some}
-use Rattle.std.specs.declared.cmp.Ordering.{Ordering}
-use Rattle.std.specs.declared.cmp.Ordering.TheVariants.{Less, Equal, Greater}
-use Rattle.std.specs.Ordering.{is_eq, is_lt, ordering_index, ordering_reverse}
-use Rattle.std.specs.Cmp.{IsTotalOrder}
-use Rattle.std.proofs.lemmas.Cmp.{alike_right, tied_back}
-use Rattle.std.specs.List.{cons_option, filter_map}
-use Rattle.std.specs.List.Sorted.{IsPartitionPoint, IsNonDecreasingBy, IsSortedBy}
-use Rattle.std.proofs.lemmas.List.Sorted.{searchable_from_sorted}
+use Rattle.std.specs.{declared.option.Option.Option, declared.option.Option.TheVariants.None, declared.option.Option.TheVariants.Some, declared.cmp.Ordering.Ordering, declared.cmp.Ordering.TheVariants.Less, declared.cmp.Ordering.TheVariants.Equal, declared.cmp.Ordering.TheVariants.Greater, Ordering.is_eq, Ordering.is_lt, Ordering.ordering_index, Ordering.ordering_reverse, Cmp.IsTotalOrder, List.cons_option, List.filter_map, List.Sorted.IsPartitionPoint, List.Sorted.IsNonDecreasingBy, List.Sorted.IsSortedBy, List.AllByRecursion}
+use Rattle.std.proofs.lemmas.{Cmp.alike_right, Cmp.tied_back, List.Sorted.searchable_from_sorted}
+use Rattle.srp_base.proofs.Lists.{Each-map, Each-at}
 use Rattle.mrp_participant.specs.declared.row.Row.{Row}
-use Rattle.std.specs.List.{AllByRecursion}
-use Rattle.mrp_participant.specs.Lookup.{Ascends, key_of, same, find, put, put_at, IsRowAt, IsGapAt}
-use Rattle.mrp_participant.specs.Row.{is_live}
-use Rattle.mrp_participant.specs.State.{AreRows}
+use Rattle.mrp_participant.specs.{Ascends, key_of, same, find, put, put_at, IsRowAt, IsGapAt, is_live, AreRows}
 
 -- ---- a fact of each element
-
-pub Each-map : {X : Type 0} (P Q : X → Type 0) → ((x : X) → P x → Q x) → (xs : List X) → AllByRecursion P xs → AllByRecursion Q xs
-Each-map P Q f [] h = tt
-Each-map P Q f (x ∷ xs) h = (f x h.0, Each-map P Q f xs h.1)
 
 pub Each-mapped : {X Y : Type 0} (P : X → Type 0) (Q : Y → Type 0) (f : X → Y) → ((x : X) → P x → Q (f x))
     → (xs : List X) → AllByRecursion P xs → AllByRecursion Q (map f xs)
@@ -55,11 +41,6 @@ Ascends-kept cmp key new_key f keeps (x ∷ xs) up =
     (λ a b h e'. subst (λ k. cmp k (new_key b) ≡ Less) (sym (keeps x y e))
     (subst (λ k. cmp (key x) k ≡ Less) (sym (keeps a b e')) h)) xs up.0)
     (Ascends-kept cmp key new_key f keeps xs up.1)
-
-pub Each-at : {X : Type 0} (P : X → Type 0) (xs : List X) → AllByRecursion P xs → (i : ℕ) (d : X) → i < length xs → P (get_or xs i d)
-Each-at P [] h i d below = absurd (omega arith)
-Each-at P (x ∷ xs) h zero d below = h.0
-Each-at P (x ∷ xs) h (suc i) d below = Each-at P xs h.1 i d (omega arith)
 
 -- what no element passes keeps none
 pub filter-none : {X : Type 0} (p : X → Bool) (xs : List X) → AllByRecursion (λ x. p x ≡ false) xs → filter p xs ≡ []

@@ -1,41 +1,21 @@
 -- Whatever happens on a link with marks keeps both duties as seen, and what a clear way says.
 use Rattle.std.proofs.Common.{◌≡◌, ℕ, Bool, true, false, not, ◌&&◌, ◌||◌, if◌then◌else◌, List, [], ◌∷◌, ◌++◌, refl, sym, ap, ◌∙◌, subst, inl, inr}
 use Rattle.std.specs.Prelude.{◌⊎◌}
-use Rattle.std.specs.declared.option.Option.{Option}
-use Rattle.std.specs.declared.option.Option.TheVariants.{None, Some}
-use Rattle.std.specs.declared.cmp.Ordering.{Ordering}
-use Rattle.std.specs.Cmp.{IsTotalOrder}
+use Rattle.std.specs.{declared.option.Option.Option, declared.option.Option.TheVariants.None, declared.option.Option.TheVariants.Some, declared.cmp.Ordering.Ordering, Cmp.IsTotalOrder}
+use Rattle.std.proofs.lemmas.Bool.{and_from as and-true, or_right as or-true_right, or_left as or-true_left}
+use Rattle.srp_base.proofs.Bools.{or_true as or-either, both as and-both}
 use Rattle.srp_base.specs.declared.numbers.Cs.{Cs}
 use Rattle.applicant.specs.declared.Applicant.{Applicant}
 use Rattle.applicant.specs.declared.Applicant.TheVariants.{Vo, An, Aa, Qa}
 use Rattle.mrp_participant.specs.declared.row.Row.{Row}
-use Rattle.mrp_participant.specs.Lookup.{find}
-use Rattle.mrp_participant.specs.Duty.{held_in, hears, has_leave_all, Owes, OwesOf, IsDutyMet}
-use Rattle.mrp_participant.specs.Link.{EndEvent, LinkEvent, AreDutiesMet, with_repeat, with_near, after_receiving}
+use Rattle.mrp_participant.specs.{find, held_in, hears, has_leave_all, Owes, OwesOf, IsDutyMet, EndEvent, LinkEvent, AreDutiesMet, with_repeat, with_near, after_receiving, Mark, IsNoMore, IsClear, AreMarkedDutiesMet, is_nothing, seen_state, seen_link, other_marked_view, mark_receiving, mark_sending, mark_sent, after_marked_end_event, after_marked_event, after_marked_events, Messages, AreRows, after, is_active, is_silent, takes, new_state, leave_timers_state, leave_all_state, periodic_fired_state, due_leave_all_state, due_periodic_state, due_state, is_leave_all_due, is_periodic_due, received_state, sent_state, sent_messages}
 use Rattle.mrp_participant.specs.Link.EndEvent.{Declares, Withdraws, Leaves, Fires, FiresLeaveAll, FiresPeriodic, Sends, Receives, Loses, Repeats}
 use Rattle.mrp_participant.specs.Link.LinkEvent.{AtNear, AtFar}
-use Rattle.mrp_participant.specs.MarkedLink.{Mark, MarkedLink, IsNoMore, IsClear, AreMarkedDutiesMet, is_nothing, seen_state, seen_link, other_marked_view, mark_receiving, mark_sending, mark_sent, after_marked_end_event, after_marked_event, after_marked_events}
-use Rattle.mrp_participant.specs.State.{State, Messages, AreRows, after, is_active, is_silent, takes, new_state, leave_timers_state, leave_all_state, periodic_fired_state, due_leave_all_state, due_periodic_state, due_state, is_leave_all_due, is_periodic_due, received_state, sent_state, sent_messages}
-use Rattle.mrp_participant.proofs.Duties.{far-declare, far-withdraw, far-leave, far-due, own-same, far-kept, far-periodic, far-send, due-sound}
-use Rattle.mrp_participant.proofs.DutyRows.{sent-held}
-use Rattle.mrp_participant.proofs.EachKey.{each-kept}
-use Rattle.mrp_participant.proofs.Flying.{or-true_right, or-true_left}
-use Rattle.mrp_participant.proofs.Links.{end-met}
-use Rattle.mrp_participant.proofs.Sendings.{sent-keeps}
+use Rattle.mrp_participant.specs.MarkedLink.{MarkedLink}
+use Rattle.mrp_participant.specs.State.{State}
+use Rattle.mrp_participant.proofs.{Duties.far-declare, Duties.far-withdraw, Duties.far-leave, Duties.far-due, Duties.own-same, Duties.far-kept, Duties.far-periodic, Duties.far-send, Duties.due-sound, DutyRows.sent-held, EachKey.each-kept, Links.end-met, Sendings.sent-keeps}
 
 -- ---- tests
-
-and-both : (a b : Bool) → (a && b) ≡ true → (a ≡ true) × (b ≡ true)
-and-both true b h = (refl, h)
-and-both false b h = cc
-
-and-true : (a b : Bool) → a ≡ true → b ≡ true → (a && b) ≡ true
-and-true true b e f = f
-and-true false b e f = cc
-
-or-either : (a b : Bool) → (a || b) ≡ true → (a ≡ true) ⊎ (b ≡ true)
-or-either true b h = inl refl
-or-either false b h = inr h
 
 or-swap : (a b c : Bool) → (a || (b || c)) ≡ true → (b || (a || c)) ≡ true
 or-swap true true c h = refl

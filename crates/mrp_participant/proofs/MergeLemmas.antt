@@ -1,20 +1,12 @@
 -- Two ascending lists of rows as one: how many rows that has, its last row, and the merge from the back, in the place
 -- of the second list.
 use Rattle.std.proofs.Common.{◌≡◌, ℕ, zero, suc, ◌+◌, ◌-◌, ◌<◌, ◌≤◌, Bool, true, false, if◌then◌else◌, List, [], ◌∷◌, ◌++◌, append_assoc, length, take, drop, get_or, slice_set, replicate, refl, sym, ap, ◌∙◌, subst, arith}
-use Rattle.std.specs.declared.option.Option.{Option}
-use Rattle.std.specs.declared.option.Option.TheVariants.{None, Some}
-use Rattle.std.specs.declared.cmp.Ordering.{Ordering}
-use Rattle.std.specs.declared.cmp.Ordering.TheVariants.{Less, Equal, Greater}
-use Rattle.std.specs.Ordering.{match_ordering}
-use Rattle.std.specs.Cmp.{IsTotalOrder}
-use Rattle.std.proofs.lemmas.Cmp.{alike_right}
-use Rattle.std.proofs.lemmas.List.{take_more, take-set-le, take-take, take_all, take_at, drop-set, length-set, length_push, length-take-le, length-append, length-replicate, take-append-drop}
-use Rattle.std.specs.List.{AllByRecursion}
+use Rattle.std.specs.{declared.option.Option.Option, declared.option.Option.TheVariants.None, declared.option.Option.TheVariants.Some, declared.cmp.Ordering.Ordering, declared.cmp.Ordering.TheVariants.Less, declared.cmp.Ordering.TheVariants.Equal, declared.cmp.Ordering.TheVariants.Greater, Ordering.match_ordering, Cmp.IsTotalOrder, List.AllByRecursion}
+use Rattle.std.proofs.lemmas.{Cmp.alike_right, List.take_more, List.take-set-le, List.take-take, List.take_all, List.take_at, List.drop-set, List.length-set, List.length_push, List.length-take-le, List.length-append, List.length-replicate, List.take-append-drop}
+use Rattle.srp_base.proofs.Lists.{Each-map}
 use Rattle.mrp_participant.specs.declared.row.Row.{Row}
-use Rattle.mrp_participant.specs.Lookup.{Ascends, key_of, same, find}
-use Rattle.mrp_participant.specs.Hearing.{first_of, rows_as_one}
-use Rattle.mrp_participant.proofs.Lookups.{Each-map, same_is, same_left}
-use Rattle.mrp_participant.proofs.Hearings.{less_back, first-none, first-if, rows-same, find-merged, each-merged, Ascends-merged}
+use Rattle.mrp_participant.specs.{Ascends, key_of, same, find, first_of, rows_as_one}
+use Rattle.mrp_participant.proofs.{Lookups.same_is, Lookups.same_left, Hearings.less_back, Hearings.first-none, Hearings.first-if, Hearings.rows-same, Hearings.find-merged, Hearings.each-merged, Hearings.Ascends-merged}
 
 -- ---- the first so many, and a last one
 

@@ -1,29 +1,17 @@
 -- What is sent fits into a PDU, ascends by key, and isn't empty.
 use Rattle.std.proofs.Common.{◌≡◌, ℕ, zero, suc, ◌+◌, ◌<◌, ◌≤◌, Bool, true, false, not, ◌&&◌, if◌then◌else◌, nat_le, ◌==◌, List, [], ◌∷◌, ◌++◌, filter, sum_by, refl, sym, ap, ◌∙◌, subst, arith, inl, inr}
 use Rattle.std.specs.Prelude.{◌⊎◌}
-use Rattle.std.specs.declared.option.Option.{Option}
-use Rattle.std.specs.declared.option.Option.TheVariants.{None, Some}
-use Rattle.std.specs.declared.cmp.Ordering.{Ordering}
-use Rattle.std.specs.Cmp.{IsTotalOrder}
-use Rattle.std.specs.List.{filter_map, cons_option}
-use Rattle.std.proofs.lemmas.List.Sums.{sum_by-cons, sum_by-append}
-use Rattle.std.proofs.lemmas.Bool.Decides.{nat_tests}
-use Rattle.srp_base.specs.declared.numbers.Cs.{Cs}
-use Rattle.srp_base.specs.declared.mrp.MrpEvent.{MrpEvent}
-use Rattle.applicant.specs.declared.AppEvent.{AppEvent}
-use Rattle.applicant.specs.declared.Applicant.{Applicant}
+use Rattle.std.specs.{declared.option.Option.Option, declared.option.Option.TheVariants.None, declared.option.Option.TheVariants.Some, declared.cmp.Ordering.Ordering, Cmp.IsTotalOrder, List.filter_map, List.cons_option, List.AllByRecursion}
+use Rattle.std.proofs.lemmas.{List.Sums.sum_by-cons, List.Sums.sum_by-append, Bool.Decides.nat_tests}
+use Rattle.srp_base.proofs.Lists.{Each-map}
+use Rattle.srp_base.specs.declared.{numbers.Cs.Cs, mrp.MrpEvent.MrpEvent}
+use Rattle.applicant.specs.declared.{AppEvent.AppEvent, Applicant.Applicant}
 use Rattle.applicant.specs.declared.Applicant.TheVariants.{Vo, Vp, Vn, An, Aa, Qa, La}
 use Rattle.registrar.specs.declared.RegEvent.TheVariants.{TxLeaveAll as RegTxLeaveAll}
 use Rattle.mrp_participant.specs.declared.row.Row.{Row}
 use Rattle.mrp_participant.specs.declared.sending_limit.SendingLimit.{SendingLimit}
-use Rattle.std.specs.List.{AllByRecursion}
-use Rattle.mrp_participant.specs.Lookup.{Ascends, key_of}
-use Rattle.mrp_participant.specs.Row.{with_applicant, registrar_takes}
-use Rattle.mrp_participant.specs.Sending.{IsSplit, round, is_tried, rows_of_round, order, opportunity, said_at, row_event, sent_event, is_taken}
-use Rattle.mrp_participant.specs.SendingLimit.{limit_at, is_before, is_in_room, first_limit}
-use Rattle.mrp_participant.specs.State.{none_tried}
-use Rattle.mrp_participant.proofs.Lookups.{Ascends-kept, Each-map, filter-none}
-use Rattle.mrp_participant.proofs.SendingLimitLemmas.{In, In-append, Lined, Ahead, first_is_before, lined_order, of_round, ahead_once, not_ahead_of_itself, in_order, in_room, filter_map-same}
+use Rattle.mrp_participant.specs.{Ascends, key_of, with_applicant, registrar_takes, IsSplit, round, is_tried, rows_of_round, order, opportunity, said_at, row_event, sent_event, is_taken, limit_at, is_before, is_in_room, first_limit, none_tried}
+use Rattle.mrp_participant.proofs.{Lookups.Ascends-kept, Lookups.filter-none, SendingLimitLemmas.In, SendingLimitLemmas.In-append, SendingLimitLemmas.Lined, SendingLimitLemmas.Ahead, SendingLimitLemmas.first_is_before, SendingLimitLemmas.lined_order, SendingLimitLemmas.of_round, SendingLimitLemmas.ahead_once, SendingLimitLemmas.not_ahead_of_itself, SendingLimitLemmas.in_order, SendingLimitLemmas.in_room, SendingLimitLemmas.filter_map-same}
 
 -- ---- sums
 

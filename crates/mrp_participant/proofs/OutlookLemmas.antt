@@ -1,12 +1,9 @@
 -- An outlook of all rows: how it goes on being theirs, and what it says of them.
 use Rattle.std.proofs.Common.{◌≡◌, ℕ, ◌+◌, ◌^◌, ◌<◌, ◌≤◌, Bool, true, false, not, ◌&&◌, ◌||◌, cond, if◌then◌else◌, nat_lt, nat_le, ◌==◌, List, [], ◌∷◌, ◌++◌, length, take, drop, drop-cons, get_or, suc, refl, sym, ap, ◌∙◌, subst, arith, is_none}
 use Rattle.std.specs.Prelude.{count_by}
-use Rattle.std.proofs.lemmas.Bool.Decides.{nat_tests}
-use Rattle.std.proofs.lemmas.List.{take-append-drop, take_more, append-nil, length-take-le}
-use Rattle.std.proofs.lemmas.List.Sums.{sum_by-append, sum_by-cons, count_by-le-length}
-use Rattle.std.specs.declared.option.Option.{Option}
-use Rattle.std.specs.declared.option.Option.TheVariants.{None, Some}
-use Rattle.std.specs.List.{AllByRecursion, list_any, list_all}
+use Rattle.std.proofs.lemmas.{Bool.Decides.nat_tests, List.take-append-drop, List.take_more, List.append-nil, List.length-take-le, List.Sums.sum_by-append, List.Sums.sum_by-cons, List.Sums.count_by-le-length}
+use Rattle.std.specs.{declared.option.Option.Option, declared.option.Option.TheVariants.None, declared.option.Option.TheVariants.Some, List.AllByRecursion, List.list_any, List.list_all}
+use Rattle.srp_base.proofs.Lists.{Each-map}
 use Rattle.srp_base.specs.declared.numbers.Cs.{Cs}
 use Rattle.applicant.specs.declared.Applicant.{Applicant}
 use Rattle.applicant.specs.declared.Applicant.TheVariants.{Vo, Vp, Vn, An, Aa, Qa, La}
@@ -14,11 +11,7 @@ use Rattle.mrp_participant.specs.declared.row.Row.{Row}
 use Rattle.mrp_participant.specs.declared.outlook.Outlook.{Outlook}
 use Rattle.registrar.specs.Table.{is_leaving}
 use Rattle.applicant.specs.Table.{is_quiet}
-use Rattle.mrp_participant.specs.Row.{leave_is_due}
-use Rattle.mrp_participant.specs.Outlook.{ends_at, IsFirstLeave, Tells, has_one, IsOutlook, firsts, first_with, outlook_with, HasRoom, first_without, outlook_without, IsCounted, Counts, is_by, is_at_rest}
-use Rattle.mrp_participant.specs.Sending.{round, is_tried}
-use Rattle.mrp_participant.specs.State.{none_tried, all_settled}
-use Rattle.mrp_participant.proofs.Lookups.{Each-map}
+use Rattle.mrp_participant.specs.{leave_is_due, ends_at, IsFirstLeave, Tells, has_one, IsOutlook, firsts, first_with, outlook_with, HasRoom, first_without, outlook_without, IsCounted, Counts, is_by, is_at_rest, round, is_tried, none_tried, all_settled}
 
 -- ---- one element more or less
 

@@ -1,18 +1,10 @@
 -- What is made of a key's row at its place, or of the gap where it has none, is what `put` makes of it; and loops
 -- over rows that keep something of some.
 use Rattle.std.proofs.Common.{◌≡◌, ◌≢◌, ℕ, zero, suc, ◌+◌, ◌<◌, ◌≤◌, ◌==◌, ◌&&◌, nat_le, Bool, true, false, if◌then◌else◌, List, [], ◌∷◌, ◌++◌, length, map, filter, get_or, take, drop, sym, ap, refl, ◌∙◌, append_assoc, arith}
-use Rattle.std.proofs.lemmas.Bool.{eq-eqb, ne_eqb}
-use Rattle.std.proofs.lemmas.Bool.Decides.{nat_tests}
-use Rattle.std.proofs.lemmas.List.{append-nil, drop_all, take-append-drop, at_drop_more}
-use Rattle.std.specs.declared.option.Option.{Option}
-use Rattle.std.specs.declared.option.Option.TheVariants.{None, Some}
-use Rattle.std.specs.declared.cmp.Ordering.{Ordering}
-use Rattle.std.specs.List.{cons_option, filter_map, list_all, slice_get}
+use Rattle.std.proofs.lemmas.{Bool.eq-eqb, Bool.ne_eqb, Bool.Decides.nat_tests, List.append-nil, List.drop_all, List.take-append-drop, List.at_drop_more}
+use Rattle.std.specs.{declared.option.Option.Option, declared.option.Option.TheVariants.None, declared.option.Option.TheVariants.Some, declared.cmp.Ordering.Ordering, List.cons_option, List.filter_map, List.list_all, List.slice_get}
 use Rattle.mrp_participant.specs.declared.row.Row.{Row}
-use Rattle.mrp_participant.specs.Lookup.{key_of, find, put, IsRowAt, IsGapAt}
-use Rattle.mrp_participant.specs.Row.{leave_is_due}
-use Rattle.mrp_participant.specs.Sending.{round, rows_of_round}
-use Rattle.mrp_participant.specs.SendingLimit.{limit_at, first_limit}
+use Rattle.mrp_participant.specs.{key_of, find, put, IsRowAt, IsGapAt, leave_is_due, round, rows_of_round, limit_at, first_limit}
 
 module _ {K C : Type 0} {cmp : K → K → Ordering} {k : K} (rows slice : List (Row K C)) (i : ℕ) (all : slice ≡ rows) where
   -- the key's row stands at the place
@@ -60,11 +52,6 @@ module _ {X Y : Type 0} (f : X → Y) where
   past-last [] i past = refl
   past-last (y ∷ ys) zero past = absurd (omega arith)
   past-last (y ∷ ys) (suc i) past = past-last ys i (omega arith)
-
-pub get-place : {X : Type 0} (xs : List X) (i : ℕ) (x : X) → i < length xs → x ≡ get_or xs i x → slice_get xs i ≡ Some x
-get-place [] i x below is = absurd (omega arith)
-get-place (y ∷ ys) zero x below is = ap Some (sym is)
-get-place (y ∷ ys) (suc i) x below is = get-place ys i x (omega arith) is
 
 -- ---- loops
 

@@ -2,24 +2,14 @@
 -- of the order fit.
 use Rattle.std.proofs.Common.{◌≡◌, ℕ, ◌+◌, ◌<◌, Bool, true, false, not, ◌&&◌, ◌||◌, if◌then◌else◌, nat_le, nat_lt, ◌==◌, List, [], ◌∷◌, ◌++◌, filter, refl, sym, ap, ◌∙◌, subst, arith, inl, inr}
 use Rattle.std.specs.Prelude.{◌⊎◌}
-use Rattle.std.specs.declared.option.Option.{Option}
-use Rattle.std.specs.declared.option.Option.TheVariants.{Some}
-use Rattle.std.specs.declared.cmp.Ordering.{Ordering}
-use Rattle.std.specs.declared.cmp.Ordering.TheVariants.{Less, Equal, Greater}
-use Rattle.std.specs.Ordering.{is_eq, is_lt, ordering_reverse}
-use Rattle.std.specs.Cmp.{IsTotalOrder}
-use Rattle.std.proofs.lemmas.Cmp.{tied_itself}
-use Rattle.std.proofs.lemmas.List.Sums.{sum_by-cons}
+use Rattle.std.specs.{declared.option.Option.Option, declared.option.Option.TheVariants.Some, declared.cmp.Ordering.Ordering, declared.cmp.Ordering.TheVariants.Less, declared.cmp.Ordering.TheVariants.Equal, declared.cmp.Ordering.TheVariants.Greater, Ordering.is_eq, Ordering.is_lt, Ordering.ordering_reverse, Cmp.IsTotalOrder, List.filter_map, List.cons_option, List.AllByRecursion}
+use Rattle.std.proofs.lemmas.{Cmp.tied_itself, List.Sums.sum_by-cons, Bool.Decides.nat_tests}
 use Rattle.std.proofs.Common.{eqb-true, eq-eqb}
-use Rattle.std.proofs.lemmas.Bool.Decides.{nat_tests}
-use Rattle.std.specs.List.{filter_map, cons_option}
+use Rattle.srp_base.proofs.Lists.{each_append as Each-append, each_filter as Each-filtered}
 use Rattle.applicant.specs.declared.Applicant.{Applicant}
 use Rattle.applicant.specs.declared.Applicant.TheVariants.{Vo, Vp, Vn, An, Aa, Qa, La}
 use Rattle.mrp_participant.specs.declared.row.Row.{Row}
-use Rattle.std.specs.List.{AllByRecursion}
-use Rattle.mrp_participant.specs.Lookup.{Ascends, key_of, same, find}
-use Rattle.mrp_participant.specs.Sending.{round, is_tried, rows_of_round, order, octets_of, up_to, is_taken}
-use Rattle.mrp_participant.specs.SendingLimit.{limit_at, is_ahead, is_before, is_in_room, first_limit}
+use Rattle.mrp_participant.specs.{Ascends, key_of, same, find, round, is_tried, rows_of_round, order, octets_of, up_to, is_taken, limit_at, is_ahead, is_before, is_in_room, first_limit}
 use Rattle.mrp_participant.proofs.Lookups.{same_is, find-same}
 
 -- ---- membership
@@ -57,17 +47,6 @@ pub Each-from_in : {X : Type 0} (P : X → Type 0) (xs : List X) → ((x : X) �
 Each-from_in P [] f = tt
 Each-from_in P (x ∷ xs) f = (f x (inl refl), Each-from_in P xs (λ y at. f y (inr at)))
 
-pub Each-filtered : {X : Type 0} (P : X → Type 0) (p : X → Bool) (xs : List X) → AllByRecursion P xs → AllByRecursion P (filter p xs)
-Each-filtered P p [] h = tt
-Each-filtered P p (x ∷ xs) h = elim (p x) as
-    (λ b. AllByRecursion P (if b then x ∷ filter p xs else filter p xs)) [
-      | true ↦ (
-        h.0,
-        Each-filtered P p xs h.1,
-      )
-      | false ↦ Each-filtered P p xs h.1
-    ]
-
 -- each element of a filtered list passes the test and was in the list
 filtered_in : {X : Type 0} (p : X → Bool) (x y : X) (ys : List X) (b : Bool) → p y ≡ b
     → (In x (filter p ys) → (p x ≡ true) × In x ys) → In x (if b then y ∷ filter p ys else filter p ys) → (p x ≡ true)
@@ -90,10 +69,6 @@ In-append x (z ∷ xs) ys (inr at) = elim (In-append x xs ys at) [ inl h ↦ inl
 abbrev pub Lined : {X : Type 0} → (X → X → Type 0) → List X → Type 0
 Lined R [] = Unit {0}
 Lined R (x ∷ xs) = AllByRecursion (R x) xs × Lined R xs
-
-pub Each-append : {X : Type 0} (P : X → Type 0) (xs ys : List X) → AllByRecursion P xs → AllByRecursion P ys → AllByRecursion P (xs ++ ys)
-Each-append P [] ys h k = k
-Each-append P (x ∷ xs) ys h k = (h.0, Each-append P xs ys h.1 k)
 
 Lined-append : {X : Type 0} (R : X → X → Type 0) (xs ys : List X) → Lined R xs → Lined R ys → ((x y : X) → In x xs → In y ys → R x y) → Lined R (xs ++ ys)
 Lined-append R [] ys h k cross = k

@@ -1,28 +1,17 @@
 -- What a participant keeps of its rows when it sends, and what it says.
 use Rattle.std.proofs.Common.{◌≡◌, ℕ, ◌+◌, Bool, true, false, not, ◌&&◌, ◌||◌, nat_le, List, [], ◌∷◌, refl, sym, ap, ◌∙◌, subst}
-use Rattle.std.specs.declared.option.Option.{Option}
-use Rattle.std.specs.declared.option.Option.TheVariants.{None, Some}
-use Rattle.std.specs.declared.cmp.Ordering.{Ordering}
-use Rattle.std.specs.Cmp.{IsTotalOrder}
-use Rattle.std.specs.List.{filter_map, cons_option}
-use Rattle.srp_base.specs.declared.numbers.Cs.{Cs}
-use Rattle.srp_base.specs.declared.mrp.MrpEvent.{MrpEvent}
+use Rattle.std.specs.{declared.option.Option.Option, declared.option.Option.TheVariants.None, declared.option.Option.TheVariants.Some, declared.cmp.Ordering.Ordering, Cmp.IsTotalOrder, List.filter_map, List.cons_option}
+use Rattle.srp_base.specs.declared.{numbers.Cs.Cs, mrp.MrpEvent.MrpEvent}
 use Rattle.applicant.specs.declared.AppEvent.{AppEvent}
 use Rattle.registrar.specs.declared.RegEvent.TheVariants.{TxLeaveAll as RegTxLeaveAll}
-use Rattle.leaveall.specs.declared.LeaveAll.{LeaveAll}
-use Rattle.leaveall.specs.declared.LeaveAll.TheVariants.{Active, Passive}
-use Rattle.leaveall.specs.declared.LaEvent.TheVariants.{Tx as LaTx}
+use Rattle.leaveall.specs.declared.{LeaveAll.LeaveAll, LeaveAll.TheVariants.Active, LeaveAll.TheVariants.Passive, LaEvent.TheVariants.Tx as LaTx}
 use Rattle.leaveall.specs.Table as leaveall
 use Rattle.mrp_participant.specs.declared.row.Row.{Row}
 use Rattle.mrp_participant.specs.declared.sending_limit.SendingLimit.{SendingLimit}
-use Rattle.mrp_participant.specs.Lookup.{key_of}
-use Rattle.mrp_participant.specs.Row.{is_live, applicant_takes, registrar_takes}
-use Rattle.mrp_participant.specs.Sending.{is_tried, is_taken, opportunity, row_after, sent_row, sent_event, order, octets_of, up_to}
-use Rattle.mrp_participant.specs.SendingLimit.{is_in_room, first_limit}
-use Rattle.mrp_participant.specs.State.{State, AreRows, after, is_active, is_silent, none_tried, sent_events, sent_state}
-use Rattle.mrp_participant.proofs.Transitions.{Keeps, kept-is, registrar-lives}
+use Rattle.mrp_participant.specs.{key_of, is_live, applicant_takes, registrar_takes, is_tried, is_taken, opportunity, row_after, sent_row, sent_event, order, octets_of, up_to, is_in_room, first_limit, AreRows, after, is_active, is_silent, none_tried, sent_events, sent_state}
+use Rattle.mrp_participant.specs.State.{State}
+use Rattle.mrp_participant.proofs.{Transitions.Keeps, Transitions.kept-is, Transitions.registrar-lives, SendingLimitLemmas.in_room, SendingLimitLemmas.filter_map-same}
 use Rattle.registrar.proofs.RegistrarLemmas.{sent_leave_all-registers}
-use Rattle.mrp_participant.proofs.SendingLimitLemmas.{in_room, filter_map-same}
 
 -- ---- rows stay rows
 

@@ -1,34 +1,20 @@
 -- What a taken row says, and which row each event that is sent is of.
 use Rattle.std.proofs.Common.{◌≡◌, Bool, true, false, not, ◌&&◌, if◌then◌else◌, ◌==◌, List, [], ◌∷◌, refl, sym, ap, ◌∙◌, inl, inr}
 use Rattle.std.specs.Prelude.{◌⊎◌, Contains}
-use Rattle.std.specs.declared.option.Option.{Option}
-use Rattle.std.specs.declared.option.Option.TheVariants.{None, Some}
-use Rattle.std.specs.declared.cmp.Ordering.{Ordering}
-use Rattle.std.specs.Cmp.{IsTotalOrder}
-use Rattle.std.specs.List.{filter_map, cons_option}
-use Rattle.srp_base.specs.declared.numbers.Cs.{Cs}
-use Rattle.srp_base.specs.declared.mrp.MrpEvent.{MrpEvent}
+use Rattle.std.specs.{declared.option.Option.Option, declared.option.Option.TheVariants.None, declared.option.Option.TheVariants.Some, declared.cmp.Ordering.Ordering, Cmp.IsTotalOrder, List.filter_map, List.cons_option}
+use Rattle.srp_base.proofs.Bools.{first_holds}
+use Rattle.srp_base.specs.declared.{numbers.Cs.Cs, mrp.MrpEvent.MrpEvent}
 use Rattle.applicant.specs.declared.Applicant.{Applicant}
 use Rattle.applicant.specs.declared.Applicant.TheVariants.{Vo, Vn, An, Qa, La}
 use Rattle.applicant.specs.Table as applicant
 use Rattle.registrar.specs.declared.Registrar.{Registrar}
 use Rattle.registrar.specs.declared.Registrar.TheVariants.{Held, Leaving, Empty}
-use Rattle.leaveall.specs.declared.LeaveAll.{LeaveAll}
-use Rattle.leaveall.specs.declared.LeaveAll.TheVariants.{Active, Passive}
+use Rattle.leaveall.specs.declared.{LeaveAll.LeaveAll, LeaveAll.TheVariants.Active, LeaveAll.TheVariants.Passive}
 use Rattle.mrp_participant.specs.declared.row.Row.{Row}
-use Rattle.mrp_participant.specs.Lookup.{Ascends, key_of, find}
+use Rattle.mrp_participant.specs.{Ascends, key_of, find, declared_in, round, is_tried, is_leave, word_of, sent_event, is_active, is_silent, none_tried}
 use Rattle.registrar.specs.Table.{is_in}
-use Rattle.mrp_participant.specs.Row.{declared_in}
-use Rattle.mrp_participant.specs.Sending.{round, is_tried, is_leave, word_of, sent_event}
-use Rattle.mrp_participant.specs.State.{State, is_active, is_silent, none_tried}
-use Rattle.mrp_participant.proofs.SendingLimitLemmas.{In, find-in}
-use Rattle.mrp_participant.proofs.Octets.{sent_is}
-use Rattle.mrp_participant.proofs.Changes.{In-contains}
-use Rattle.mrp_participant.proofs.DutyRows.{in_states}
-
-first_holds : (a b : Bool) → (a && b) ≡ true → a ≡ true
-first_holds true b h = refl
-first_holds false b h = cc
+use Rattle.mrp_participant.specs.State.{State}
+use Rattle.mrp_participant.proofs.{SendingLimitLemmas.In, SendingLimitLemmas.find-in, Octets.sent_is, Changes.In-contains, DutyRows.in_states}
 
 module _ {K C : Type 0} where
   said_by : (leave_all : Bool) (leave : Cs) (r : Row K C) (a : Applicant) (g : Registrar)

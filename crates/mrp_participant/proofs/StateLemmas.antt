@@ -2,34 +2,20 @@
 -- stands.
 use Rattle.std.proofs.Common.{◌≡◌, ℕ, zero, suc, ◌+◌, Bool, true, false, not, ◌&&◌, ◌||◌, if◌then◌else◌, List, [], ◌∷◌, map, filter, length, refl, sym, ap, ◌∙◌, subst, arith, inl, inr, option_map, option_and_then, slice_get, ◌↔◌}
 use Rattle.std.specs.Prelude.{◌≢◌, ◌⊎◌, Contains, IsSome, option_to_list}
-use Rattle.std.specs.declared.option.Option.{Option}
-use Rattle.std.specs.declared.option.Option.TheVariants.{None, Some}
-use Rattle.std.specs.declared.cmp.Ordering.{Ordering}
-use Rattle.std.specs.declared.cmp.Ordering.TheVariants.{Equal}
-use Rattle.std.specs.Cmp.{IsTotalOrder}
-use Rattle.std.specs.List.{filter_map, cons_option, list_any, list_all, AllByRecursion}
-use Rattle.applicant.specs.declared.Applicant.{Applicant}
-use Rattle.applicant.specs.declared.Applicant.TheVariants.{Vo}
+use Rattle.std.specs.{declared.option.Option.Option, declared.option.Option.TheVariants.None, declared.option.Option.TheVariants.Some, declared.cmp.Ordering.Ordering, declared.cmp.Ordering.TheVariants.Equal, Cmp.IsTotalOrder, List.filter_map, List.cons_option, List.list_any, List.list_all, List.AllByRecursion}
+use Rattle.srp_base.proofs.Bools.{held_from as not_false, both}
+use Rattle.applicant.specs.declared.{Applicant.Applicant, Applicant.TheVariants.Vo}
 use Rattle.registrar.specs.declared.Registrar.{Registrar}
 use Rattle.registrar.specs.declared.Registrar.TheVariants.{Held, Leaving, Empty}
 use Rattle.registrar.specs.Table as registrar
-use Rattle.leaveall.specs.declared.LeaveAll.{LeaveAll}
-use Rattle.leaveall.specs.declared.LeaveAll.TheVariants.{Active, Passive}
-use Rattle.srp_base.specs.declared.numbers.Cs.{Cs}
-use Rattle.srp_base.specs.declared.mrp.MrpEvent.{MrpEvent}
+use Rattle.leaveall.specs.declared.{LeaveAll.LeaveAll, LeaveAll.TheVariants.Active, LeaveAll.TheVariants.Passive}
+use Rattle.srp_base.specs.declared.{numbers.Cs.Cs, mrp.MrpEvent.MrpEvent}
 use Rattle.mrp_participant.specs.declared.row.Row.{Row}
-use Rattle.mrp_participant.specs.Lookup.{Ascends, key_of, same, find}
+use Rattle.mrp_participant.specs.{Ascends, key_of, same, find, after_leave_due, leave_is_due, periodic_row, is_settled, is_leaving_in, is_live, applicant_of, registrar_of, declared_in, registered_in, sent_event, leave_timers_state, leave_all_state, periodic_fired_state, due_leave_all_state, due_state, due_count, is_any_due, is_leave_all_due, is_periodic_due, is_active, is_still, all_settled}
 use Rattle.registrar.specs.Table.{is_leaving}
 use Rattle.applicant.specs.Table.{is_quiet, is_observer}
-use Rattle.mrp_participant.specs.Row.{after_leave_due, leave_is_due, periodic_row, is_settled, is_leaving_in, is_live, applicant_of, registrar_of, declared_in, registered_in}
-use Rattle.mrp_participant.specs.Sending.{sent_event}
-use Rattle.mrp_participant.specs.State.{State, leave_timers_state, leave_all_state, periodic_fired_state, due_leave_all_state, due_state, due_count, is_any_due, is_leave_all_due, is_periodic_due, is_active, is_still, all_settled}
-use Rattle.mrp_participant.proofs.Lookups.{none_above, same_is, find-fits}
-use Rattle.mrp_participant.proofs.SendingLimitLemmas.{In, find-in}
-use Rattle.mrp_participant.proofs.EachKey.{each-mapped, each-kept}
-use Rattle.mrp_participant.proofs.Transitions.{leave_all_due-rows, due-keeps}
-use Rattle.mrp_participant.proofs.Changes.{find-found, In-map, In-mapped, In-contains, Contains-in}
-use Rattle.mrp_participant.proofs.Octets.{sent_is}
+use Rattle.mrp_participant.specs.State.{State}
+use Rattle.mrp_participant.proofs.{Lookups.none_above, Lookups.same_is, Lookups.find-fits, SendingLimitLemmas.In, SendingLimitLemmas.find-in, EachKey.each-mapped, EachKey.each-kept, Transitions.leave_all_due-rows, Transitions.due-keeps, Changes.find-found, Changes.In-map, Changes.In-mapped, Changes.In-contains, Changes.Contains-in, Octets.sent_is}
 
 -- ---- after the timers
 
@@ -119,17 +105,9 @@ one-sent {K = K} {C = C} o leave_all taken leave rows up k =
 
 -- ---- when nothing is pending
 
-both : (a b : Bool) → (a && b) ≡ true → (a ≡ true) × (b ≡ true)
-both true b h = (refl, h)
-both false b h = cc
-
 is_passive : (m : LeaveAll) → not (is_active m) ≡ true → m ≡ Passive
 is_passive Active h = cc
 is_passive Passive h = refl
-
-not_false : (b : Bool) → not b ≡ true → b ≡ false
-not_false true h = cc
-not_false false h = refl
 
 settled_row : (a b : Bool) → a ≡ true → b ≡ false → (a && not b) ≡ true
 settled_row true true h k = cc

@@ -1,7 +1,6 @@
 -- A list that is thinned in place: what is made of each element, if anything, closes up to the front.
 use Rattle.std.proofs.Common.{◌≡◌, ℕ, suc, ◌+◌, ◌<◌, ◌≤◌, List, [], ◌++◌, length, take, drop, get_or, ap, sym, ◌∙◌, arith}
-use Rattle.std.specs.declared.option.Option.{Option}
-use Rattle.std.specs.List.{filter_map, cons_option}
+use Rattle.std.specs.{declared.option.Option.Option, List.filter_map, List.cons_option}
 use Rattle.mrp_participant.proofs.Places.{made_more, all_made}
 
 -- ys began as xs: its first k elements are what is made of the first i, and from i on it is as it was

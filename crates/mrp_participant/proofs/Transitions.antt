@@ -1,34 +1,24 @@
 -- Each event keeps a row's key, and leaves no row of which nothing is kept.
 use Rattle.std.proofs.Common.{◌≡◌, ℕ, Bool, true, false, not, ◌||◌, if◌then◌else◌, refl, sym, ap, ◌∙◌, subst, List, [], ◌∷◌, map, fold, OnOk, OnErr}
-use Rattle.std.specs.declared.option.Option.{Option}
-use Rattle.std.specs.declared.option.Option.TheVariants.{None, Some}
-use Rattle.std.specs.declared.cmp.Ordering.{Ordering}
-use Rattle.std.specs.declared.cmp.Ordering.TheVariants.{Less, Equal}
-use Rattle.std.specs.Cmp.{IsTotalOrder}
+use Rattle.std.specs.{declared.option.Option.Option, declared.option.Option.TheVariants.None, declared.option.Option.TheVariants.Some, declared.cmp.Ordering.Ordering, declared.cmp.Ordering.TheVariants.Less, declared.cmp.Ordering.TheVariants.Equal, Cmp.IsTotalOrder, List.filter_map, declared.result.Result.Result, declared.result.Result.TheVariants.Ok, declared.result.Result.TheVariants.Err}
 use Rattle.std.proofs.lemmas.Cmp.{tied_itself}
-use Rattle.srp_base.specs.declared.numbers.Cs.{Cs}
-use Rattle.srp_base.specs.declared.mrp.MrpEvent.{MrpEvent}
+use Rattle.srp_base.proofs.Bools.{or-map_right}
+use Rattle.srp_base.specs.declared.{numbers.Cs.Cs, mrp.MrpEvent.MrpEvent}
 use Rattle.srp_base.specs.declared.mrp.MrpEvent.TheVariants.{New, JoinIn, OnlyIn, JoinMt, OnlyMt, Lv}
-use Rattle.applicant.specs.declared.Applicant.{Applicant}
+use Rattle.applicant.specs.declared.{Applicant.Applicant, AppEvent.AppEvent}
 use Rattle.applicant.specs.declared.Applicant.TheVariants.{Vo, Vp, Vn, An, Aa, Qa, La}
 use Rattle.applicant.specs.Table as applicant
-use Rattle.applicant.specs.declared.AppEvent.{AppEvent}
 use Rattle.applicant.specs.declared.AppEvent.TheVariants.{RxIn, RxMt, RxLv as AppRxLv, RxLeaveAll as AppRxLeaveAll, Periodic}
 use Rattle.registrar.specs.declared.RegEvent.{RegEvent}
 use Rattle.registrar.specs.declared.RegEvent.TheVariants.{RxNew, RxJoin, RxLv as RegRxLv, RxLeaveAll as RegRxLeaveAll, LeaveTimer}
 use Rattle.registrar.specs.Table as registrar
 use Rattle.applicant.proofs.ApplicantLemmas.{KeepsObserver, in-keeps, mt-keeps, lv-keeps, leave_all-keeps, periodic-keeps}
 use Rattle.registrar.proofs.RegistrarLemmas.{KeepsRegistered, new-registers, join-registers, lv-registers, leave_all-registers}
-use Rattle.std.specs.List.{filter_map}
 use Rattle.mrp_participant.specs.declared.row.Row.{Row}
 use Rattle.registrar.specs.Table.{is_in}
 use Rattle.applicant.specs.Table.{is_observer}
-use Rattle.mrp_participant.specs.Row.{is_live, leave_is_due, after_leave_due, applicant_takes, registrar_takes, with_heard, leave_all_row, periodic_row, kept_row, fresh_row, declared_row, with_applicant, left_row, heard_row, after_declare, after_withdraw, after_leave, after_hear}
-use Rattle.std.specs.declared.result.Result.{Result}
-use Rattle.std.specs.declared.result.Result.TheVariants.{Ok, Err}
-use Rattle.mrp_participant.specs.Lookup.{Ascends, key_of, find, put}
-use Rattle.mrp_participant.specs.State.{State, AreRows, rows_hearing, rows_after_receive, leave_timers_state, leave_all_state, due_leave_all_state, periodic_fired_state, due_state, is_leave_all_due, is_periodic_due}
-use Rattle.mrp_participant.proofs.Flying.{or-map_right}
+use Rattle.mrp_participant.specs.{is_live, leave_is_due, after_leave_due, applicant_takes, registrar_takes, with_heard, leave_all_row, periodic_row, kept_row, fresh_row, declared_row, with_applicant, left_row, heard_row, after_declare, after_withdraw, after_leave, after_hear, Ascends, key_of, find, put, AreRows, rows_hearing, rows_after_receive, leave_timers_state, leave_all_state, due_leave_all_state, periodic_fired_state, due_state, is_leave_all_due, is_periodic_due}
+use Rattle.mrp_participant.specs.State.{State}
 use Rattle.mrp_participant.proofs.Lookups.{Fits, AreRows-put, find-fits, Each-mapped, Each-kept, Ascends-kept}
 
 module _ {K C : Type 0} where

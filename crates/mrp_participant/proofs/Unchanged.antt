@@ -1,24 +1,15 @@
 -- Calls at one key that change nothing.
 use Rattle.std.proofs.Common.{◌≡◌, Bool, true, false, if◌then◌else◌, List, [], ◌∷◌, refl, sym, ap, ◌∙◌, OnOk, OnErr}
-use Rattle.std.specs.declared.option.Option.{Option}
-use Rattle.std.specs.declared.option.Option.TheVariants.{None, Some}
-use Rattle.std.specs.declared.result.Result.{Result}
-use Rattle.std.specs.declared.result.Result.TheVariants.{Ok, Err}
-use Rattle.std.specs.declared.cmp.Ordering.{Ordering}
-use Rattle.std.specs.declared.cmp.Ordering.TheVariants.{Less, Equal, Greater}
-use Rattle.std.specs.Ordering.{is_eq, ordering_reverse}
-use Rattle.std.specs.Cmp.{IsTotalOrder, IsEquivalence}
-use Rattle.std.specs.List.{cons_option}
+use Rattle.std.specs.{declared.option.Option.Option, declared.option.Option.TheVariants.None, declared.option.Option.TheVariants.Some, declared.result.Result.Result, declared.result.Result.TheVariants.Ok, declared.result.Result.TheVariants.Err, declared.cmp.Ordering.Ordering, declared.cmp.Ordering.TheVariants.Less, declared.cmp.Ordering.TheVariants.Equal, declared.cmp.Ordering.TheVariants.Greater, Ordering.is_eq, Ordering.ordering_reverse, Cmp.IsTotalOrder, Cmp.IsEquivalence, List.cons_option}
 use Rattle.applicant.specs.declared.Applicant.{Applicant}
 use Rattle.applicant.specs.declared.Applicant.TheVariants.{Vo, Vp, Vn, An, Aa, Qa, La}
 use Rattle.applicant.specs.Table as applicant
 use Rattle.registrar.specs.declared.Registrar.{Registrar}
 use Rattle.registrar.specs.declared.Registrar.TheVariants.{Held, Leaving, Empty}
 use Rattle.mrp_participant.specs.declared.row.Row.{Row}
-use Rattle.mrp_participant.specs.Lookup.{Ascends, key_of, find, put, put_at}
+use Rattle.mrp_participant.specs.{Ascends, key_of, find, put, put_at, is_live, with_applicant, left_row, after_declare, after_withdraw, after_leave, is_leaving_in, declared_in, AreRows, with_rows}
 use Rattle.registrar.specs.Table.{is_leaving}
-use Rattle.mrp_participant.specs.Row.{is_live, with_applicant, left_row, after_declare, after_withdraw, after_leave, is_leaving_in, declared_in}
-use Rattle.mrp_participant.specs.State.{State, AreRows, with_rows}
+use Rattle.mrp_participant.specs.State.{State}
 use Rattle.mrp_participant.proofs.Lookups.{find-above, above_all, find-fits}
 
 module _ {K C : Type 0} {cmp : K → K → Ordering} (o : IsTotalOrder cmp) where

@@ -2,18 +2,14 @@
 -- hold once all that is in flight has been received is what the other declares. The statement is this
 -- project's; the standard says what each machine does, and not what it comes to.
 use Rattle.std.specs.Prelude.{◌≡◌, ◌⊎◌, Bool, true, if◌then◌else◌, List, fold}
-use Rattle.std.specs.declared.option.Option.{Option}
-use Rattle.std.specs.declared.option.Option.TheVariants.{None, Some}
-use Rattle.std.specs.declared.cmp.Ordering.{Ordering}
-use Rattle.std.specs.List.{list_any}
+use Rattle.std.specs.{declared.option.Option.Option, declared.option.Option.TheVariants.None, declared.option.Option.TheVariants.Some, declared.cmp.Ordering.Ordering, List.list_any}
 use Rattle.srp_base.specs.declared.mrp.MrpEvent.{MrpEvent}
 use Rattle.srp_base.specs.declared.mrp.MrpEvent.TheVariants.{New, JoinIn, OnlyIn, JoinMt, OnlyMt, Lv}
 use Rattle.applicant.specs.declared.Applicant.{Applicant}
 use Rattle.applicant.specs.declared.Applicant.TheVariants.{Vo, Vp, Vn, An, Aa, Qa, La}
 use Rattle.mrp_participant.specs.declared.row.Row.{Row}
-use Rattle.mrp_participant.specs.Lookup.{same, find}
+use Rattle.mrp_participant.specs.{Lookup.same, Lookup.find, State.State, State.Messages}
 use Rattle.registrar.specs.Table.{is_in}
-use Rattle.mrp_participant.specs.State.{State, Messages}
 
 -- what a registrar holds of its key: the content that it heard last where it is IN, and else nothing
 abbrev pub held_in : {K C : Type 0} → Option (Row K C) → Option C

@@ -1,15 +1,10 @@
 -- How the code receives: the rows of the keys that are heard of are found beside the rows of the participant,
 -- and then put over them. That this is the fold of `State` is proved, and no public contract names this file.
 use Rattle.std.specs.Prelude.{Bool, true, if◌then◌else◌, List, [], fold, option_map}
-use Rattle.std.specs.declared.option.Option.{Option}
-use Rattle.std.specs.declared.option.Option.TheVariants.{None, Some}
-use Rattle.std.specs.declared.cmp.Ordering.{Ordering}
-use Rattle.std.specs.Set.{sorted_merge}
-use Rattle.srp_base.specs.declared.numbers.Cs.{Cs}
-use Rattle.srp_base.specs.declared.mrp.MrpEvent.{MrpEvent}
+use Rattle.std.specs.{declared.option.Option.Option, declared.option.Option.TheVariants.None, declared.option.Option.TheVariants.Some, declared.cmp.Ordering.Ordering, Set.sorted_merge}
+use Rattle.srp_base.specs.declared.{numbers.Cs.Cs, mrp.MrpEvent.MrpEvent}
 use Rattle.mrp_participant.specs.declared.row.Row.{Row}
-use Rattle.mrp_participant.specs.Lookup.{find, put}
-use Rattle.mrp_participant.specs.Row.{leave_all_row, after_hear}
+use Rattle.mrp_participant.specs.{Lookup.find, Lookup.put, Row.leave_all_row, Row.after_hear}
 
 -- the first, or else the second
 abbrev pub first_of : {X : Type 0} → Option X → Option X → Option X

@@ -8,3 +8,13 @@ pub mod Outlook
 pub mod Row
 pub mod Sending
 pub mod State
+pub use SendingLimit.*
+pub use Duty.*
+pub use Hearing.*
+pub use Link.*
+pub use Lookup.*
+pub use MarkedLink.*
+pub use Outlook.*
+pub use Row.*
+pub use Sending.*
+pub use State.*

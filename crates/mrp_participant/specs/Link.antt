@@ -3,8 +3,7 @@
 use Rattle.std.specs.Prelude.{ℕ, zero, suc, Bool, true, false, if◌then◌else◌, List, [], ◌∷◌, ◌++◌, take, drop, fold}
 use Rattle.std.specs.declared.cmp.Ordering.{Ordering}
 use Rattle.srp_base.specs.declared.numbers.Cs.{Cs}
-use Rattle.mrp_participant.specs.Duty.{IsDutyMet}
-use Rattle.mrp_participant.specs.State.{State, Messages, AreRows, is_silent, new_state, declared_state, withdrawn_state, left_state, received_state, leave_all_state, periodic_state, due_state, sent_state, sent_messages}
+use Rattle.mrp_participant.specs.{Duty.IsDutyMet, State.State, State.Messages, State.AreRows, State.is_silent, State.new_state, State.declared_state, State.withdrawn_state, State.left_state, State.received_state, State.leave_all_state, State.periodic_state, State.due_state, State.sent_state, State.sent_messages}
 
 -- the participants at the two ends of a link, and what each has sent that the other has yet to receive, in order
 pub record Link (K C : Type 0) : Type 0 where

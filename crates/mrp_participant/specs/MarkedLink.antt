@@ -3,15 +3,9 @@
 -- before it says anything, it has yet to say all that it declares. So it is sound from then on, as after a LeaveAll of its own
 -- (IEEE Std 802.1Q-2018, 10.7.5.20 and 10.7.6.6: LeaveAll). The marks are this project's.
 use Rattle.std.specs.Prelude.{◌≡◌, ℕ, Bool, true, false, ◌||◌, ◌&&◌, if◌then◌else◌, List, [], ◌∷◌, fold}
-use Rattle.std.specs.declared.option.Option.TheVariants.{None}
-use Rattle.std.specs.declared.cmp.Ordering.{Ordering}
+use Rattle.std.specs.{declared.option.Option.TheVariants.None, declared.cmp.Ordering.Ordering}
 use Rattle.srp_base.specs.declared.numbers.Cs.{Cs}
-use Rattle.mrp_participant.specs.Lookup.{find}
-use Rattle.mrp_participant.specs.Duty.{held_in, hears}
-use Rattle.mrp_participant.specs.Link.{Link, EndEvent, LinkEvent, AreDutiesMet, new_link, other_view, after_end_event}
-use Rattle.mrp_participant.specs.Link.EndEvent.{Declares, Withdraws, Leaves, Fires, FiresLeaveAll, FiresPeriodic, Sends, Receives, Loses, Repeats}
-use Rattle.mrp_participant.specs.Link.LinkEvent.{AtNear, AtFar}
-use Rattle.mrp_participant.specs.State.{State, Messages, is_active, is_silent}
+use Rattle.mrp_participant.specs.{Lookup.find, Duty.held_in, Duty.hears, Link.Link, Link.EndEvent, Link.LinkEvent, Link.AreDutiesMet, Link.new_link, Link.other_view, Link.after_end_event, Link.EndEvent.Declares, Link.EndEvent.Withdraws, Link.EndEvent.Leaves, Link.EndEvent.Fires, Link.EndEvent.FiresLeaveAll, Link.EndEvent.FiresPeriodic, Link.EndEvent.Sends, Link.EndEvent.Receives, Link.EndEvent.Loses, Link.EndEvent.Repeats, Link.LinkEvent.AtNear, Link.LinkEvent.AtFar, State.State, State.Messages, State.is_active, State.is_silent}
 
 -- the marks of an end: the neighbour's LeaveAll has cleared its way, and it hasn't said anything since; it took that LeaveAll
 -- while its way was clear, so that it is sound

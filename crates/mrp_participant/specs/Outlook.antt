@@ -2,12 +2,9 @@
 -- many rows are tried. It is exact, so no walk is needed to see whether a timer is due, whether anything is to be
 -- said, or whether all is at rest. No public contract names this file.
 use Rattle.std.specs.Prelude.{◌≡◌, ℕ, ◌+◌, ◌-◌, ◌^◌, ◌<◌, ◌≤◌, Bool, true, false, ◌&&◌, cond, if◌then◌else◌, nat_lt, nat_le, ◌==◌, List, count_by, is_none}
-use Rattle.std.specs.List.{AllByRecursion}
-use Rattle.std.specs.declared.option.Option.{Option}
-use Rattle.std.specs.declared.option.Option.TheVariants.{None, Some}
+use Rattle.std.specs.{List.AllByRecursion, declared.option.Option.Option, declared.option.Option.TheVariants.None, declared.option.Option.TheVariants.Some}
 use Rattle.srp_base.specs.declared.numbers.Cs.{Cs}
-use Rattle.mrp_participant.specs.declared.row.Row.{Row}
-use Rattle.mrp_participant.specs.declared.outlook.Outlook.{Outlook}
+use Rattle.mrp_participant.specs.declared.{row.Row.Row, outlook.Outlook.Outlook}
 use Rattle.registrar.specs.Table.{is_leaving}
 use Rattle.mrp_participant.specs.Sending.{is_tried}
 

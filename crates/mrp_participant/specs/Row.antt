@@ -1,20 +1,13 @@
 -- What happens to the row of one key, by each call of a participant: the machines of the key, and the
 -- contents and the leave moment that stand beside them (IEEE Std 802.1Q-2018, 10.7).
 use Rattle.std.specs.Prelude.{ℕ, Bool, true, false, ◌&&◌, ◌||◌, not, if◌then◌else◌, nat_le, List, fold, option_map}
-use Rattle.std.specs.declared.cmp.Ordering.{Ordering}
-use Rattle.std.specs.declared.option.Option.{Option}
-use Rattle.std.specs.declared.option.Option.TheVariants.{None, Some}
-use Rattle.srp_base.specs.declared.numbers.Cs.{Cs}
-use Rattle.srp_base.specs.declared.mrp.MrpEvent.{MrpEvent}
+use Rattle.std.specs.{declared.cmp.Ordering.Ordering, declared.option.Option.Option, declared.option.Option.TheVariants.None, declared.option.Option.TheVariants.Some}
+use Rattle.srp_base.specs.declared.{numbers.Cs.Cs, mrp.MrpEvent.MrpEvent}
 use Rattle.srp_base.specs.declared.mrp.MrpEvent.TheVariants.{New, JoinIn, OnlyIn, JoinMt, OnlyMt, Lv}
-use Rattle.applicant.specs.declared.Applicant.{Applicant}
-use Rattle.applicant.specs.declared.Applicant.TheVariants.{Vo}
-use Rattle.applicant.specs.declared.AppEvent.{AppEvent}
+use Rattle.applicant.specs.declared.{Applicant.Applicant, Applicant.TheVariants.Vo, AppEvent.AppEvent}
 use Rattle.applicant.specs.declared.AppEvent.TheVariants.{RxIn, RxMt, RxLv as AppRxLv, RxLeaveAll as AppRxLeaveAll, Periodic}
 use Rattle.applicant.specs.Table as applicant
-use Rattle.registrar.specs.declared.Registrar.{Registrar}
-use Rattle.registrar.specs.declared.Registrar.TheVariants.{Empty}
-use Rattle.registrar.specs.declared.RegEvent.{RegEvent}
+use Rattle.registrar.specs.declared.{Registrar.Registrar, Registrar.TheVariants.Empty, RegEvent.RegEvent}
 use Rattle.registrar.specs.declared.RegEvent.TheVariants.{RxNew, RxJoin, RxLv, RxLeaveAll, LeaveTimer}
 use Rattle.registrar.specs.Table as registrar
 use Rattle.registrar.specs.Table.{is_in, is_leaving}

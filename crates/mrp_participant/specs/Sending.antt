@@ -1,24 +1,18 @@
 -- What a participant says when it may send (IEEE Std 802.1Q-2018, 10.7.6 and 10.8): which rows are taken
 -- into the PDU, what they say, and what becomes of them. The order and the limit are this project's.
 use Rattle.std.specs.Prelude.{◌≡◌, ℕ, ◌+◌, ◌<◌, ◌≤◌, Bool, true, false, ◌&&◌, not, if◌then◌else◌, nat_le, ◌==◌, List, [], ◌∷◌, ◌++◌, filter, sum_by}
-use Rattle.std.specs.declared.option.Option.{Option}
-use Rattle.std.specs.declared.option.Option.TheVariants.{None, Some}
-use Rattle.std.specs.declared.cmp.Ordering.{Ordering}
-use Rattle.srp_base.specs.declared.numbers.Cs.{Cs}
-use Rattle.srp_base.specs.declared.mrp.MrpEvent.{MrpEvent}
+use Rattle.std.specs.{declared.option.Option.Option, declared.option.Option.TheVariants.None, declared.option.Option.TheVariants.Some, declared.cmp.Ordering.Ordering}
+use Rattle.srp_base.specs.declared.{numbers.Cs.Cs, mrp.MrpEvent.MrpEvent}
 use Rattle.srp_base.specs.declared.mrp.MrpEvent.TheVariants.{New, JoinIn, JoinMt, Lv}
-use Rattle.applicant.specs.declared.Applicant.{Applicant}
+use Rattle.applicant.specs.declared.{Applicant.Applicant, AppEvent.AppEvent, Say.Say}
 use Rattle.applicant.specs.declared.Applicant.TheVariants.{Vo, Vp, Vn, An, Aa, Qa, La}
-use Rattle.applicant.specs.declared.AppEvent.{AppEvent}
 use Rattle.applicant.specs.declared.AppEvent.TheVariants.{Tx, TxLeaveAll, TxLeaveAllFull}
-use Rattle.applicant.specs.declared.Say.{Say}
 use Rattle.applicant.specs.declared.Say.TheVariants.{Quiet, New as SayNew, Join as SayJoin, Lv as SayLv}
 use Rattle.applicant.specs.Table as applicant
 use Rattle.registrar.specs.declared.RegEvent.TheVariants.{TxLeaveAll as RegTxLeaveAll}
 use Rattle.mrp_participant.specs.declared.row.Row.{Row}
-use Rattle.mrp_participant.specs.Lookup.{same}
+use Rattle.mrp_participant.specs.{Lookup.same, Row.kept_row, Row.applicant_takes, Row.registrar_takes}
 use Rattle.registrar.specs.Table.{is_in}
-use Rattle.mrp_participant.specs.Row.{kept_row, applicant_takes, registrar_takes}
 
 -- the round in which an applicant's row is tried, or 0: without LeaveAll those in VP, VN and LA first,
 -- then those in AN and AA

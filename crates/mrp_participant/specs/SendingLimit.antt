@@ -1,12 +1,8 @@
 -- How the code finds which rows are taken: as those before the first row for which there is no room. That
 -- it is the test of `Sending` is proved, and no public contract names this file.
 use Rattle.std.specs.Prelude.{ℕ, ◌+◌, Bool, true, ◌&&◌, ◌||◌, if◌then◌else◌, nat_le, nat_lt, ◌==◌, List, [], ◌∷◌}
-use Rattle.std.specs.declared.option.Option.{Option}
-use Rattle.std.specs.declared.option.Option.TheVariants.{None, Some}
-use Rattle.std.specs.declared.cmp.Ordering.{Ordering}
-use Rattle.std.specs.Ordering.{is_lt}
-use Rattle.mrp_participant.specs.declared.row.Row.{Row}
-use Rattle.mrp_participant.specs.declared.sending_limit.SendingLimit.{SendingLimit}
+use Rattle.std.specs.{declared.option.Option.Option, declared.option.Option.TheVariants.None, declared.option.Option.TheVariants.Some, declared.cmp.Ordering.Ordering, Ordering.is_lt}
+use Rattle.mrp_participant.specs.declared.{row.Row.Row, sending_limit.SendingLimit.SendingLimit}
 use Rattle.mrp_participant.specs.Sending.{round, is_tried}
 
 -- the place of a row in the order: its round, and its key

@@ -1,23 +1,12 @@
 -- A participant as contracts see it, and the participant after each call (IEEE Std 802.1Q-2018, 10.7).
 use Rattle.std.specs.Prelude.{◌≡◌, ℕ, ◌+◌, ◌≤◌, Bool, true, false, ◌&&◌, ◌||◌, not, if◌then◌else◌, nat_le, List, [], map, filter, length, fold}
-use Rattle.std.specs.declared.option.Option.{Option}
-use Rattle.std.specs.declared.option.Option.TheVariants.{Some}
-use Rattle.std.specs.declared.cmp.Ordering.{Ordering}
-use Rattle.std.specs.List.{filter_map, list_any, list_all}
-use Rattle.srp_base.specs.declared.numbers.Cs.{Cs}
-use Rattle.srp_base.specs.declared.mrp.MrpEvent.{MrpEvent}
-use Rattle.leaveall.specs.declared.LeaveAll.{LeaveAll}
-use Rattle.leaveall.specs.declared.LeaveAll.TheVariants.{Active, Passive}
-use Rattle.leaveall.specs.declared.LaEvent.{LaEvent}
+use Rattle.std.specs.{declared.option.Option.Option, declared.option.Option.TheVariants.Some, declared.cmp.Ordering.Ordering, List.filter_map, List.list_any, List.list_all, List.AllByRecursion, Option.option_eq}
+use Rattle.srp_base.specs.declared.{numbers.Cs.Cs, mrp.MrpEvent.MrpEvent}
+use Rattle.leaveall.specs.declared.{LeaveAll.LeaveAll, LeaveAll.TheVariants.Active, LeaveAll.TheVariants.Passive, LaEvent.LaEvent, Periodic.Periodic}
 use Rattle.leaveall.specs.declared.LaEvent.TheVariants.{Timer, Rx, Tx}
-use Rattle.leaveall.specs.declared.Periodic.{Periodic}
 use Rattle.leaveall.specs.Table as leaveall
 use Rattle.mrp_participant.specs.declared.row.Row.{Row}
-use Rattle.std.specs.List.{AllByRecursion}
-use Rattle.mrp_participant.specs.Lookup.{Ascends, key_of, find, put}
-use Rattle.std.specs.Option.{option_eq}
-use Rattle.mrp_participant.specs.Row.{is_live, after_declare, after_withdraw, after_leave, after_hear, leave_all_row, declared_in, registered_in, leave_is_due, after_leave_due, periodic_row, is_settled}
-use Rattle.mrp_participant.specs.Sending.{is_taken, is_tried, sent_row, sent_event}
+use Rattle.mrp_participant.specs.{Lookup.Ascends, Lookup.key_of, Lookup.find, Lookup.put, Row.is_live, Row.after_declare, Row.after_withdraw, Row.after_leave, Row.after_hear, Row.leave_all_row, Row.declared_in, Row.registered_in, Row.leave_is_due, Row.after_leave_due, Row.periodic_row, Row.is_settled, Sending.is_taken, Sending.is_tried, Sending.sent_row, Sending.sent_event}
 
 -- the rows ascending by key, the LeaveAll machine with the moment of its timer and its period, the time
 -- of a leave timer, the periodic machine, and the mark of soundness

@@ -4,8 +4,7 @@
 //! comes first.
 
 ghost use Rattle.std.specs.Prelude.{◌≡◌, ◌<◌, ◌≤◌, ◌+◌, [], ◌∷◌, ◌++◌, ◌⊎◌, map, length, take, drop, true, Some, IsSome, option_map, OnOk, OnErr, IfOk};
-ghost use Rattle.std.specs.Option.{is_some};
-ghost use Rattle.std.specs.List.{AllByRecursion, list_all};
+ghost use Rattle.std.specs.{Option.is_some, List.AllByRecursion, List.list_all};
 ghost use Rattle.mrp_participant.specs.Lookup.{Ascends, key_of, find, put};
 ghost use Rattle.mrp_participant.specs.Row.{after_hear, row_after_receive};
 ghost use Rattle.mrp_participant.specs.Outlook.{IsOutlook, Tells};

@@ -2,8 +2,7 @@
 //! Each is a function that does nothing; calling it brings the law to a proof.
 
 ghost use Rattle.std.specs.Prelude.{◌≡◌, ◌≢◌, ◌⊎◌, ◌↔◌, ℕ, ◌+◌, ◌≤◌, Bool, true, false, not, ◌&&◌, if◌then◌else◌, List, [], length, map, filter, sum_by, slice_get, Contains, IsSome, None, Some, option_map, option_and_then, option_to_list};
-ghost use Rattle.srp_base.specs.declared.numbers.Cs.{Cs};
-ghost use Rattle.srp_base.specs.declared.mrp.MrpEvent.{MrpEvent};
+ghost use Rattle.srp_base.specs.declared.{numbers.Cs.Cs, mrp.MrpEvent.MrpEvent};
 ghost use Rattle.leaveall.specs.declared.LeaveAll.TheVariants.{Passive};
 ghost use Rattle.applicant.specs.declared.Applicant.TheVariants.{Vo};
 ghost use Rattle.registrar.specs.declared.Registrar.TheVariants.{Empty};

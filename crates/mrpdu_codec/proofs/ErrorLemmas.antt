@@ -1,22 +1,12 @@
 -- What a reader's error says, and what `decode` makes of it.
 use Rattle.std.proofs.Common.{◌≡◌, ℕ, ◌-◌, ◌≤◌, List, length, take, Option, Result, Ok, Err, refl, ap, subst, ◌∙◌, arith}
 use Rattle.std.proofs.lemmas.Result.{MatchResult-at_ok, MatchResult-at_err}
-use Rattle.mrpdu_codec.specs.declared.error.DecodeErr.{DecodeErr}
+use Rattle.mrpdu_codec.specs.{DecodeErr, AppForm, TypeForm, Pdu, pdu_in, IsWithin, decode_err_of, Spells, Breaks, Fails, region_at, pdu_at, placed_in, reading, place_told}
 use Rattle.mrpdu_codec.specs.declared.error.DecodeErr.TheVariants as decode_errors
 use Rattle.mrpdu_codec.specs.declared.error.ReadErr.{ReadErr}
 use Rattle.mrpdu_codec.specs.declared.error.ReadErr.TheVariants as errors
-use Rattle.mrpdu_codec.specs.declared.form.AppForm.{AppForm}
-use Rattle.mrpdu_codec.specs.declared.form.TypeForm.{TypeForm}
-use Rattle.mrpdu_codec.specs.declared.pdu.Pdu.{Pdu}
-use Rattle.mrpdu_codec.specs.Raw.{pdu_in}
-use Rattle.mrpdu_codec.specs.ReadErr.{IsWithin, decode_err_of}
 use Rattle.srp_base.specs.Results.{Gives}
-use Rattle.mrpdu_codec.specs.Grammar.{Spells, Breaks}
-use Rattle.mrpdu_codec.specs.ReadErr.{Fails}
-use Rattle.mrpdu_codec.specs.Reading.{region_at, pdu_at, placed_in, reading, place_told}
-use Rattle.mrpdu_codec.proofs.ReadRegions.{region_left}
-use Rattle.mrpdu_codec.proofs.ReadMessages.{reading_holds}
-use Rattle.mrpdu_codec.proofs.SpelledMessages.{spells_reads, breaks_reads}
+use Rattle.mrpdu_codec.proofs.{ReadRegions.region_left, ReadMessages.reading_holds, SpelledMessages.spells_reads, SpelledMessages.breaks_reads}
 
 pub region_within : (e : ReadErr) (row : Option TypeForm) (len size : ℕ) (octets : List ℕ) → Fails e (region_at row len size (take size octets)) → IsWithin e (length (take size octets))
 region_within errors.NoMemory row len size octets h = tt

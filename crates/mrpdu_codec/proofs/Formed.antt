@@ -1,18 +1,9 @@
 -- What a PDU that octets spell looks like: known types, and vectors of their forms.
 use Rattle.std.proofs.Common.{◌≡◌, ℕ, zero, suc, ◌*◌, ◌/◌, ◌%◌, ◌<◌, Bool, true, false, cond, leb, ltb, eqb, ◌&&◌, ◌||◌, inl, inr, List, [], ◌∷◌, ◌++◌, length, take, map, Option, Some, None, refl, sym, ap, ◌∙◌, length-append, arith}
 use Rattle.std.specs.List.{flat_map, list_all}
-use Rattle.std.proofs.lemmas.Bool.{cases_Bool, and_from, and_parts, le-leb, lt-ltb, eq-eqb, eqb-true, ltb-false}
-use Rattle.std.proofs.lemmas.List.{length-take-le}
-use Rattle.mrpdu_codec.specs.declared.form.AppForm.{AppForm}
-use Rattle.mrpdu_codec.specs.declared.form.AppForm.TheVariants.{Mvrp, Msrp, Mmrp}
-use Rattle.mrpdu_codec.specs.declared.form.TypeForm.{TypeForm}
-use Rattle.mrpdu_codec.specs.declared.pdu.Pdu.{Pdu}
-use Rattle.mrpdu_codec.specs.Octets.{quarters, three_events, four_params}
-use Rattle.mrpdu_codec.specs.Types.{row_of}
-use Rattle.mrpdu_codec.specs.Tree.{Vector, header, count, AllUpTo, IsVector, AreVectors, attr_of, AttributeList, list_attrs, IsBody, length_fits, MessageTree, AreMessages, messages_from, messages_meant}
+use Rattle.std.proofs.lemmas.{Bool.cases_Bool, Bool.and_from, Bool.and_parts, Bool.le-leb, Bool.lt-ltb, Bool.eq-eqb, Bool.eqb-true, Bool.ltb-false, List.length-take-le}
+use Rattle.mrpdu_codec.specs.{AppForm, Mvrp, Msrp, Mmrp, TypeForm, Pdu, quarters, three_events, four_params, row_of, Vector, header, count, AllUpTo, IsVector, AreVectors, attr_of, AttributeList, list_attrs, IsBody, length_fits, MessageTree, AreMessages, messages_from, messages_meant, Spells, vector_fits, vectors_fit, has_form}
 use Rattle.mrpdu_codec.specs.Tree.AttributeList.{Vectors, Skipped}
-use Rattle.mrpdu_codec.specs.Grammar.{Spells}
-use Rattle.mrpdu_codec.specs.Shape.{vector_fits, vectors_fit, has_form}
 
 -- ---- lists
 

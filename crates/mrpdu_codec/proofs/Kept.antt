@@ -1,14 +1,7 @@
 -- Of what was read, what is kept.
 use Rattle.std.proofs.Common.{◌≡◌, ℕ, List, [], Option, Some, None, Result, Ok, Err, refl}
-use Rattle.mrpdu_codec.specs.declared.form.AppForm.{AppForm}
-use Rattle.mrpdu_codec.specs.declared.form.TypeForm.{TypeForm}
-use Rattle.mrpdu_codec.specs.declared.pdu.VectorAttr.{VectorAttr}
-use Rattle.mrpdu_codec.specs.declared.pdu.Message.{Message}
-use Rattle.mrpdu_codec.specs.Types.{row_of}
-use Rattle.mrpdu_codec.specs.Tree.{messages_from}
+use Rattle.mrpdu_codec.specs.{AppForm, TypeForm, VectorAttr, Message, row_of, messages_from, vectors_of, mark_at, list_at, length_at, body_at, message_at, list_kept}
 use Rattle.srp_base.specs.Results.{◌>>=◌}
-use Rattle.mrpdu_codec.specs.Reading.{vectors_of, mark_at, list_at, length_at, body_at, message_at}
-use Rattle.mrpdu_codec.specs.ReadErr.{list_kept}
 
 -- all of a known type
 pub kept_some : (t : TypeForm) (read : Result (List VectorAttr × List ℕ) ℕ) → list_kept (Some t) read ≡ read

@@ -1,6 +1,6 @@
 -- A vector and a Message take two octets or more.
 use Rattle.std.proofs.Common.{◌≡◌, ℕ, suc, ◌+◌, ◌≤◌, List, ◌++◌, length, ap, length-append, arith}
-use Rattle.mrpdu_codec.specs.Tree.{Vector, vector_octets, MessageTree, message_octets, list_octets}
+use Rattle.mrpdu_codec.specs.{Vector, vector_octets, MessageTree, message_octets, list_octets}
 
 pub vector_longer : (octets : List ℕ) (v : Vector) (rest : List ℕ) → octets ≡ vector_octets v ++ rest → length rest + 2 ≤ length octets
 vector_longer octets v rest e =

@@ -1,12 +1,9 @@
 -- What loops over octets have at their ends.
 use Rattle.std.proofs.Common.{◌≡◌, ℕ, zero, suc, ◌+◌, ◌-◌, ◌<◌, ◌≤◌, min, Bool, true, List, [], ◌∷◌, ◌++◌, length, get_or, take, drop, map, Result, Ok, Err, refl, sym, ap, subst, ◌∙◌, arith}
-use Rattle.std.proofs.lemmas.List.{take-append-drop, length-take-le, length-drop, drop_all, drop_more, take_more, flat_map_more, map_push}
-use Rattle.std.proofs.lemmas.Bool.{and_parts}
+use Rattle.std.proofs.lemmas.{List.take-append-drop, List.length-take-le, List.length-drop, List.drop_all, List.drop_more, List.take_more, List.flat_map_more, List.map_push, Bool.and_parts}
 use Rattle.std.specs.List.{flat_map, list_all}
 use Rattle.std.specs.Prelude.{IsErrAnd, IfOk}
-use Rattle.mrpdu_codec.specs.Tree.{AllUpTo}
-use Rattle.mrpdu_codec.specs.Grammar.{OctetBreaks}
-use Rattle.mrpdu_codec.specs.Reading.{packed_at}
+use Rattle.mrpdu_codec.specs.{AllUpTo, OctetBreaks, packed_at}
 use Rattle.mrpdu_codec.proofs.SpelledVectors.{packed_reads, packed_stops}
 
 stops : (limit n i : ℕ) (octets : List ℕ) → i < n → i ≤ length octets → AllUpTo limit (take i octets) → OctetBreaks limit (drop i octets) → packed_at limit n octets ≡ Err (length octets - i)

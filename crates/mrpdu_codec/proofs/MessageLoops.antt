@@ -1,18 +1,11 @@
 -- The loop over Messages: one step on, and the end, of what is still read.
 use Rattle.std.proofs.Common.{◌≡◌, ℕ, zero, suc, ◌<◌, ◌≤◌, Bool, true, false, cond, eqb, List, [], ◌∷◌, ◌++◌, length, Some, None, Result, Ok, Err, refl, sym, ap, ◌∙◌, append_assoc, arith}
-use Rattle.std.proofs.lemmas.List.{append-nil}
-use Rattle.std.proofs.lemmas.Bool.{eqb-false}
-use Rattle.std.proofs.lemmas.Result.{MatchResult-at_ok}
-use Rattle.mrpdu_codec.specs.declared.form.AppForm.{AppForm}
+use Rattle.std.proofs.lemmas.{List.append-nil, Bool.eqb-false, Result.MatchResult-at_ok}
+use Rattle.mrpdu_codec.specs.{AppForm, Message, message_at, end_at, type_at, messages_at, messages_of, Fails}
 use Rattle.mrpdu_codec.specs.declared.error.ReadErr.{ReadErr}
 use Rattle.mrpdu_codec.specs.declared.error.ReadErr.TheVariants as errors
-use Rattle.mrpdu_codec.specs.declared.pdu.Message.{Message}
 use Rattle.srp_base.specs.Results.{◌>>=◌}
-use Rattle.mrpdu_codec.specs.Reading.{message_at, end_at, type_at, messages_at, messages_of}
-use Rattle.mrpdu_codec.specs.ReadErr.{Fails}
-use Rattle.mrpdu_codec.proofs.Steps.{same_after, same_choice}
-use Rattle.mrpdu_codec.proofs.ReadMessages.{TookMessage, message_match}
-use Rattle.mrpdu_codec.proofs.Longer.{message_longer}
+use Rattle.mrpdu_codec.proofs.{Steps.same_after, Steps.same_choice, ReadMessages.TookMessage, ReadMessages.message_match, Longer.message_longer}
 
 -- ---- where a Message begins
 

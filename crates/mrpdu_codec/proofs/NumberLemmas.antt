@@ -1,11 +1,10 @@
 -- Numbers in octets, the high one first.
 use Rattle.std.proofs.Common.{◌≡◌, ℕ, zero, suc, ◌+◌, ◌-◌, ◌*◌, ◌/◌, ◌%◌, ◌^◌, ◌<◌, ◌≤◌, List, [], ◌∷◌, length, get_or, take, drop, refl, sym, ap, ◌∙◌, add_assoc, arith}
-use Rattle.std.specs.List.{fold}
-use Rattle.std.specs.Int.{byte_at, bytes_high_first}
+use Rattle.std.specs.{List.fold, Int.byte_at, Int.bytes_high_first}
 use Rattle.std.proofs.Math.Nat.{add-mul, div-add-mod', div-one, mod-eq_of_lt, mod-lt, mul-add-mod_self_right, mul-le-mul_right, mul_assoc, one-le-pow, pow-suc, pow-succ'}
 use Rattle.std.proofs.lemmas.List.Sums.{fold_more}
 use Rattle.srp_base.specs.Hexadecimal.{number_high_first}
-use Rattle.mrpdu_codec.specs.Canonical.{two_octets}
+use Rattle.mrpdu_codec.specs.{two_octets}
 
 -- ---- reading
 

@@ -2,17 +2,8 @@
 use Rattle.std.proofs.Common.{◌≡◌, ℕ, suc, ◌<◌, List, [], ◌∷◌, ◌++◌, map, Option, Some, None, sym, subst}
 use Rattle.std.specs.Prelude.{slice_index}
 use Rattle.std.specs.List.{AllByRecursion, flat_map}
-use Rattle.mrpdu_codec.specs.declared.form.AppForm.{AppForm}
-use Rattle.mrpdu_codec.specs.declared.form.TypeForm.{TypeForm}
-use Rattle.mrpdu_codec.specs.declared.pdu.VectorAttr.{VectorAttr}
-use Rattle.mrpdu_codec.specs.declared.pdu.Message.{Message}
-use Rattle.mrpdu_codec.specs.declared.pdu.Pdu.{Pdu}
-use Rattle.mrpdu_codec.specs.Octets.{AreOctets}
-use Rattle.mrpdu_codec.specs.Types.{row_of}
-use Rattle.mrpdu_codec.specs.Tree.{Vector, attr_of, vector_octets, vectors_octets, AttributeList, list_octets, list_attrs, MessageTree, message_octets, messages_octets, messages_from, messages_meant, after_octets}
+use Rattle.mrpdu_codec.specs.{AppForm, TypeForm, VectorAttr, Message, Pdu, AreOctets, row_of, Vector, attr_of, vector_octets, vectors_octets, AttributeList, list_octets, list_attrs, MessageTree, message_octets, messages_octets, messages_from, messages_meant, after_octets, Spells, HasOctets}
 use Rattle.mrpdu_codec.specs.Tree.AttributeList.{Vectors, Skipped}
-use Rattle.mrpdu_codec.specs.Grammar.{Spells}
-use Rattle.mrpdu_codec.specs.Shape.{HasOctets}
 
 -- a part of octets is octets
 front : (xs ys : List ℕ) → AreOctets (xs ++ ys) → AreOctets xs

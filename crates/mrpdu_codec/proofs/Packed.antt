@@ -1,13 +1,10 @@
 -- Events and parameters that are packed are unpacked again.
 use Rattle.std.proofs.Common.{◌≡◌, ℕ, zero, suc, ◌+◌, ◌-◌, ◌*◌, ◌/◌, ◌%◌, ◌<◌, ◌≤◌, min, true, leb, List, [], ◌∷◌, ◌++◌, length, get_or, take, drop, refl, ap, ◌∙◌, arith}
-use Rattle.std.proofs.lemmas.List.{length-drop, take_all}
+use Rattle.std.proofs.lemmas.{List.length-drop, List.take_all, Bool.and_parts, Bool.leb-true}
 use Rattle.std.specs.List.{flat_map, list_all}
-use Rattle.std.proofs.lemmas.Bool.{and_parts, leb-true}
 use Rattle.srp_base.specs.declared.mrp.MrpEvent.{MrpEvent}
 use Rattle.srp_base.specs.declared.mrp.MrpEvent.TheVariants.{New, JoinIn, OnlyIn, JoinMt, OnlyMt, Lv}
-use Rattle.mrpdu_codec.specs.Octets.{thirds, quarters, event_numbered, event_number, three_events, four_params}
-use Rattle.mrpdu_codec.specs.Tree.{AllUpTo}
-use Rattle.mrpdu_codec.specs.Canonical.{three, pack_events, four, pack_params}
+use Rattle.mrpdu_codec.specs.{thirds, quarters, event_numbered, event_number, three_events, four_params, AllUpTo, three, pack_events, four, pack_params}
 
 -- ---- events
 

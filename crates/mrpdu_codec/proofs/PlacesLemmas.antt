@@ -1,14 +1,7 @@
 -- Walks over the octets of a PDU: one step on, and the end.
 use Rattle.std.proofs.Common.{◌≡◌, ℕ, zero, suc, ◌-◌, ◌<◌, ◌≤◌, true, false, eqb, ◌&&◌, inl, inr, List, [], ◌∷◌, ◌++◌, length, drop, slice_get, Option, Some, None, is_some, refl, sym, ap, ◌∙◌, arith}
-use Rattle.std.proofs.lemmas.Bool.{cases_Bool, eqb-true}
-use Rattle.std.proofs.lemmas.List.{length-drop}
-use Rattle.std.proofs.lemmas.Option.{some_pair_parts}
-use Rattle.mrpdu_codec.specs.declared.form.AppForm.{AppForm}
-use Rattle.mrpdu_codec.specs.declared.form.AppForm.TheVariants.{Mvrp, Msrp, Mmrp}
-use Rattle.mrpdu_codec.specs.declared.form.TypeForm.{TypeForm}
-use Rattle.mrpdu_codec.specs.Octets.{number}
-use Rattle.mrpdu_codec.specs.Types.{row_of}
-use Rattle.mrpdu_codec.specs.Places.{span_of, header_in, places_in, behind_vectors, body_places, behind_body, known_places, kind_in, places_from, first_value_place}
+use Rattle.std.proofs.lemmas.{Bool.cases_Bool, Bool.eqb-true, List.length-drop, Option.some_pair_parts}
+use Rattle.mrpdu_codec.specs.{AppForm, Mvrp, Msrp, Mmrp, TypeForm, number, row_of, span_of, header_in, places_in, behind_vectors, body_places, behind_body, known_places, kind_in, places_from, first_value_place}
 
 -- what a header that is there says of its octets
 header_parts : (header high low : ℕ) (octets after : List ℕ) → header_in (high ∷ low ∷ octets) ≡ Some (header, after)

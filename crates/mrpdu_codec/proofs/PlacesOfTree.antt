@@ -1,15 +1,8 @@
 -- The places that a walk over the octets gives are those of the syntax tree.
 use Rattle.std.proofs.Common.{◌≡◌, ℕ, ◌+◌, ◌-◌, ◌⊎◌, inl, inr, List, [], ◌∷◌, ◌++◌, length, take, drop, Option, Some, None, refl, sym, ap, ◌∙◌, append_assoc, length-append, arith}
-use Rattle.std.proofs.lemmas.Bool.{ne_eqb}
-use Rattle.std.proofs.lemmas.List.{append-nil, drop_at, drop_all, take_at}
-use Rattle.mrpdu_codec.specs.declared.form.AppForm.{AppForm}
-use Rattle.mrpdu_codec.specs.declared.form.AppForm.TheVariants.{Mvrp, Msrp, Mmrp}
-use Rattle.mrpdu_codec.specs.declared.form.TypeForm.{TypeForm}
-use Rattle.mrpdu_codec.specs.Octets.{number}
-use Rattle.mrpdu_codec.specs.Types.{row_of}
-use Rattle.mrpdu_codec.specs.Tree.{Vector, header, IsVector, AreVectors, vector_octets, vectors_octets, AttributeList, list_octets, MessageTree, message_octets, messages_octets, IsBody, AreMessages, MrpduTree, tree_octets, after_octets, IsPduTree}
+use Rattle.std.proofs.lemmas.{Bool.ne_eqb, List.append-nil, List.drop_at, List.drop_all, List.take_at}
+use Rattle.mrpdu_codec.specs.{AppForm, Mvrp, Msrp, Mmrp, TypeForm, number, row_of, Vector, header, IsVector, AreVectors, vector_octets, vectors_octets, AttributeList, list_octets, MessageTree, message_octets, messages_octets, IsBody, AreMessages, MrpduTree, tree_octets, after_octets, IsPduTree, span_of, header_in, places_in, behind_vectors, body_places, behind_body, known_places, places_from, first_places, vector_places, list_places, message_places, messages_places, tree_places}
 use Rattle.mrpdu_codec.specs.Tree.AttributeList.{Vectors, Skipped}
-use Rattle.mrpdu_codec.specs.Places.{span_of, header_in, places_in, behind_vectors, body_places, behind_body, known_places, places_from, first_places, vector_places, list_places, message_places, messages_places, tree_places}
 use Rattle.mrpdu_codec.proofs.PlacesLemmas.{places_step, places_end, behind_step, behind_end, from_step, from_end}
 
 -- ---- vectors

@@ -2,15 +2,8 @@
 use Rattle.std.proofs.Common.{◌≡◌, ℕ, ◌+◌, List, [], ◌∷◌, ◌++◌, length, take, drop, map, Option, Some, None, refl, sym, ap, ◌∙◌, append_assoc, length-append, arith}
 use Rattle.std.specs.List.{flat_map}
 use Rattle.std.proofs.lemmas.List.{drop_at, take_at}
-use Rattle.mrpdu_codec.specs.declared.form.AppForm.{AppForm}
-use Rattle.mrpdu_codec.specs.declared.form.TypeForm.{TypeForm}
-use Rattle.mrpdu_codec.specs.declared.pdu.Message.{Message}
-use Rattle.mrpdu_codec.specs.declared.pdu.Pdu.{Pdu}
-use Rattle.mrpdu_codec.specs.Types.{row_of}
-use Rattle.mrpdu_codec.specs.Tree.{Vector, attr_of, vector_octets, vectors_octets, AttributeList, list_octets, list_attrs, MessageTree, message_octets, messages_octets, messages_from, messages_meant, MrpduTree, tree_octets, after_octets, pdu_of}
+use Rattle.mrpdu_codec.specs.{AppForm, TypeForm, Message, Pdu, row_of, Vector, attr_of, vector_octets, vectors_octets, AttributeList, list_octets, list_attrs, MessageTree, message_octets, messages_octets, messages_from, messages_meant, MrpduTree, tree_octets, after_octets, pdu_of, Spells, vector_places, list_places, known_places, messages_places, tree_places, first_places, StandAt, AllStandAt}
 use Rattle.mrpdu_codec.specs.Tree.AttributeList.{Vectors, Skipped}
-use Rattle.mrpdu_codec.specs.Grammar.{Spells}
-use Rattle.mrpdu_codec.specs.Places.{vector_places, list_places, known_places, messages_places, tree_places, first_places, StandAt, AllStandAt}
 use Rattle.mrpdu_codec.proofs.PlacesOfTree.{tree_walked}
 
 -- vectors stand behind some octets, and before others

@@ -1,10 +1,7 @@
 -- What was read in place has LeaveAll where it says so.
 use Rattle.std.proofs.Common.{◌≡◌, List, [], ◌∷◌, map, refl}
 use Rattle.std.specs.List.{list_any}
-use Rattle.mrpdu_codec.specs.declared.raw.RawVector.{RawVector}
-use Rattle.mrpdu_codec.specs.declared.raw.RawMessage.{RawMessage}
-use Rattle.mrpdu_codec.specs.Raw.{attr_in, message_in, leaves_in_place}
-use Rattle.mrpdu_codec.specs.Shape.{message_leaves}
+use Rattle.mrpdu_codec.specs.{RawVector, RawMessage, attr_in, message_in, leaves_in_place, message_leaves}
 
 vectors_leave : (raws : List RawVector) → list_any (λ v. v.leave_all) (map attr_in raws) ≡ list_any leaves_in_place raws
 vectors_leave [] = refl

@@ -2,20 +2,10 @@
 use Rattle.std.proofs.Common.{◌≡◌, ℕ, zero, suc, ◌+◌, ◌-◌, ◌<◌, ◌≤◌, true, cond, eqb, List, [], ◌∷◌, ◌++◌, length, Option, Some, None, Ok, Err, MatchResult, refl, sym, ap, subst, ◌∙◌, append_assoc, length-append, arith}
 use Rattle.std.specs.List.{flat_map}
 use Rattle.std.proofs.lemmas.Bool.{eqb-false, eqb-true}
-use Rattle.mrpdu_codec.specs.declared.form.AppForm.{AppForm}
-use Rattle.mrpdu_codec.specs.declared.form.TypeForm.{TypeForm}
-use Rattle.mrpdu_codec.specs.declared.pdu.VectorAttr.{VectorAttr}
-use Rattle.mrpdu_codec.specs.declared.pdu.Message.{Message}
-use Rattle.mrpdu_codec.specs.declared.pdu.Pdu.{Pdu}
-use Rattle.mrpdu_codec.specs.Types.{row_of}
-use Rattle.mrpdu_codec.specs.Tree.{MessageTree, IsMessage, message_octets, messages_octets, length_fits, list_octets, messages_from, messages_meant, AreMessages, after_octets}
-use Rattle.mrpdu_codec.specs.Grammar.{LengthBreaks, LaterTypeBreaks, MessageBreaks, AreClosed, PduBreaks, Spells, Breaks}
+use Rattle.mrpdu_codec.specs.{AppForm, TypeForm, VectorAttr, Message, Pdu, row_of, MessageTree, IsMessage, message_octets, messages_octets, length_fits, list_octets, messages_from, messages_meant, AreMessages, after_octets, LengthBreaks, LaterTypeBreaks, MessageBreaks, AreClosed, PduBreaks, Spells, Breaks, body_at, length_at, message_at, end_at, messages_at, messages_of, version_at, first_type_at, pdu_at}
 use Rattle.mrpdu_codec.specs.Grammar.MessageBreaks.{len as length_breaks, body as body_breaks}
 use Rattle.mrpdu_codec.specs.Grammar.PduBreaks.{version as version_breaks, first_type, later_type, message as message_breaks}
-use Rattle.mrpdu_codec.specs.Reading.{body_at, length_at, message_at, end_at, messages_at, messages_of, version_at, first_type_at, pdu_at}
-use Rattle.mrpdu_codec.proofs.Longer.{message_longer}
-use Rattle.mrpdu_codec.proofs.Steps.{then_match, test_match, weaker_match, Broken}
-use Rattle.mrpdu_codec.proofs.ReadRegions.{body_match}
+use Rattle.mrpdu_codec.proofs.{Longer.message_longer, Steps.then_match, Steps.test_match, Steps.weaker_match, Steps.Broken, ReadRegions.body_match}
 
 -- ---- a Message
 

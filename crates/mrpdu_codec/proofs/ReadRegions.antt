@@ -1,22 +1,12 @@
 -- What stands after AttributeLength: what a reader takes there is a region of the grammar with its
 -- EndMark, and where it stops a field breaks.
 use Rattle.std.proofs.Common.{◌≡◌, ℕ, ◌+◌, ◌<◌, ◌≤◌, true, leb, ltb, eqb, List, [], ◌∷◌, ◌++◌, length, take, drop, map, Option, Some, None, Result, Ok, Err, MatchResult, ◌⊎◌, inl, inr, refl, sym, ap, subst, ◌∙◌, append_assoc, length-append, arith}
-use Rattle.std.proofs.lemmas.Bool.{false≢true, cases_lt, ltb-false, leb-true, leb-false, ltb-true, eqb-false, eqb-true}
-use Rattle.std.proofs.lemmas.List.{append-nil, take-append-drop, length-take, length-drop, length-take-le, drop_all, drop-drop, nil_from_length}
-use Rattle.mrpdu_codec.specs.declared.form.AppForm.{AppForm}
-use Rattle.mrpdu_codec.specs.declared.form.AppForm.TheVariants.{Mvrp, Msrp, Mmrp}
-use Rattle.mrpdu_codec.specs.declared.form.TypeForm.{TypeForm}
-use Rattle.mrpdu_codec.specs.declared.pdu.VectorAttr.{VectorAttr}
-use Rattle.mrpdu_codec.specs.Octets.{number}
-use Rattle.mrpdu_codec.specs.Tree.{Vector, vectors_octets, AreVectors, attr_of, AttributeList, IsEndMark, IsBody, list_octets, list_attrs}
+use Rattle.std.proofs.lemmas.{Bool.false≢true, Bool.cases_lt, Bool.ltb-false, Bool.leb-true, Bool.leb-false, Bool.ltb-true, Bool.eqb-false, Bool.eqb-true, List.append-nil, List.take-append-drop, List.length-take, List.length-drop, List.length-take-le, List.drop_all, List.drop-drop, List.nil_from_length, Result.MatchResult-at_err}
+use Rattle.mrpdu_codec.specs.{AppForm, Mvrp, Msrp, Mmrp, TypeForm, VectorAttr, number, Vector, vectors_octets, AreVectors, attr_of, AttributeList, IsEndMark, IsBody, list_octets, list_attrs, EndMarkBreaks, ListLengthBreaks, ListBreaks, RegionBreaks, IsRegion, CountedBreaks, BodyBreaks, before, ends_list, vectors_of, mark_at, list_at, region_at, known_at, unknown_at, size_at, sized_at, counted_at, body_at}
 use Rattle.mrpdu_codec.specs.Tree.AttributeList.{Vectors, Skipped}
-use Rattle.mrpdu_codec.specs.Grammar.{EndMarkBreaks, ListLengthBreaks, ListBreaks, RegionBreaks, IsRegion, CountedBreaks, BodyBreaks}
 use Rattle.mrpdu_codec.specs.Grammar.RegionBreaks.{vector as region_vector, end_mark as region_mark, short as region_short}
 use Rattle.mrpdu_codec.specs.Grammar.CountedBreaks.{list_length as counted_length, region as counted_region, end_mark as counted_mark, skipped as counted_skipped}
-use Rattle.mrpdu_codec.specs.Reading.{before, ends_list, vectors_of, mark_at, list_at, region_at, known_at, unknown_at, size_at, sized_at, counted_at, body_at}
-use Rattle.std.proofs.lemmas.Result.{MatchResult-at_err}
-use Rattle.mrpdu_codec.proofs.Steps.{then_match, test_match, weaker_match, Broken}
-use Rattle.mrpdu_codec.proofs.ReadVectors.{TookVectors, vectors_match}
+use Rattle.mrpdu_codec.proofs.{Steps.then_match, Steps.test_match, Steps.weaker_match, Steps.Broken, ReadVectors.TookVectors, ReadVectors.vectors_match}
 
 of_match : (row : Option TypeForm) (len : ℕ) (octets : List ℕ)
     → MatchResult (vectors_of row len octets) (λ x. TookVectors row len octets x.0 x.1) (λ left. Broken (ListBreaks row len) octets left)

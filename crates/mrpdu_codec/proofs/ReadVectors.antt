@@ -1,17 +1,10 @@
 -- What a reader of vectors takes is a vector of the grammar, and where it stops a field breaks.
 use Rattle.std.proofs.Common.{◌≡◌, ℕ, zero, suc, ◌%◌, ◌<◌, ◌≤◌, true, false, leb, ltb, eqb, List, [], ◌∷◌, ◌++◌, length, map, Option, MatchResult, ◌⊎◌, inl, inr, refl, sym, ap, subst, ◌∙◌, append_assoc, arith, rules}
-use Rattle.std.proofs.lemmas.Bool.{false≢true, ltb-false, leb-true, leb-false, ltb-true, eqb-false}
-use Rattle.std.proofs.lemmas.List.{take-append-drop, length-take-le}
-use Rattle.mrpdu_codec.specs.declared.form.TypeForm.{TypeForm}
-use Rattle.mrpdu_codec.specs.declared.pdu.VectorAttr.{VectorAttr}
-use Rattle.mrpdu_codec.specs.Octets.{number, thirds}
-use Rattle.mrpdu_codec.specs.Tree.{Vector, packed_limit, fours_for, header_fits, AllUpTo, IsVector, vector_octets, vectors_octets, AreVectors, attr_of}
-use Rattle.mrpdu_codec.specs.Grammar.{OctetBreaks, HeaderBreaks, VectorBreaks, ListBreaks}
+use Rattle.std.proofs.lemmas.{Bool.false≢true, Bool.ltb-false, Bool.leb-true, Bool.leb-false, Bool.ltb-true, Bool.eqb-false, List.take-append-drop, List.length-take-le}
+use Rattle.mrpdu_codec.specs.{TypeForm, VectorAttr, number, thirds, Vector, packed_limit, fours_for, header_fits, AllUpTo, IsVector, vector_octets, vectors_octets, AreVectors, attr_of, OctetBreaks, HeaderBreaks, VectorBreaks, ListBreaks, packed_at, header_at, first_at, vector_at, ends_list, vectors_at}
 use Rattle.mrpdu_codec.specs.Grammar.ListBreaks.{vector as list_vector}
 use Rattle.mrpdu_codec.specs.Grammar.VectorBreaks.{header as header_breaks, first_value, packed as packed_breaks, four_packed}
-use Rattle.mrpdu_codec.specs.Reading.{packed_at, header_at, first_at, vector_at, ends_list, vectors_at}
-use Rattle.mrpdu_codec.proofs.Longer.{vector_longer}
-use Rattle.mrpdu_codec.proofs.Steps.{then_match, test_match, Broken}
+use Rattle.mrpdu_codec.proofs.{Longer.vector_longer, Steps.then_match, Steps.test_match, Steps.Broken}
 
 whole3 : (octets : List ℕ) (high low : ℕ) (rest first after packed last : List ℕ) → octets ≡ high ∷ low ∷ rest → rest ≡ first ++ after → after ≡ packed ++ last
     → octets ≡ (high ∷ low ∷ (first ++ packed)) ++ last

@@ -1,22 +1,10 @@
 -- The canonical tree of a PDU that can be written meets the rules, and means the PDU.
 use Rattle.std.proofs.Common.{◌≡◌, ℕ, zero, suc, ◌+◌, ◌/◌, ◌%◌, ◌<◌, ◌≤◌, Bool, true, false, cond, leb, ltb, eqb, ◌&&◌, ◌||◌, List, [], ◌∷◌, ◌++◌, length, take, drop, map, Option, Some, None, inr, refl, sym, ap, subst, ◌∙◌, arith}
 use Rattle.std.specs.List.{flat_map, list_all, AllByRecursion}
-use Rattle.std.proofs.lemmas.Bool.{false≢true, and_parts, leb-true, le-leb, lt-ltb, le-ltb, ltb-true, eqb-true, eq-eqb}
-use Rattle.std.proofs.lemmas.List.{drop_at}
+use Rattle.std.proofs.lemmas.{Bool.false≢true, Bool.and_parts, Bool.leb-true, Bool.le-leb, Bool.lt-ltb, Bool.le-ltb, Bool.ltb-true, Bool.eqb-true, Bool.eq-eqb, List.drop_at}
 use Rattle.srp_base.specs.declared.mrp.MrpEvent.{MrpEvent}
-use Rattle.mrpdu_codec.specs.declared.form.AppForm.{AppForm}
-use Rattle.mrpdu_codec.specs.declared.form.AppForm.TheVariants.{Mvrp, Msrp, Mmrp}
-use Rattle.mrpdu_codec.specs.declared.form.TypeForm.{TypeForm}
-use Rattle.mrpdu_codec.specs.declared.pdu.VectorAttr.{VectorAttr}
-use Rattle.mrpdu_codec.specs.declared.pdu.Message.{Message}
-use Rattle.mrpdu_codec.specs.declared.pdu.Pdu.{Pdu}
-use Rattle.mrpdu_codec.specs.Octets.{number, thirds, quarters, three_events, four_params}
-use Rattle.mrpdu_codec.specs.Types.{row_of}
-use Rattle.mrpdu_codec.specs.Tree.{AllUpTo, IsVector, AreVectors, attr_of, vectors_octets, IsBody, length_fits, IsMessage, messages_from, messages_meant, AreMessages}
+use Rattle.mrpdu_codec.specs.{AppForm, Mvrp, Msrp, Mmrp, TypeForm, VectorAttr, Message, Pdu, number, thirds, quarters, three_events, four_params, row_of, AllUpTo, IsVector, AreVectors, attr_of, vectors_octets, IsBody, length_fits, IsMessage, messages_from, messages_meant, AreMessages, Spells, pack_events, pack_params, header_for, vector_for, vectors_for, list_length_for, length_for, message_for, tree_for, spelling, message_fits, well_formed, CanPut, vector_fits, vectors_fit, has_form}
 use Rattle.mrpdu_codec.specs.Tree.AttributeList.{Vectors}
-use Rattle.mrpdu_codec.specs.Grammar.{Spells}
-use Rattle.mrpdu_codec.specs.Canonical.{pack_events, pack_params, header_for, vector_for, vectors_for, list_length_for, length_for, message_for, tree_for, spelling, message_fits, well_formed, CanPut}
-use Rattle.mrpdu_codec.specs.Shape.{vector_fits, vectors_fit, has_form}
 use Rattle.mrpdu_codec.proofs.Packed.{events_again, packed_length, packed_limit_holds, params_again, fours_length, fours_limit}
 
 -- ---- a vector

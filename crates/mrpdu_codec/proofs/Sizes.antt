@@ -1,17 +1,8 @@
 -- How many octets the canonical spelling has.
 use Rattle.std.proofs.Common.{◌≡◌, ℕ, ◌+◌, ◌<◌, List, [], ◌∷◌, ◌++◌, length, get_or, take, map, refl, sym, ap, ◌∙◌, length-append, arith}
 use Rattle.std.specs.List.{flat_map, sum_by}
-use Rattle.std.proofs.lemmas.List.{append-nil, map-append, take_more}
-use Rattle.std.proofs.lemmas.List.Sums.{sum_by-cons}
-use Rattle.std.proofs.lemmas.List.Concat.{flat_map-append}
-use Rattle.mrpdu_codec.specs.declared.form.AppForm.{AppForm}
-use Rattle.mrpdu_codec.specs.declared.form.AppForm.TheVariants.{Mvrp, Msrp, Mmrp}
-use Rattle.mrpdu_codec.specs.declared.pdu.VectorAttr.{VectorAttr}
-use Rattle.mrpdu_codec.specs.declared.pdu.Message.{Message}
-use Rattle.mrpdu_codec.specs.declared.pdu.Pdu.{Pdu}
-use Rattle.mrpdu_codec.specs.Octets.{thirds, quarters}
-use Rattle.mrpdu_codec.specs.Tree.{vector_octets, vectors_octets, message_octets, messages_octets}
-use Rattle.mrpdu_codec.specs.Canonical.{pack_events, pack_params, vector_for, vectors_for, message_for, spelling, vector_size, vectors_size, message_size, pdu_size}
+use Rattle.std.proofs.lemmas.{List.append-nil, List.map-append, List.take_more, List.Sums.sum_by-cons, List.Concat.flat_map-append}
+use Rattle.mrpdu_codec.specs.{AppForm, Mvrp, Msrp, Mmrp, VectorAttr, Message, Pdu, thirds, quarters, vector_octets, vectors_octets, message_octets, messages_octets, pack_events, pack_params, vector_for, vectors_for, message_for, spelling, vector_size, vectors_size, message_size, pdu_size}
 use Rattle.mrpdu_codec.proofs.Packed.{packed_length, fours_length}
 
 pub vector_length : (v : VectorAttr) → length (vector_octets (vector_for v)) ≡ ((length v.first + thirds (length v.events)) + quarters (length v.params)) + 2

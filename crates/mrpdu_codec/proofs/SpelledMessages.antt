@@ -1,26 +1,15 @@
 -- What the grammar says is what reading gives: regions, Messages and PDUs.
 use Rattle.std.proofs.Common.{◌≡◌, ℕ, zero, suc, ◌+◌, ◌-◌, ◌<◌, ◌≤◌, true, false, eqb, List, [], ◌∷◌, ◌++◌, length, take, drop, map, Option, Some, None, Result, Ok, Err, ◌⊎◌, inl, inr, refl, sym, ap, subst, ◌∙◌, append_assoc, length-append, arith}
 use Rattle.std.specs.List.{flat_map}
-use Rattle.std.proofs.lemmas.Bool.{le-leb, lt-leb, le-ltb, lt-ltb, ne_eqb, eq-eqb}
-use Rattle.std.proofs.lemmas.List.{append-nil, take_at, drop_at, take_all, drop_all}
-use Rattle.mrpdu_codec.specs.declared.form.AppForm.{AppForm}
-use Rattle.mrpdu_codec.specs.declared.form.AppForm.TheVariants.{Mvrp, Msrp, Mmrp}
-use Rattle.mrpdu_codec.specs.declared.form.TypeForm.{TypeForm}
-use Rattle.mrpdu_codec.specs.declared.pdu.VectorAttr.{VectorAttr}
-use Rattle.mrpdu_codec.specs.declared.pdu.Pdu.{Pdu}
-use Rattle.mrpdu_codec.specs.Octets.{number}
-use Rattle.mrpdu_codec.specs.Types.{row_of}
-use Rattle.mrpdu_codec.specs.Tree.{Vector, vectors_octets, AreVectors, attr_of, AttributeList, IsEndMark, IsBody, list_octets, list_attrs, length_fits, MessageTree, IsMessage, message_octets, messages_octets, messages_meant, AreMessages, after_octets, MrpduTree, IsPduTree, tree_octets, pdu_of}
+use Rattle.std.proofs.lemmas.{Bool.le-leb, Bool.lt-leb, Bool.le-ltb, Bool.lt-ltb, Bool.ne_eqb, Bool.eq-eqb, List.append-nil, List.take_at, List.drop_at, List.take_all, List.drop_all}
+use Rattle.mrpdu_codec.specs.{AppForm, Mvrp, Msrp, Mmrp, TypeForm, VectorAttr, Pdu, number, row_of, Vector, vectors_octets, AreVectors, attr_of, AttributeList, IsEndMark, IsBody, list_octets, list_attrs, length_fits, MessageTree, IsMessage, message_octets, messages_octets, messages_meant, AreMessages, after_octets, MrpduTree, IsPduTree, tree_octets, pdu_of, EndMarkBreaks, ListLengthBreaks, LengthBreaks, FirstTypeBreaks, LaterTypeBreaks, ListBreaks, RegionBreaks, IsRegion, CountedBreaks, BodyBreaks, MessageBreaks, AreClosed, PduBreaks, Spells, Breaks, ends_list, vectors_of, mark_at, list_at, region_at, known_at, unknown_at, size_at, sized_at, counted_at, body_at, length_at, message_at, end_at, messages_at, messages_of, version_at, first_type_at, pdu_at}
 use Rattle.mrpdu_codec.specs.Tree.AttributeList.{Vectors, Skipped}
-use Rattle.mrpdu_codec.specs.Grammar.{EndMarkBreaks, ListLengthBreaks, LengthBreaks, FirstTypeBreaks, LaterTypeBreaks, ListBreaks, RegionBreaks, IsRegion, CountedBreaks, BodyBreaks, MessageBreaks, AreClosed, PduBreaks, Spells, Breaks}
 use Rattle.mrpdu_codec.specs.Grammar.RegionBreaks.{vector as region_vector, end_mark as region_mark, short as region_short}
 use Rattle.mrpdu_codec.specs.Grammar.CountedBreaks.{list_length as counted_length, region as counted_region, end_mark as counted_mark, skipped as counted_skipped}
 use Rattle.mrpdu_codec.specs.Grammar.MessageBreaks.{len as length_breaks, body as body_breaks_at}
 use Rattle.mrpdu_codec.specs.Grammar.PduBreaks.{version as version_breaks, first_type, later_type, message as message_breaks_at}
 use Rattle.srp_base.specs.Results.{◌>>=◌}
-use Rattle.mrpdu_codec.specs.Reading.{ends_list, vectors_of, mark_at, list_at, region_at, known_at, unknown_at, size_at, sized_at, counted_at, body_at, length_at, message_at, end_at, messages_at, messages_of, version_at, first_type_at, pdu_at}
-use Rattle.mrpdu_codec.proofs.Longer.{message_longer}
-use Rattle.mrpdu_codec.proofs.SpelledVectors.{of_reads, of_breaks}
+use Rattle.mrpdu_codec.proofs.{Longer.message_longer, SpelledVectors.of_reads, SpelledVectors.of_breaks}
 
 -- a number that isn't 0
 nonzero : (kind : ℕ) → 0 < kind → eqb kind 0 ≡ false

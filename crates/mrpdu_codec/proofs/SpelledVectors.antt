@@ -1,15 +1,10 @@
 -- What the grammar says is what reading gives: vectors.
 use Rattle.std.proofs.Common.{◌≡◌, ℕ, zero, suc, ◌/◌, ◌<◌, ◌≤◌, true, false, ltb, List, [], ◌∷◌, ◌++◌, length, map, Option, Ok, Err, refl, sym, ap, ◌∙◌, append_assoc, length-append, arith}
-use Rattle.std.proofs.lemmas.Bool.{false≢true, le-leb, le-ltb, lt-leb, lt-ltb, leb-false, ne_eqb}
-use Rattle.std.proofs.lemmas.List.{take_at, drop_at}
-use Rattle.mrpdu_codec.specs.declared.form.TypeForm.{TypeForm}
-use Rattle.mrpdu_codec.specs.Octets.{number, thirds}
-use Rattle.mrpdu_codec.specs.Tree.{Vector, count, packed_limit, leave_all_limit, fours_for, header_fits, AllUpTo, IsVector, vector_octets, vectors_octets, AreVectors, attr_of}
-use Rattle.mrpdu_codec.specs.Grammar.{OctetBreaks, HeaderBreaks, VectorBreaks, ListBreaks}
+use Rattle.std.proofs.lemmas.{Bool.false≢true, Bool.le-leb, Bool.le-ltb, Bool.lt-leb, Bool.lt-ltb, Bool.leb-false, Bool.ne_eqb, List.take_at, List.drop_at}
+use Rattle.mrpdu_codec.specs.{TypeForm, number, thirds, Vector, count, packed_limit, leave_all_limit, fours_for, header_fits, AllUpTo, IsVector, vector_octets, vectors_octets, AreVectors, attr_of, OctetBreaks, HeaderBreaks, VectorBreaks, ListBreaks, packed_at, header_at, first_at, vector_at, ends_list, vectors_at, vectors_of}
 use Rattle.mrpdu_codec.specs.Grammar.ListBreaks.{vector as list_vector}
 use Rattle.mrpdu_codec.specs.Grammar.VectorBreaks.{header as header_breaks, first_value, packed as packed_breaks, four_packed}
 use Rattle.srp_base.specs.Results.{◌>>=◌}
-use Rattle.mrpdu_codec.specs.Reading.{packed_at, header_at, first_at, vector_at, ends_list, vectors_at, vectors_of}
 use Rattle.mrpdu_codec.proofs.Longer.{vector_longer}
 
 module _ (limit : ℕ) where

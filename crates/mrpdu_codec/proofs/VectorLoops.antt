@@ -1,19 +1,11 @@
 -- Loops over vectors: one step on, and the end, of what is still read.
 use Rattle.std.proofs.Common.{◌≡◌, ℕ, zero, suc, ◌<◌, ◌≤◌, true, false, List, [], ◌∷◌, ◌++◌, length, Option, Some, None, Result, Ok, Err, refl, sym, ap, ◌∙◌, append_assoc, arith}
-use Rattle.std.proofs.lemmas.List.{append-nil}
-use Rattle.mrpdu_codec.specs.declared.form.TypeForm.{TypeForm}
+use Rattle.std.proofs.lemmas.{List.append-nil, Result.MatchResult-at_ok, Bool.false≢true}
+use Rattle.mrpdu_codec.specs.{TypeForm, VectorAttr, Vector, attr_of, IsVector, vector_octets, vector_at, ends_list, vectors_at, vectors_of, Fails, list_kept, kept_attr}
 use Rattle.mrpdu_codec.specs.declared.error.ReadErr.{ReadErr}
 use Rattle.mrpdu_codec.specs.declared.error.ReadErr.TheVariants as errors
-use Rattle.mrpdu_codec.specs.declared.pdu.VectorAttr.{VectorAttr}
-use Rattle.mrpdu_codec.specs.Tree.{Vector, attr_of, IsVector, vector_octets}
 use Rattle.srp_base.specs.Results.{◌>>=◌}
-use Rattle.mrpdu_codec.specs.Reading.{vector_at, ends_list, vectors_at, vectors_of}
-use Rattle.mrpdu_codec.specs.ReadErr.{Fails, list_kept, kept_attr}
-use Rattle.std.proofs.lemmas.Result.{MatchResult-at_ok}
-use Rattle.std.proofs.lemmas.Bool.{false≢true}
-use Rattle.mrpdu_codec.proofs.Steps.{same_after, same_choice}
-use Rattle.mrpdu_codec.proofs.ReadVectors.{vector_match}
-use Rattle.mrpdu_codec.proofs.Longer.{vector_longer}
+use Rattle.mrpdu_codec.proofs.{Steps.same_after, Steps.same_choice, ReadVectors.vector_match, Longer.vector_longer}
 
 -- ---- fuel makes no difference
 

@@ -2,19 +2,10 @@
 -- places past the last value are 0.
 use Rattle.std.specs.Prelude.{◌≡◌, ℕ, ◌+◌, ◌*◌, ◌/◌, ◌%◌, ◌≤◌, Bool, true, ◌&&◌, List, [], ◌∷◌, length, map, Option, Some, None, nat_le, nat_lt, ◌==◌, if◌then◌else◌}
 use Rattle.std.specs.List.{list_all, sum_by}
-use Rattle.srp_base.specs.declared.mrp.MrpEvent.{MrpEvent}
-use Rattle.srp_base.specs.declared.mrp.MrpEvent.TheVariants.{New}
-use Rattle.mrpdu_codec.specs.declared.form.AppForm.{AppForm}
+use Rattle.srp_base.specs.declared.{mrp.MrpEvent.MrpEvent, mrp.MrpEvent.TheVariants.New}
+use Rattle.mrpdu_codec.specs.declared.{form.AppForm.AppForm, form.TypeForm.TypeForm, pdu.VectorAttr.VectorAttr, pdu.Message.Message, pdu.Pdu.Pdu}
 use Rattle.mrpdu_codec.specs.declared.form.AppForm.TheVariants.{Mvrp, Msrp, Mmrp}
-use Rattle.mrpdu_codec.specs.declared.form.TypeForm.{TypeForm}
-use Rattle.mrpdu_codec.specs.declared.pdu.VectorAttr.{VectorAttr}
-use Rattle.mrpdu_codec.specs.declared.pdu.Message.{Message}
-use Rattle.mrpdu_codec.specs.declared.pdu.Pdu.{Pdu}
-use Rattle.mrpdu_codec.specs.Octets.{event_number, thirds, quarters}
-use Rattle.mrpdu_codec.specs.Types.{row_of}
-use Rattle.mrpdu_codec.specs.Shape.{has_form}
-use Rattle.mrpdu_codec.specs.Tree.{Vector, vector_octets, vectors_octets, MessageTree, MrpduTree, tree_octets}
-use Rattle.mrpdu_codec.specs.Tree.AttributeList.{Vectors}
+use Rattle.mrpdu_codec.specs.{Octets.event_number, Octets.thirds, Octets.quarters, Types.row_of, Shape.has_form, Tree.Vector, Tree.vector_octets, Tree.vectors_octets, Tree.MessageTree, Tree.MrpduTree, Tree.tree_octets, Tree.AttributeList.Vectors}
 
 -- a number below 65,536 in two octets, the high one first
 abbrev pub two_octets : ℕ → List ℕ

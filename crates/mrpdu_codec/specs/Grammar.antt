@@ -2,13 +2,9 @@
 -- that spell none break. Both join whole lists of octets.
 use Rattle.std.specs.Prelude.{◌≡◌, ℕ, ◌+◌, ◌<◌, true, false, List, [], ◌∷◌, ◌++◌, length, Option, Some, None, ◌⊎◌}
 use Rattle.std.specs.List.{AllByRecursion}
-use Rattle.mrpdu_codec.specs.declared.form.AppForm.{AppForm}
+use Rattle.mrpdu_codec.specs.declared.{form.AppForm.AppForm, form.TypeForm.TypeForm, pdu.Pdu.Pdu}
 use Rattle.mrpdu_codec.specs.declared.form.AppForm.TheVariants.{Mvrp, Msrp, Mmrp}
-use Rattle.mrpdu_codec.specs.declared.form.TypeForm.{TypeForm}
-use Rattle.mrpdu_codec.specs.declared.pdu.Pdu.{Pdu}
-use Rattle.mrpdu_codec.specs.Octets.{number, thirds}
-use Rattle.mrpdu_codec.specs.Types.{row_of}
-use Rattle.mrpdu_codec.specs.Tree.{Vector, count, packed_limit, fours_for, header_fits, AllUpTo, vectors_octets, MessageTree, length_fits, AreVectors, IsMessage, messages_octets, MrpduTree, tree_octets, IsPduTree, pdu_of}
+use Rattle.mrpdu_codec.specs.{Octets.number, Octets.thirds, Types.row_of, Tree.Vector, Tree.count, Tree.packed_limit, Tree.fours_for, Tree.header_fits, Tree.AllUpTo, Tree.vectors_octets, Tree.MessageTree, Tree.length_fits, Tree.AreVectors, Tree.IsMessage, Tree.messages_octets, Tree.MrpduTree, Tree.tree_octets, Tree.IsPduTree, Tree.pdu_of}
 
 -- A tree that meets the rules has these octets as its spelling and this PDU as its meaning.
 pub record Spells (form : AppForm) (octets : List ℕ) (pdu : Pdu) : Type 0 where

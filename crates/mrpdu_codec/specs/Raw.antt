@@ -1,11 +1,6 @@
 -- What a PDU says that was read in place, without where its fields lie in memory.
 use Rattle.std.specs.Prelude.{Bool, List, [], ◌∷◌, map, Option, Some, None}
-use Rattle.mrpdu_codec.specs.declared.pdu.VectorAttr.{VectorAttr}
-use Rattle.mrpdu_codec.specs.declared.pdu.Message.{Message}
-use Rattle.mrpdu_codec.specs.declared.pdu.Pdu.{Pdu}
-use Rattle.mrpdu_codec.specs.declared.raw.RawVector.{RawVector}
-use Rattle.mrpdu_codec.specs.declared.raw.RawMessage.{RawMessage}
-use Rattle.mrpdu_codec.specs.declared.raw.RawPdu.{RawPdu}
+use Rattle.mrpdu_codec.specs.declared.{pdu.VectorAttr.VectorAttr, pdu.Message.Message, pdu.Pdu.Pdu, raw.RawVector.RawVector, raw.RawMessage.RawMessage, raw.RawPdu.RawPdu}
 use Rattle.mrpdu_codec.specs.Tree.{Vector, attr_of}
 
 -- a vector in place is a node of the syntax tree

@@ -1,11 +1,8 @@
 -- What the private readers answer: a value as the reading has it, or how many octets were left.
 use Rattle.std.specs.Prelude.{◌≡◌, ℕ, ◌+◌, ◌-◌, ◌≤◌, List, [], ◌∷◌, Option, Some, None, Result, Ok, Err, IfSome}
-use Rattle.mrpdu_codec.specs.declared.error.DecodeErr.{DecodeErr}
+use Rattle.mrpdu_codec.specs.declared.{error.DecodeErr.DecodeErr, error.ReadErr.ReadErr, form.TypeForm.TypeForm, pdu.VectorAttr.VectorAttr}
 use Rattle.mrpdu_codec.specs.declared.error.DecodeErr.TheVariants as decode_errors
-use Rattle.mrpdu_codec.specs.declared.error.ReadErr.{ReadErr}
 use Rattle.mrpdu_codec.specs.declared.error.ReadErr.TheVariants as errors
-use Rattle.mrpdu_codec.specs.declared.form.TypeForm.{TypeForm}
-use Rattle.mrpdu_codec.specs.declared.pdu.VectorAttr.{VectorAttr}
 
 -- how many octets a reading says were left, which want of memory doesn't
 abbrev pub left_of : ReadErr → Option ℕ

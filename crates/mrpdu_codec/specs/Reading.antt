@@ -2,17 +2,10 @@
 -- left from the first field on that breaks. That this is the grammar is proved of `decode`.
 use Rattle.std.specs.Prelude.{ℕ, zero, suc, ◌+◌, ◌-◌, ◌%◌, Bool, true, false, List, [], ◌∷◌, ◌++◌, length, take, drop, Option, Some, None, Result, Ok, Err, nat_lt, nat_le, ◌==◌, if◌then◌else◌}
 use Rattle.srp_base.specs.Results.{◌>>=◌, Gives}
-use Rattle.mrpdu_codec.specs.declared.error.DecodeErr.{DecodeErr}
+use Rattle.mrpdu_codec.specs.declared.{error.DecodeErr.DecodeErr, form.AppForm.AppForm, form.TypeForm.TypeForm, pdu.VectorAttr.VectorAttr, pdu.Message.Message, pdu.Pdu.Pdu}
 use Rattle.mrpdu_codec.specs.declared.error.DecodeErr.TheVariants as decode_errors
-use Rattle.mrpdu_codec.specs.declared.form.AppForm.{AppForm}
 use Rattle.mrpdu_codec.specs.declared.form.AppForm.TheVariants.{Mvrp, Msrp, Mmrp}
-use Rattle.mrpdu_codec.specs.declared.form.TypeForm.{TypeForm}
-use Rattle.mrpdu_codec.specs.declared.pdu.VectorAttr.{VectorAttr}
-use Rattle.mrpdu_codec.specs.declared.pdu.Message.{Message}
-use Rattle.mrpdu_codec.specs.declared.pdu.Pdu.{Pdu}
-use Rattle.mrpdu_codec.specs.Octets.{number, thirds}
-use Rattle.mrpdu_codec.specs.Types.{row_of}
-use Rattle.mrpdu_codec.specs.Tree.{Vector, packed_limit, fours_for, header_fits, attr_of, length_fits, messages_from}
+use Rattle.mrpdu_codec.specs.{Octets.number, Octets.thirds, Types.row_of, Tree.Vector, Tree.packed_limit, Tree.fours_for, Tree.header_fits, Tree.attr_of, Tree.length_fits, Tree.messages_from}
 
 -- n octets, each at most limit and each a field of its own
 unfoldable pub packed_at : ℕ → ℕ → List ℕ → Result (List ℕ × List ℕ) ℕ

@@ -1,13 +1,8 @@
 -- What a PDU that was read looks like, and whether it has LeaveAll (IEEE Std 802.1Q-2018, 10.8.1, 10.8.2).
 use Rattle.std.specs.Prelude.{Bool, false, ◌&&◌, ◌||◌, List, length, Option, Some, None, nat_le, nat_lt, ◌==◌, if◌then◌else◌}
 use Rattle.std.specs.List.{list_all, list_any, AllByRecursion}
-use Rattle.mrpdu_codec.specs.declared.form.AppForm.{AppForm}
-use Rattle.mrpdu_codec.specs.declared.form.TypeForm.{TypeForm}
-use Rattle.mrpdu_codec.specs.declared.pdu.VectorAttr.{VectorAttr}
-use Rattle.mrpdu_codec.specs.declared.pdu.Message.{Message}
-use Rattle.mrpdu_codec.specs.declared.pdu.Pdu.{Pdu}
-use Rattle.mrpdu_codec.specs.Octets.{AreOctets}
-use Rattle.mrpdu_codec.specs.Types.{row_of}
+use Rattle.mrpdu_codec.specs.declared.{form.AppForm.AppForm, form.TypeForm.TypeForm, pdu.VectorAttr.VectorAttr, pdu.Message.Message, pdu.Pdu.Pdu}
+use Rattle.mrpdu_codec.specs.{Octets.AreOctets, Types.row_of}
 
 -- a parameter from 0 to 3 for each event of a four-packed type, and else none
 abbrev pub params_fit : TypeForm → VectorAttr → Bool

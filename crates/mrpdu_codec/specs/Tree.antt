@@ -4,14 +4,9 @@
 -- its meaning.
 use Rattle.std.specs.Prelude.{◌≡◌, ℕ, ◌+◌, ◌/◌, ◌%◌, ◌<◌, ◌≤◌, Bool, true, List, [], ◌∷◌, ◌++◌, length, take, map, Option, Some, None, nat_le, nat_lt, ◌==◌, if◌then◌else◌, ◌⊎◌}
 use Rattle.std.specs.List.{flat_map, AllByRecursion}
-use Rattle.mrpdu_codec.specs.declared.form.AppForm.{AppForm}
+use Rattle.mrpdu_codec.specs.declared.{form.AppForm.AppForm, form.TypeForm.TypeForm, pdu.VectorAttr.VectorAttr, pdu.Message.Message, pdu.Pdu.Pdu}
 use Rattle.mrpdu_codec.specs.declared.form.AppForm.TheVariants.{Mvrp, Msrp, Mmrp}
-use Rattle.mrpdu_codec.specs.declared.form.TypeForm.{TypeForm}
-use Rattle.mrpdu_codec.specs.declared.pdu.VectorAttr.{VectorAttr}
-use Rattle.mrpdu_codec.specs.declared.pdu.Message.{Message}
-use Rattle.mrpdu_codec.specs.declared.pdu.Pdu.{Pdu}
-use Rattle.mrpdu_codec.specs.Octets.{number, thirds, quarters, three_events, four_params}
-use Rattle.mrpdu_codec.specs.Types.{row_of}
+use Rattle.mrpdu_codec.specs.{Octets.number, Octets.thirds, Octets.quarters, Octets.three_events, Octets.four_params, Types.row_of}
 
 -- ---- a vector
 

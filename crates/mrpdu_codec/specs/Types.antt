@@ -1,9 +1,8 @@
 -- The attribute types of each application: AttributeLength, and whether FourPackedEvents follow
 -- (IEEE Std 802.1Q-2018, 10.12.1, 11.2.3.1, 35.2.2.4 and 35.2.2.5).
 use Rattle.std.specs.Prelude.{ℕ, Bool, true, false, Option, Some, None, ◌==◌, if◌then◌else◌}
-use Rattle.mrpdu_codec.specs.declared.form.AppForm.{AppForm}
+use Rattle.mrpdu_codec.specs.declared.{form.AppForm.AppForm, form.TypeForm.TypeForm}
 use Rattle.mrpdu_codec.specs.declared.form.AppForm.TheVariants.{Mvrp, Msrp, Mmrp}
-use Rattle.mrpdu_codec.specs.declared.form.TypeForm.{TypeForm}
 
 -- a type of this length, with FourPackedEvents or not
 abbrev pub form_of : ℕ → Bool → Option TypeForm

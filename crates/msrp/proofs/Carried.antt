@@ -2,37 +2,21 @@
 use Rattle.std.proofs.Common.{◌≡◌, ◌≤◌, ◌<◌, ◌+◌, ℕ, zero, suc, Bool, true, false, not, ◌&&◌, ◌==◌, if◌then◌else◌, List, [], ◌∷◌, ◌++◌, length, map, filter, refl, sym, ap, ◌∙◌, arith}
 use Rattle.std.specs.Prelude.{nat_lt, slice_get, slice_index_or, slice_set, Option, Some, None, option_map, IfSome, vec_capacity, vec_len}
 use Rattle.std.proofs.lemmas.Option.{slice_get-map, slice_get_read}
-use Rattle.std.specs.List.{flat_map, list_any}
-use Rattle.std.specs.declared.cmp.Ordering.{Ordering}
-use Rattle.std.specs.declared.cmp.Ordering.TheVariants.{Less, Equal, Greater}
-use Rattle.srp_base.specs.declared.numbers.StreamId.{StreamId}
-use Rattle.srp_base.specs.declared.streams.Talker.{Talker}
-use Rattle.srp_base.specs.declared.streams.TalkerReg.{TalkerReg}
-use Rattle.stream_importance.specs.declared.entry.Want.{Want}
-use Rattle.stream_importance.specs.declared.entry.Entry.{Entry}
-use Rattle.stream_importance.specs.declared.slope.Caps.{Caps}
+use Rattle.std.specs.{List.flat_map, List.list_any, declared.cmp.Ordering.Ordering, declared.cmp.Ordering.TheVariants.Less, declared.cmp.Ordering.TheVariants.Equal, declared.cmp.Ordering.TheVariants.Greater}
+use Rattle.srp_base.proofs.{Lists.mapped_length as length-map, Lists.set_set as set-twice, Lists.map-set, Lists.map-set_same, Options.one_some, Options.opened}
+use Rattle.srp_base.specs.declared.{numbers.StreamId.StreamId, streams.Talker.Talker, streams.TalkerReg.TalkerReg}
+use Rattle.stream_importance.specs.declared.{entry.Want.Want, entry.Entry.Entry, slope.Caps.Caps}
 use Rattle.msrp_listener.specs.declared.port_listener.PortListener.{PortListener}
-use Rattle.port_ledger.specs.Decision.{booked_of, decided_entries, decided_set, does_fit, is_booked, stream_of, with_moments}
-use Rattle.port_ledger.specs.Book.{Book, booked_only_in, entry_with, same_entry, unbooked_entry, with_want, without}
-use Rattle.attribute_propagation.specs.Dirty.{KeySet, all_marked, marked_at, with_key}
-use Rattle.attribute_propagation.specs.Ports.{keys_at, keys_in, keys_or_none, marked_elsewhere, marked_from}
-use Rattle.msrp_codec.specs.declared.pdu.MsrpKey.{MsrpKey}
+use Rattle.port_ledger.specs.{Decision.booked_of, Decision.decided_entries, Decision.decided_set, Decision.does_fit, Decision.is_booked, Decision.stream_of, Decision.with_moments, Book.Book, Book.booked_only_in, Book.entry_with, Book.same_entry, Book.unbooked_entry, Book.with_want, Book.without}
+use Rattle.attribute_propagation.specs.{Dirty.KeySet, Dirty.all_marked, Dirty.marked_at, Dirty.with_key, Ports.keys_at, Ports.keys_in, Ports.keys_or_none, Ports.marked_elsewhere, Ports.marked_from}
+use Rattle.msrp_codec.specs.declared.{pdu.MsrpKey.MsrpKey, pdu.MsrpContent.MsrpContent}
 use Rattle.msrp_codec.specs.declared.pdu.MsrpKey.TheVariants as keys
-use Rattle.msrp_codec.specs.declared.pdu.MsrpContent.{MsrpContent}
 use Rattle.msrp_codec.specs.declared.pdu.MsrpContent.TheVariants as contents
-use Rattle.msrp.specs.declared.plan.Asked.{Asked}
-use Rattle.msrp.specs.declared.plan.Stated.{Stated}
+use Rattle.msrp.specs.{Asked, Stated, key_cmp, registered_talker, settled_as, settled_part, talker_content, Registrations, advertise_of, is_listened, listener_at, listener_row, registrations_of, stated_at, talk_of, talker_at, talkers_of, wanted_at, book_with, book_without, listener_keys, moved_streams, next_book, settling_keys, streams_in, taken_out, talker_keys, talker_keys_in, with_wants, Streams, settled_streams, PortHolding, ports_in, IsPlan, asked_at, asked_book, asked_in, asked_out, stated_of, stated_part}
 use Rattle.msrp.specs.declared.plan.Plan.{Plan}
 use Rattle.msrp.specs.PortState.{PortState}
-use Rattle.msrp.specs.Part.{Part, key_cmp, registered_talker, settled_as, settled_part, talker_content}
-use Rattle.msrp.specs.Stream.{Registrations, advertise_of, is_listened, listener_at, listener_row, registrations_of, stated_at, talk_of, talker_at, talkers_of, wanted_at}
-use Rattle.msrp.specs.Settling.{book_with, book_without, listener_keys, moved_streams, next_book, settling_keys, streams_in, taken_out, talker_keys, talker_keys_in, with_wants}
-use Rattle.msrp.specs.Side.{Streams, settled_streams}
-use Rattle.msrp.specs.Holding.{PortHolding, ports_in}
-use Rattle.msrp.specs.Plan.{IsPlan, asked_at, asked_book, asked_in, asked_out, stated_of, stated_part}
-use Rattle.msrp.proofs.InPlace.{port_is, state_is, states-set}
-use Rattle.msrp.proofs.Places.{map-set, map-set_same, one_some, opened}
-use Rattle.msrp.proofs.Settled.{next_is, others-set}
+use Rattle.msrp.specs.Part.{Part}
+use Rattle.msrp.proofs.{InPlace.port_is, InPlace.state_is, InPlace.states-set, Settled.next_is, Settled.others-set}
 
 -- ---- what the streams want
 
@@ -95,11 +79,6 @@ talker_keys-set talks ports at p q here same =
     ap (λ ks. map (λ (t : Talker). keys.Talker t.stream) talks ++ ks) (flat-set_same (λ (x : PortState). talker_keys_in x.part) ports at p q here (ap talker_keys_in same))
 
 -- ---- the sets
-
-set-twice : {X : Type 0} (xs : List X) (at : ℕ) (x y : X) → slice_set (slice_set xs at x) at y ≡ slice_set xs at y
-set-twice [] at x y = refl
-set-twice (z ∷ xs) zero x y = refl
-set-twice (z ∷ xs) (suc at) x y = ap (λ ys. z ∷ ys) (set-twice xs at x y)
 
 -- what awaits at a place that is emptied afterwards doesn't count
 marked-set : (n at i : ℕ) (new : List MsrpKey) (sets : List (List MsrpKey)) (set : List MsrpKey)
@@ -167,10 +146,6 @@ length-filter test (x ∷ xs) = by (test x) (length-filter test xs)
     by : (b : Bool) → length (filter test xs) ≤ length xs → length (if b then x ∷ filter test xs else filter test xs) ≤ length (x ∷ xs)
     by true le = omega (arith, le)
     by false le = omega (arith, le)
-
-length-map : {X Y : Type 0} (f : X → Y) (xs : List X) → length (map f xs) ≡ length xs
-length-map f [] = refl
-length-map f (x ∷ xs) = ap suc (length-map f xs)
 
 pub only_in-few : (these those : List Entry) → length (booked_only_in these those) ≤ length these
 only_in-few these those =

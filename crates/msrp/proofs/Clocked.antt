@@ -2,28 +2,20 @@
 use Rattle.std.proofs.Common.{◌≡◌, ℕ, zero, suc, ◌≤◌, Bool, true, false, ◌&&◌, if◌then◌else◌, List, [], ◌∷◌, ◌++◌, ◌+◌, ◌<◌, length, map, take, drop, refl, sym, ap, subst, ◌∙◌, add-one, arith, nat_lt}
 use Rattle.std.specs.Prelude.{slice_get, slice_index_or, slice_set, Option, Some, None, option_map, option_and_then, unwrap_or}
 use Rattle.std.specs.List.{AllByRecursion, list_any}
-use Rattle.srp_base.specs.declared.numbers.StreamId.{StreamId}
-use Rattle.srp_base.specs.declared.streams.TalkerReg.{TalkerReg}
-use Rattle.srp_base.specs.declared.streams.TalkerReg.TheVariants.{Absent}
-use Rattle.stream_importance.specs.declared.entry.Want.{Want}
-use Rattle.stream_importance.specs.declared.entry.Fit.{Fit}
-use Rattle.stream_importance.specs.declared.entry.Fit.TheVariants.{Fits}
+use Rattle.std.proofs.lemmas.Bool.{or_parts as or_false}
+use Rattle.srp_base.proofs.Lists.{each-get}
+use Rattle.srp_base.specs.declared.{numbers.StreamId.StreamId, streams.TalkerReg.TalkerReg, streams.TalkerReg.TheVariants.Absent}
+use Rattle.stream_importance.specs.declared.{entry.Want.Want, entry.Fit.Fit, entry.Fit.TheVariants.Fits}
 use Rattle.msrp_talker.specs.TalkerOut.{talker_in, talker_out}
 use Rattle.port_ledger.specs.Book.{Book, clocked_book, fit_for, has_new_booking, want_of, IsKept as IsKeptBook}
-use Rattle.attribute_propagation.specs.Dirty.{KeySet, is_awaiting, all_marked}
-use Rattle.attribute_propagation.specs.Ports.{HasRoom, keys_in}
+use Rattle.attribute_propagation.specs.{Dirty.KeySet, Dirty.is_awaiting, Dirty.all_marked, Ports.HasRoom, Ports.keys_in}
 use Rattle.mrp_participant.specs.State.{declared_at}
 use Rattle.msrp_codec.specs.declared.pdu.MsrpKey.{MsrpKey}
 use Rattle.msrp_codec.specs.declared.pdu.MsrpKey.TheVariants as keys
 use Rattle.msrp_codec.specs.declared.pdu.MsrpContent.TheVariants as contents
 use Rattle.msrp.specs.PortState.{PortState}
-use Rattle.msrp.specs.Part.{key_cmp, registered_talker, talker_content}
-use Rattle.msrp.specs.Stream.{Registrations, edge_at, is_listened, is_talker_port, listener_at, listener_row, stated_at, talk_of, talker_at, first_talker, talkers_of, advertise_of, want_of_talker, wanted_at}
-use Rattle.msrp.specs.Settling.{talker_keys}
-use Rattle.msrp.specs.Side.{Streams, IsKept, IsPort, IsSettled, clocked_port, clocked_sets, clocked_streams, seen_by, shows_at}
-use Rattle.msrp.proofs.Places.{each-get, or_false}
-use Rattle.msrp.proofs.Telling.{Awaits, unmarked}
-use Rattle.msrp.proofs.Talkers.{HasRows, absent_stated, no_talker}
+use Rattle.msrp.specs.{key_cmp, registered_talker, talker_content, Registrations, edge_at, is_listened, is_talker_port, listener_at, listener_row, stated_at, talk_of, talker_at, first_talker, talkers_of, advertise_of, want_of_talker, wanted_at, talker_keys, Streams, IsKept, IsPort, IsSettled, clocked_port, clocked_sets, clocked_streams, seen_by, shows_at}
+use Rattle.msrp.proofs.{Telling.Awaits, Telling.unmarked, Talkers.HasRows, Talkers.absent_stated, Talkers.no_talker}
 
 -- the laws of a ledger that a clock rests on
 pub record Laws : Type 0 where

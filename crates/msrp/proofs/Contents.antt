@@ -2,19 +2,16 @@
 use Rattle.std.proofs.Common.{◌≡◌, ℕ, Bool, true, false, if◌then◌else◌, List, [], ◌∷◌, refl, sym, ap, subst, ◌∙◌}
 use Rattle.std.specs.Prelude.{Option, Some, None, fold, option_map, option_and_then}
 use Rattle.std.specs.List.{AllByRecursion}
-use Rattle.srp_base.specs.declared.numbers.Cs.{Cs}
-use Rattle.srp_base.specs.declared.mrp.MrpEvent.{MrpEvent}
+use Rattle.srp_base.specs.declared.{numbers.Cs.Cs, mrp.MrpEvent.MrpEvent}
 use Rattle.srp_base.specs.declared.mrp.MrpEvent.TheVariants.{New, JoinIn, OnlyIn, JoinMt, OnlyMt, Lv}
 use Rattle.mrp_participant.specs.declared.row.Row.{Row}
-use Rattle.mrp_participant.specs.Lookup.{ChangesOnly, find, same}
-use Rattle.mrp_participant.specs.Row.{is_live, kept_row, declared_row, after_declare, after_withdraw, after_leave, left_row, leave_all_row, heard_row, makes_row, after_hear, row_hearing, row_after_receive, after_leave_due, leave_is_due, periodic_row, fresh_row}
-use Rattle.mrp_participant.specs.Sending.{sent_row}
+use Rattle.mrp_participant.specs.{Lookup.ChangesOnly, Lookup.find, Lookup.same, Row.is_live, Row.kept_row, Row.declared_row, Row.after_declare, Row.after_withdraw, Row.after_leave, Row.left_row, Row.leave_all_row, Row.heard_row, Row.makes_row, Row.after_hear, Row.row_hearing, Row.row_after_receive, Row.after_leave_due, Row.leave_is_due, Row.periodic_row, Row.fresh_row, Sending.sent_row}
 use Rattle.applicant.specs.Table as applicant
-use Rattle.msrp_codec.specs.declared.pdu.MsrpKey.{MsrpKey}
-use Rattle.msrp_codec.specs.declared.pdu.MsrpContent.{MsrpContent}
+use Rattle.msrp_codec.specs.declared.{pdu.MsrpKey.MsrpKey, pdu.MsrpContent.MsrpContent}
 use Rattle.msrp_codec.specs.Content.{Belongs}
 use Rattle.msrp.proofs.KeyLemmas.{key_is}
-use Rattle.msrp.specs.Part.{Part, key_cmp, same_content, HasOwnContents}
+use Rattle.msrp.specs.Part.{Part}
+use Rattle.msrp.specs.{key_cmp, same_content, HasOwnContents}
 
 abbrev pub MsrpRow : Type 0
 MsrpRow = Row MsrpKey MsrpContent

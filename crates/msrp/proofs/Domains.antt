@@ -1,35 +1,18 @@
 -- Domains: which registrations make a port a boundary, what is known at a node, and what a new port declares.
 use Rattle.std.proofs.Common.{◌≡◌, ◌<◌, ℕ, zero, suc, Bool, true, false, not, ◌&&◌, ◌==◌, if◌then◌else◌, List, [], ◌∷◌, length, map, refl, sym, ap, subst, ◌∙◌, arith}
 use Rattle.std.specs.Prelude.{Option, Some, None, IsSome, filter, find, is_some, slice_index_or, option_map}
-use Rattle.std.specs.List.{flat_map, list_any}
-use Rattle.std.specs.Ordering.{nat_cmp, is_eq}
-use Rattle.std.proofs.lemmas.Bool.{eqb-true}
-use Rattle.std.proofs.lemmas.Bool.Decides.{nat_tests}
-use Rattle.srp_base.specs.declared.bandwidth.Class.{Class}
-use Rattle.srp_base.specs.declared.bandwidth.Class.TheVariants.{A, B}
-use Rattle.srp_base.specs.declared.numbers.Cs.{Cs}
-use Rattle.srp_base.specs.declared.numbers.StreamId.{StreamId}
-use Rattle.srp_base.specs.declared.streams.Talker.{Talker}
-use Rattle.srp_base.specs.declared.streams.TalkerReg.{TalkerReg}
-use Rattle.srp_base.specs.declared.streams.TalkerReg.TheVariants.{Absent}
+use Rattle.std.specs.{List.flat_map, List.list_any, Ordering.nat_cmp, Ordering.is_eq}
+use Rattle.std.proofs.lemmas.{Bool.eqb-true, Bool.Decides.nat_tests}
+use Rattle.std.proofs.lemmas.Bool.{or_parts as or_false}
+use Rattle.srp_base.specs.declared.{bandwidth.Class.Class, bandwidth.Class.TheVariants.A, bandwidth.Class.TheVariants.B, numbers.Cs.Cs, numbers.StreamId.StreamId, streams.Talker.Talker, streams.TalkerReg.TalkerReg, streams.TalkerReg.TheVariants.Absent}
 use Rattle.attribute_propagation.specs.Dirty.{is_awaiting}
-use Rattle.mrp_participant.specs.Lookup.{key_of}
-use Rattle.mrp_participant.specs.Row.{declared_in, declared_row, fresh_row, registered_in}
-use Rattle.mrp_participant.specs.State.{AreRows, declared_at, new_state, registered_at}
-use Rattle.msrp_codec.specs.declared.pdu.MsrpKey.{MsrpKey}
+use Rattle.mrp_participant.specs.{Lookup.key_of, Row.declared_in, Row.declared_row, Row.fresh_row, Row.registered_in, State.AreRows, State.declared_at, State.new_state, State.registered_at}
+use Rattle.msrp_codec.specs.declared.{pdu.MsrpKey.MsrpKey, pdu.MsrpContent.MsrpContent}
 use Rattle.msrp_codec.specs.declared.pdu.MsrpKey.TheVariants as keys
-use Rattle.msrp_codec.specs.declared.pdu.MsrpContent.{MsrpContent}
-use Rattle.msrp.specs.declared.domain.DomainSet.{DomainSet}
-use Rattle.msrp.specs.declared.domain.DomainSet.TheVariants.{Off, Nothing, OnlyA, Both}
+use Rattle.msrp.specs.{DomainSet, Off, Nothing, OnlyA, Both, key_cmp, same_content, registered_talker, talker_reg_of, are_counted, class_id, class_in, classes_of, domain_content, domain_key, domain_part, domain_stated, has_class, is_boundary_of, is_edge, is_value, first_talker, is_present, talkers_of, is_domain, is_domain_told, known_keys, registered_keys}
 use Rattle.msrp.specs.PortState.{PortState}
-use Rattle.msrp.specs.Part.{Part, key_cmp, same_content, registered_talker, talker_reg_of}
-use Rattle.msrp.specs.Domain.{are_counted, class_id, class_in, classes_of, domain_content, domain_key, domain_part, domain_stated, has_class, is_boundary_of, is_edge, is_value}
-use Rattle.msrp.specs.Stream.{first_talker, is_present, talkers_of}
-use Rattle.msrp.specs.Settling.{is_domain, is_domain_told, known_keys, registered_keys}
-use Rattle.msrp.proofs.KeyLemmas.{key_is, key_self}
-use Rattle.msrp.proofs.Places.{or_false}
-use Rattle.msrp.proofs.Contents.{HoldsOfEach, IsRowOf, MsrpRow}
-use Rattle.msrp.proofs.Talkers.{HasRows, not_in, own_absent}
+use Rattle.msrp.specs.Part.{Part}
+use Rattle.msrp.proofs.{KeyLemmas.key_is, KeyLemmas.key_self, Contents.HoldsOfEach, Contents.IsRowOf, Contents.MsrpRow, Talkers.HasRows, Talkers.not_in, Talkers.own_absent}
 
 -- ---- boundaries
 

@@ -1,22 +1,17 @@
 -- Where no timer is due, and where no key awaits at a port, the side stays.
 use Rattle.std.proofs.Common.{◌≡◌, ◌↔◌, ℕ, List, [], ◌++◌, refl, ap, ◌∙◌}
 use Rattle.std.specs.Prelude.{slice_get, slice_set, Option, Some, None}
-use Rattle.srp_base.specs.declared.numbers.Cs.{Cs}
-use Rattle.srp_base.specs.declared.numbers.StreamId.{StreamId}
+use Rattle.srp_base.proofs.Lists.{set-same}
+use Rattle.srp_base.specs.declared.{numbers.Cs.Cs, numbers.StreamId.StreamId}
 use Rattle.stream_importance.specs.declared.entry.Entry.{Entry}
-use Rattle.port_ledger.specs.Book.{Book, booked_only_in}
-use Rattle.port_ledger.specs.Decision.{IsAscending, booked_of}
+use Rattle.port_ledger.specs.{Book.Book, Book.booked_only_in, Decision.IsAscending, Decision.booked_of}
 use Rattle.attribute_propagation.specs.Ports.{marked_elsewhere}
 use Rattle.mrp_participant.specs.State.{due_state, left_keys}
 use Rattle.msrp_codec.specs.declared.pdu.MsrpKey.{MsrpKey}
 use Rattle.msrp.specs.PortState.{PortState}
-use Rattle.msrp.specs.Part.{Part, key_cmp}
-use Rattle.msrp.specs.Settling.{known_keys, moved_streams, next_book}
-use Rattle.msrp.specs.Side.{Streams, IsKept, awaiting_at, due_streams, with_told_port, seen_by, settled_streams, with_part}
-use Rattle.msrp.proofs.Keeping.{port_kept}
-use Rattle.msrp.proofs.Places.{set-same}
-use Rattle.msrp.proofs.Settled.{next_is}
-use Rattle.msrp.proofs.Telling.{Awaits, none_told}
+use Rattle.msrp.specs.Part.{Part}
+use Rattle.msrp.specs.{key_cmp, known_keys, moved_streams, next_book, Streams, IsKept, awaiting_at, due_streams, with_told_port, seen_by, settled_streams, with_part}
+use Rattle.msrp.proofs.{Keeping.port_kept, Settled.next_is, Telling.Awaits, Telling.none_told}
 
 -- ---- no timer is due
 

@@ -3,29 +3,20 @@ use Rattle.std.proofs.Common.{◌≡◌, ◌≤◌, ◌<◌, ℕ, zero, suc, Boo
 use Rattle.std.specs.Prelude.{◌≢◌, ◌||◌, nat_le, Contains, filter, fold, slice_get, slice_set, slice_index_or, Option, Some, None, option_map, Result, Ok, Err, OnOk, OnErr}
 use Rattle.std.specs.List.{list_any}
 use Rattle.std.proofs.lemmas.Option.{slice_get-map, slice_get_read}
-use Rattle.registrar.specs.declared.Registrar.{Registrar}
+use Rattle.std.proofs.lemmas.Bool.{or_parts as or_false}
+use Rattle.srp_base.proofs.Lists.{map-set}
+use Rattle.registrar.specs.declared.{Registrar.Registrar, RegEvent.TheVariants.RxLeaveAll}
 use Rattle.registrar.specs.declared.Registrar.TheVariants.{Held, Leaving, Empty}
-use Rattle.registrar.specs.declared.RegEvent.TheVariants.{RxLeaveAll}
 use Rattle.registrar.specs.Table.{is_leaving, is_registered_in, next}
-use Rattle.srp_base.specs.declared.numbers.Cs.{Cs}
-use Rattle.srp_base.specs.declared.numbers.StreamId.{StreamId}
-use Rattle.srp_base.specs.declared.streams.Talker.{Talker}
-use Rattle.attribute_propagation.specs.Dirty.{KeySet}
-use Rattle.attribute_propagation.specs.Ports.{HasRoom, keys_in}
-use Rattle.mrp_participant.specs.Lookup.{find, key_of, same}
-use Rattle.mrp_participant.specs.Row.{after_hear, leave_all_row, leave_is_due, registered_in, row_after_receive, row_hearing}
-use Rattle.mrp_participant.specs.State.{after, changed_keys, left_keys, received_state, registered_at}
+use Rattle.srp_base.specs.declared.{numbers.Cs.Cs, numbers.StreamId.StreamId, streams.Talker.Talker}
+use Rattle.attribute_propagation.specs.{Dirty.KeySet, Ports.HasRoom, Ports.keys_in}
+use Rattle.mrp_participant.specs.{Lookup.find, Lookup.key_of, Lookup.same, Row.after_hear, Row.leave_all_row, Row.leave_is_due, Row.registered_in, Row.row_after_receive, Row.row_hearing, State.after, State.changed_keys, State.left_keys, State.received_state, State.registered_at}
 use Rattle.msrp_codec.specs.declared.pdu.MsrpKey.{MsrpKey}
 use Rattle.msrp_codec.specs.declared.pdu.MsrpKey.TheVariants as keys
-use Rattle.msrp.specs.declared.domain.DomainSet.{DomainSet}
+use Rattle.msrp.specs.{DomainSet, key_cmp, same_content, are_counted, is_domain, is_domain_leaving, is_domain_told, known_keys, told_sets, IsKept, Streams, at_port, with_part, with_port_at, with_told_port, PortHolding, ports_in, streams_of}
 use Rattle.msrp.specs.PortState.{PortState}
-use Rattle.msrp.specs.Part.{Part, key_cmp, same_content}
-use Rattle.msrp.specs.Domain.{are_counted}
-use Rattle.msrp.specs.Settling.{is_domain, is_domain_leaving, is_domain_told, known_keys, told_sets}
-use Rattle.msrp.specs.Side.{IsKept, Streams, at_port, with_part, with_port_at, with_told_port}
-use Rattle.msrp.specs.Holding.{PortHolding, ports_in, streams_of}
+use Rattle.msrp.specs.Part.{Part}
 use Rattle.msrp.proofs.Contents.{MsrpHeard, MsrpRow}
-use Rattle.msrp.proofs.Places.{map-set, or_false}
 
 -- room for so many keys is room for fewer
 pub fewer : (n m : ℕ) (sets : List (KeySet MsrpKey)) → n ≤ m → HasRoom m sets → HasRoom n sets
@@ -46,10 +37,6 @@ pub state-read : (ports : List PortHolding) (at : ℕ) (x : PortHolding) → sli
 state-read [] at x = refl
 state-read (p ∷ ports) zero x = refl
 state-read (p ∷ ports) (suc at) x = state-read ports at x
-
-pub list_any-map : {X Y : Type 0} (p : Y → Bool) (f : X → Y) (xs : List X) → list_any p (map f xs) ≡ list_any (λ x. p (f x)) xs
-list_any-map p f [] = refl
-list_any-map p f (x ∷ xs) = ap (λ b. p (f x) || b) (list_any-map p f xs)
 
 pub port_is : (ports : List PortHolding) (at : ℕ) (x : PortHolding) → at < length ports → x ≡ slice_index_or ports at x → slice_get ports at ≡ Some x
 port_is ports at x below is = slice_get_read ports (length ports) at x refl below is
@@ -96,14 +83,6 @@ told_is ports old new talks listens moment at x y f told g some below is e said 
     rw (here, states-set ports at y, e, sets) refl
 
 -- ---- what an answer says
-
-pub on_err : {X E P : Type 0} (r : Result X E) → P → OnErr r P
-on_err (Ok x) h = tt
-on_err (Err e) h = h
-
-pub both_err : {X E : Type 0} {P Q R : Type 0} (r : Result X E) → (P → Q → R) → OnErr r P → OnErr r Q → OnErr r R
-both_err (Ok x) f p q = tt
-both_err (Err e) f p q = f p q
 
 pub kept_either : {X E : Type 0} (r : Result X E) (old new done : Streams) → IsKept old → IsKept done → OnOk r (new ≡ done) → OnErr r (new ≡ old) → IsKept new
 kept_either (Ok x) old new done was is ok err = subst IsKept (sym ok) is

@@ -2,9 +2,8 @@
 use Rattle.std.proofs.Common.{◌≡◌, ◌≢◌, ◌⊎◌, inl, inr, ℕ, Bool, true, false, List, [], ◌∷◌, map, refl, sym, ap, subst, ◌∙◌}
 use Rattle.std.specs.Prelude.{slice_get, Option, Some, None, option_map, ◌==◌}
 use Rattle.std.proofs.Math.ListN.{length-set}
-use Rattle.srp_base.specs.declared.numbers.StreamId.{StreamId}
-use Rattle.srp_base.specs.declared.streams.Talker.{Talker}
-use Rattle.srp_base.specs.declared.streams.ListenerKind.{ListenerKind}
+use Rattle.srp_base.proofs.{Arithmetic.decide, Lists.get-set_same, Lists.get_set_other as get-set_other, Lists.each-set, Lists.each-get}
+use Rattle.srp_base.specs.declared.{numbers.StreamId.StreamId, streams.Talker.Talker, streams.ListenerKind.ListenerKind, streams.TalkerReg.TheVariants.Absent}
 use Rattle.msrp_talker.specs.declared.port_config.PortConfig.{PortConfig}
 use Rattle.port_ledger.specs.Book.{Book, want_of}
 use Rattle.attribute_propagation.specs.Dirty.{is_awaiting}
@@ -12,18 +11,10 @@ use Rattle.mrp_participant.specs.State.{AreRows, declared_at, registered_at}
 use Rattle.msrp_codec.specs.declared.pdu.MsrpKey.{MsrpKey}
 use Rattle.msrp_codec.specs.declared.pdu.MsrpKey.TheVariants as keys
 use Rattle.msrp_codec.specs.declared.pdu.MsrpContent.TheVariants as contents
-use Rattle.srp_base.specs.declared.streams.TalkerReg.TheVariants.{Absent}
-use Rattle.msrp.specs.declared.domain.DomainSet.{DomainSet}
+use Rattle.msrp.specs.{DomainSet, key_cmp, registered_talker, registered_listener, listener_kind_of, talker_content, HasOwnContents, domain_stated, is_edge, Registrations, edge_at, registrations_of, first_talker, listener_at, stated_at, talk_of, is_listened, talkers_of, advertise_of, listener_row, is_domain_told, keys_of, known_keys, Streams, IsKept, IsPort, IsSettled, IsSettledAt, seen_by, with_port, with_told_port, with_port_at, with_asks, with_part, SameDeclared, TellsEach}
 use Rattle.msrp.specs.PortState.{PortState}
-use Rattle.msrp.specs.Part.{Part, key_cmp, registered_talker, registered_listener, listener_kind_of, talker_content, HasOwnContents}
-use Rattle.msrp.specs.Domain.{domain_stated, is_edge}
-use Rattle.msrp.specs.Stream.{Registrations, edge_at, registrations_of, first_talker, listener_at, stated_at, talk_of, is_listened, talkers_of, advertise_of, listener_row}
-use Rattle.msrp.specs.Settling.{is_domain_told, keys_of, known_keys}
-use Rattle.msrp.specs.Side.{Streams, IsKept, IsPort, IsSettled, IsSettledAt, seen_by, with_port, with_told_port, with_port_at, with_asks, with_part, SameDeclared, TellsEach}
-use Rattle.msrp.proofs.Places.{decide, get-set_same, get-set_other, each-set, each-get}
-use Rattle.msrp.proofs.Talkers.{HasRows, stated_by, wanted_by}
-use Rattle.msrp.proofs.Domains.{edge_alike, edge_untold, unknown_absent}
-use Rattle.msrp.proofs.Telling.{IsUntold, WasTold, as_many_told, none_heeded, none_told, was_told, talker_untold, listener_untold, registrations-same, untold, Awaits, unmarked, was_set, talker_other, listener_other}
+use Rattle.msrp.specs.Part.{Part}
+use Rattle.msrp.proofs.{Talkers.HasRows, Talkers.stated_by, Talkers.wanted_by, Domains.edge_alike, Domains.edge_untold, Domains.unknown_absent, Telling.IsUntold, Telling.WasTold, Telling.as_many_told, Telling.none_heeded, Telling.none_told, Telling.was_told, Telling.talker_untold, Telling.listener_untold, Telling.registrations-same, Telling.untold, Telling.Awaits, Telling.unmarked, Telling.was_set, Telling.talker_other, Telling.listener_other}
 
 -- a port's configuration, its ledger, whether it is a boundary, and what is registered of a stream are the same
 stated_talker : (at : ℕ) (c d : PortConfig) (b e : Book) (x y : Bool) (r q : Registrations) → c ≡ d → b ≡ e → x ≡ y → r ≡ q

@@ -5,7 +5,7 @@ use Rattle.std.proofs.lemmas.Bool.Decides.{nat_tests}
 use Rattle.srp_base.specs.declared.numbers.StreamId.{StreamId}
 use Rattle.msrp_codec.specs.declared.pdu.MsrpKey.{MsrpKey}
 use Rattle.msrp_codec.specs.declared.pdu.MsrpKey.TheVariants as keys
-use Rattle.msrp.specs.Part.{key_cmp, stream_cmp}
+use Rattle.msrp.specs.{key_cmp, stream_cmp}
 
 -- equal keys are one
 pub key_is : (a b : MsrpKey) → is_eq (key_cmp a b) ≡ true → a ≡ b

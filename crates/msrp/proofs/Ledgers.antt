@@ -8,8 +8,7 @@ use Rattle.stream_importance.specs.declared.entry.Want.{Want}
 use Rattle.port_ledger.specs.Book.{Book, unwanted_book, want_of, wanted_book, IsKept as IsKeptBook}
 use Rattle.attribute_propagation.specs.Dirty.{is_awaiting}
 use Rattle.msrp.proofs.KeyLemmas.{stream_is}
-use Rattle.msrp.specs.Part.{stream_cmp}
-use Rattle.msrp.specs.Settling.{book_with, book_without, with_wants, settled_book, taken_out}
+use Rattle.msrp.specs.{stream_cmp, book_with, book_without, with_wants, settled_book, taken_out}
 
 -- the laws of a ledger that settling rests on
 pub record BookLaws : Type 0 where

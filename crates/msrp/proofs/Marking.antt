@@ -2,23 +2,15 @@
 use Rattle.std.proofs.Common.{◌≡◌, ◌≤◌, ◌<◌, ◌+◌, ℕ, zero, suc, Bool, true, false, if◌then◌else◌, List, [], ◌∷◌, ◌++◌, length, map, drop, get_or, add-one, refl, ap, sym, ◌∙◌, arith}
 use Rattle.std.specs.Prelude.{slice_get, slice_index_or, slice_set, option_map, Option, Some, None}
 use Rattle.std.specs.List.{flat_map}
-use Rattle.std.proofs.lemmas.List.{drop_more}
-use Rattle.std.proofs.lemmas.Option.{slice_get-map, slice_get_read}
-use Rattle.attribute_propagation.specs.Dirty.{KeySet, all_marked}
-use Rattle.attribute_propagation.specs.Ports.{keys_in, keys_or_none, marked_everywhere}
-use Rattle.msrp_codec.specs.declared.pdu.MsrpKey.{MsrpKey}
+use Rattle.std.proofs.lemmas.{List.drop_more, Option.slice_get-map, Option.slice_get_read}
+use Rattle.srp_base.proofs.Lists.{mapped_length as mapped_count, map-set}
+use Rattle.attribute_propagation.specs.{Dirty.KeySet, Dirty.all_marked, Ports.keys_in, Ports.keys_or_none, Ports.marked_everywhere}
+use Rattle.msrp_codec.specs.declared.{pdu.MsrpKey.MsrpKey, pdu.MsrpContent.MsrpContent}
 use Rattle.msrp_codec.specs.declared.pdu.MsrpKey.TheVariants as keys
-use Rattle.msrp_codec.specs.declared.pdu.MsrpContent.{MsrpContent}
-use Rattle.srp_base.specs.declared.numbers.StreamId.{StreamId}
-use Rattle.srp_base.specs.declared.streams.Talker.{Talker}
-use Rattle.mrp_participant.specs.Lookup.{key_of}
-use Rattle.mrp_participant.specs.State.{registered_at}
-use Rattle.msrp.specs.Part.{Part, key_cmp, talker_reg_of}
-use Rattle.msrp.specs.Stream.{is_present}
-use Rattle.msrp.specs.declared.domain.DomainSet.{DomainSet}
-use Rattle.msrp.specs.Holding.{PortHolding, ports_in}
-use Rattle.msrp.proofs.Places.{map-set}
-use Rattle.msrp.specs.Settling.{all_keys_with, is_domain_told, keys_of, keys_with, marked_here, stream_in, told_sets, talker_key_if, talker_keys, talker_keys_in}
+use Rattle.srp_base.specs.declared.{numbers.StreamId.StreamId, streams.Talker.Talker}
+use Rattle.mrp_participant.specs.{Lookup.key_of, State.registered_at}
+use Rattle.msrp.specs.Part.{Part}
+use Rattle.msrp.specs.{key_cmp, talker_reg_of, is_present, DomainSet, PortHolding, ports_in, all_keys_with, is_domain_told, keys_of, keys_with, marked_here, stream_in, told_sets, talker_key_if, talker_keys, talker_keys_in}
 
 -- ---- marks
 
@@ -60,10 +52,6 @@ by_key s key = talker_key_if key (registered_at key_cmp key s)
 -- the Talker keys of the rows from a place on
 abbrev pub talker_keys_from : ℕ → Part → List MsrpKey
 talker_keys_from place s = flat_map (by_key s) (drop place (map key_of s.rows))
-
-pub mapped_count : {X Y : Type 0} (f : X → Y) (xs : List X) → length (map f xs) ≡ length xs
-mapped_count f [] = refl
-mapped_count f (x ∷ xs) = ap suc (mapped_count f xs)
 
 at_most_one : (key : MsrpKey) (s : Part) → length (by_key s key) ≤ 1
 at_most_one (keys.Talker stream) s = by (is_present (talker_reg_of (registered_at key_cmp (keys.Talker stream) s)))
@@ -160,12 +148,6 @@ told_here at domain told known old new x y below is marked became heeded =
     map-set (λ (set : KeySet MsrpKey). set.keys) new at y
     ∙ (ap (slice_set (keys_in new) at) (became ∙ ap (λ o. all_marked key_cmp (all_keys_with known) (keys_or_none o)) (sym there))
     ∙ (ap (λ sets. marked_here at (all_keys_with known) sets) marked ∙ ap (λ b. if b then marked_here at (all_keys_with known) all else all) (sym heeded)))
-
-pub drop_none : {X : Type 0} (xs : List X) (i : ℕ) → length xs ≤ i → drop i xs ≡ []
-drop_none [] zero end = refl
-drop_none [] (suc i) end = refl
-drop_none (x ∷ xs) zero end = absurd (omega (arith, end))
-drop_none (x ∷ xs) (suc i) end = drop_none xs i (omega (arith, end))
 
 -- what stands at a place, before the rest
 pub split_at : {X : Type 0} (xs : List X) (i : ℕ) → i < length xs → (x : X) × (slice_get xs i ≡ Some x) × (drop i xs ≡ x ∷ drop (i + 1) xs)

@@ -2,32 +2,21 @@
 use Rattle.std.proofs.Common.{◌≡◌, ℕ, zero, suc, ◌≤◌, Bool, false, if◌then◌else◌, List, [], ◌∷◌, map, refl, sym, ap, subst, ◌∙◌, arith}
 use Rattle.std.specs.Prelude.{slice_get, Option, Some, None, find, option_map, unwrap_or}
 use Rattle.std.specs.List.{AllByRecursion}
-use Rattle.srp_base.specs.declared.numbers.Cs.{Cs}
-use Rattle.srp_base.specs.declared.numbers.BridgeId.{BridgeId}
-use Rattle.srp_base.specs.declared.numbers.StreamId.{StreamId}
-use Rattle.srp_base.specs.declared.ports.PortSetup.{PortSetup}
-use Rattle.stream_importance.specs.declared.slope.Caps.{Caps}
+use Rattle.srp_base.proofs.Lists.{mapped_length}
+use Rattle.srp_base.specs.declared.{numbers.Cs.Cs, numbers.BridgeId.BridgeId, numbers.StreamId.StreamId, ports.PortSetup.PortSetup, streams.TalkerReg.TheVariants.Absent}
+use Rattle.stream_importance.specs.declared.{slope.Caps.Caps, entry.Want.Want}
 use Rattle.srp_base.specs.Bandwidth.{bits_of}
 use Rattle.stream_importance.specs.Bandwidth.{caps_of}
 use Rattle.port_ledger.specs.Book.{empty_book, IsKept as IsKeptBook}
 use Rattle.mrp_participant.specs.State.{declared_at}
-use Rattle.msrp_codec.specs.declared.pdu.MsrpKey.{MsrpKey}
+use Rattle.msrp_codec.specs.declared.{pdu.MsrpKey.MsrpKey, pdu.MsrpContent.MsrpContent}
 use Rattle.msrp_codec.specs.declared.pdu.MsrpKey.TheVariants as keys
-use Rattle.stream_importance.specs.declared.entry.Want.{Want}
 use Rattle.msrp_listener.specs.Merging.{listener_out}
 use Rattle.msrp_codec.specs.Content.{Belongs}
-use Rattle.msrp_codec.specs.declared.pdu.MsrpContent.{MsrpContent}
 use Rattle.msrp_codec.specs.declared.pdu.MsrpContent.TheVariants as contents
-use Rattle.msrp.specs.declared.domain.DomainSet.{DomainSet}
+use Rattle.msrp.specs.{DomainSet, key_cmp, listener_kind_of, registered_listener, registered_talker, talker_reg_of, edge_at, first_talker, is_number, is_present, is_ready, is_talker_port, other_listeners, stated_at, talkers_of, want_of_reg, wanted_at, IsKept, IsPort, IsSettled, new_port, new_streams, seen_by}
 use Rattle.msrp.specs.PortState.{PortState}
-use Rattle.msrp.specs.Part.{key_cmp, listener_kind_of, registered_listener, registered_talker, talker_reg_of}
-use Rattle.srp_base.specs.declared.streams.TalkerReg.TheVariants.{Absent}
-use Rattle.msrp.specs.Stream.{edge_at, first_talker, is_number, is_present, is_ready, is_talker_port, other_listeners, stated_at, talkers_of, want_of_reg, wanted_at}
-use Rattle.msrp.specs.Side.{IsKept, IsPort, IsSettled, new_port, new_streams, seen_by}
-use Rattle.msrp.proofs.Contents.{own_from}
-use Rattle.msrp.proofs.Domains.{new_domain, new_each, new_listener, new_registered, new_rows, new_talker}
-use Rattle.msrp.proofs.Places.{mapped_length}
-use Rattle.msrp.proofs.Talkers.{absent_stated, no_port}
+use Rattle.msrp.proofs.{Contents.own_from, Domains.new_domain, Domains.new_each, Domains.new_listener, Domains.new_registered, Domains.new_rows, Domains.new_talker, Talkers.absent_stated, Talkers.no_port}
 
 -- class A has no more than both classes
 pub shares : (p : PortSetup) → (caps_of p.rate p.delta_a p.delta_b).class_a ≤ (caps_of p.rate p.delta_a p.delta_b).both

@@ -2,14 +2,11 @@
 use Rattle.std.proofs.Common.{◌≡◌, ◌≢◌, ℕ, zero, suc, ◌<◌, false, ◌||◌, ◌==◌, if◌then◌else◌, List, [], ◌∷◌, length, refl, sym, ap, ◌∙◌, arith}
 use Rattle.std.specs.Prelude.{slice_get, slice_set, Option, Some, None, option_map}
 use Rattle.std.proofs.lemmas.Bool.Decides.{nat_tests}
-use Rattle.attribute_propagation.specs.Dirty.{all_marked, is_awaiting}
-use Rattle.attribute_propagation.specs.Ports.{marked_elsewhere, keys_or_none}
+use Rattle.srp_base.proofs.Lists.{get-set_same, get_set_other as get-set_other}
+use Rattle.attribute_propagation.specs.{Dirty.all_marked, Dirty.is_awaiting, Ports.marked_elsewhere, Ports.keys_or_none}
 use Rattle.msrp_codec.specs.declared.pdu.MsrpKey.{MsrpKey}
 use Rattle.msrp.specs.PortState.{PortState}
-use Rattle.msrp.specs.Part.{key_cmp}
-use Rattle.msrp.specs.Settling.{listener_keys, moved_streams}
-use Rattle.msrp.specs.Side.{Streams, awaiting_at, moved_keys, settled_at, settled_streams}
-use Rattle.msrp.proofs.Places.{get-set_same, get-set_other}
+use Rattle.msrp.specs.{key_cmp, listener_keys, moved_streams, Streams, awaiting_at, moved_keys, settled_at, settled_streams}
 use Rattle.msrp.proofs.Telling.{Awaits}
 
 emptied : (sets : List (List MsrpKey)) (at : ℕ) → keys_or_none (slice_get (slice_set sets at []) at) ≡ []

@@ -2,10 +2,8 @@
 use Rattle.std.proofs.Common.{◌≡◌, Bool, true, false, not, ◌||◌, ◌==◌, if◌then◌else◌, List, [], ◌∷◌, refl, arith}
 use Rattle.std.specs.Prelude.{Some}
 use Rattle.std.proofs.lemmas.Bool.Decides.{nat_tests}
-use Rattle.srp_base.specs.declared.numbers.StreamId.{StreamId}
-use Rattle.srp_base.specs.declared.streams.Talker.{Talker}
-use Rattle.msrp.specs.Stream.{talk_of, is_listened}
-use Rattle.msrp.specs.Side.{talks_without, listens_without}
+use Rattle.srp_base.specs.declared.{numbers.StreamId.StreamId, streams.Talker.Talker}
+use Rattle.msrp.specs.{talk_of, is_listened, talks_without, listens_without}
 
 pub talks_other : (x s : StreamId) (talks : List Talker) → (s.0 == x.0) ≡ false → talk_of s (talks_without x talks) ≡ talk_of s talks
 talks_other x s [] ne = refl

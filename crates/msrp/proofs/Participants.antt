@@ -1,16 +1,13 @@
 -- What settling keys leaves of a participant: each of them is declared by the rule, and no registration changes.
 use Rattle.std.proofs.Common.{◌≡◌, Bool, true, false, ◌||◌, if◌then◌else◌, List, [], ◌∷◌, refl, ap, ◌∙◌}
 use Rattle.std.specs.Prelude.{Option, Some, None}
-use Rattle.mrp_participant.specs.Lookup.{ChangesOnly, find, same}
-use Rattle.mrp_participant.specs.Row.{after_declare, after_withdraw}
-use Rattle.mrp_participant.specs.State.{AreRows, declared_at, registered_at, declared_state, withdrawn_state}
+use Rattle.mrp_participant.specs.{Lookup.ChangesOnly, Lookup.find, Lookup.same, Row.after_declare, Row.after_withdraw, State.AreRows, State.declared_at, State.registered_at, State.declared_state, State.withdrawn_state}
 use Rattle.attribute_propagation.specs.Dirty.{is_awaiting}
-use Rattle.msrp_codec.specs.declared.pdu.MsrpKey.{MsrpKey}
-use Rattle.msrp_codec.specs.declared.pdu.MsrpContent.{MsrpContent}
+use Rattle.msrp_codec.specs.declared.{pdu.MsrpKey.MsrpKey, pdu.MsrpContent.MsrpContent}
 use Rattle.msrp_codec.specs.Content.{Belongs}
-use Rattle.msrp.proofs.KeyLemmas.{key_is}
-use Rattle.msrp.specs.Part.{Part, key_cmp, same_content, settled_as, settled_part, HasOwnContents}
-use Rattle.msrp.proofs.Contents.{HoldsOfEach, each-changed, own_row, own_from, declared_own, withdrawn_own}
+use Rattle.msrp.proofs.{KeyLemmas.key_is, Contents.HoldsOfEach, Contents.each-changed, Contents.own_row, Contents.own_from, Contents.declared_own, Contents.withdrawn_own}
+use Rattle.msrp.specs.Part.{Part}
+use Rattle.msrp.specs.{key_cmp, same_content, settled_as, settled_part, HasOwnContents}
 
 -- the laws of a participant that settling rests on
 pub record PartLaws : Type 0 where

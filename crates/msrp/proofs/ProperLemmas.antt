@@ -2,39 +2,18 @@
 use Rattle.std.proofs.Common.{◌≡◌, inr, ℕ, ◌^◌, ◌<◌, ◌≤◌, Bool, true, false, not, ◌==◌, if◌then◌else◌, List, [], ◌∷◌, map, refl, subst}
 use Rattle.std.specs.Prelude.{slice_get, slice_set, Option, Some, None}
 use Rattle.std.specs.List.{AllByRecursion}
-use Rattle.srp_base.specs.declared.numbers.BridgeId.{BridgeId}
-use Rattle.srp_base.specs.declared.numbers.Cs.{Cs}
-use Rattle.srp_base.specs.declared.numbers.StreamId.{StreamId}
-use Rattle.srp_base.specs.declared.ports.PortSetup.{PortSetup}
-use Rattle.srp_base.specs.declared.streams.Talker.{Talker}
+use Rattle.srp_base.proofs.Lists.{each_filter as all_filtered, each-get, each-set, paired}
+use Rattle.srp_base.specs.declared.{numbers.BridgeId.BridgeId, numbers.Cs.Cs, numbers.StreamId.StreamId, ports.PortSetup.PortSetup, streams.Talker.Talker}
 use Rattle.stream_importance.specs.declared.slope.Caps.{Caps}
 use Rattle.port_ledger.specs.Book.{Book, empty_book, IsKept as IsKeptBook}
 use Rattle.attribute_propagation.specs.Ports.{marked_elsewhere}
 use Rattle.mrp_participant.specs.State.{AreRows, registered_at}
 use Rattle.msrp_codec.specs.declared.pdu.MsrpKey.{MsrpKey}
 use Rattle.msrp_codec.specs.FirstValue.{IsTalker}
-use Rattle.msrp.specs.declared.domain.DomainSet.{DomainSet}
+use Rattle.msrp.specs.{DomainSet, SrpRequest, Talk, Hush, Listen, Unlisten, key_cmp, HasOwnContents, is_listened, stated_at, talk_of, known_keys, moved_streams, next_book, settling_keys, talker_keys, Streams, clocked_port, clocked_streams, has_listen, has_talk, is_talk, listens_without, moved_keys, new_port, new_streams, with_asks, with_port_at, requested_streams, with_told_port, seen_by, settled_at, settled_streams, talks_without, with_part, with_port, SameDeclared, TellsEach, AreOfRange, HasRanges, IsProper, IsRequestInRange}
 use Rattle.msrp.specs.PortState.{PortState}
-use Rattle.msrp.specs.declared.asking.SrpRequest.{SrpRequest}
-use Rattle.msrp.specs.declared.asking.SrpRequest.TheVariants.{Talk, Hush, Listen, Unlisten}
-use Rattle.msrp.specs.Part.{Part, key_cmp, HasOwnContents}
-use Rattle.msrp.specs.Stream.{is_listened, stated_at, talk_of}
-use Rattle.msrp.specs.Settling.{known_keys, moved_streams, next_book, settling_keys, talker_keys}
-use Rattle.msrp.specs.Side.{Streams, clocked_port, clocked_streams, has_listen, has_talk, is_talk, listens_without, moved_keys, new_port, new_streams, with_asks, with_port_at, requested_streams, with_told_port, seen_by, settled_at, settled_streams, talks_without, with_part, with_port, SameDeclared, TellsEach}
-use Rattle.msrp.specs.Proper.{AreOfRange, HasRanges, IsProper, IsRequestInRange}
-use Rattle.msrp.proofs.Places.{all_filtered, each-get, each-set, paired}
-use Rattle.msrp.proofs.Telling.{Awaits, none_told}
-use Rattle.msrp.proofs.Talkers.{HasRows}
-use Rattle.msrp.proofs.Domains.{new_each}
-use Rattle.msrp.proofs.Keeping.{KnowsTalkers, kept-asked, kept-retold, knows_none, knows_talkers, port_kept}
-use Rattle.msrp.proofs.NewSide.{kept-new, shares}
-use Rattle.msrp.proofs.OtherStreams.{talks_other, talks_more, listens_more, listens_other}
-use Rattle.msrp.proofs.Clocked.{Laws, kept-clocked}
-use Rattle.msrp.proofs.Participants.{PartLaws, each-settled}
-use Rattle.msrp.proofs.Ledgers.{BookLaws}
-use Rattle.msrp.proofs.Rules.{AwaitsStreams}
-use Rattle.msrp.proofs.Settled.{MoveLaws, kept-settled}
-use Rattle.msrp.proofs.Ranges.{IsWithin, range_from, range_row, rule_in, value_in}
+use Rattle.msrp.specs.Part.{Part}
+use Rattle.msrp.proofs.{Telling.Awaits, Telling.none_told, Talkers.HasRows, Domains.new_each, Keeping.KnowsTalkers, Keeping.kept-asked, Keeping.kept-retold, Keeping.knows_none, Keeping.knows_talkers, Keeping.port_kept, NewSide.kept-new, NewSide.shares, OtherStreams.talks_other, OtherStreams.talks_more, OtherStreams.listens_more, OtherStreams.listens_other, Clocked.Laws, Clocked.kept-clocked, Participants.PartLaws, Participants.each-settled, Ledgers.BookLaws, Rules.AwaitsStreams, Settled.MoveLaws, Settled.kept-settled, Ranges.IsWithin, Ranges.range_from, Ranges.range_row, Ranges.rule_in, Ranges.value_in}
 
 -- ---- one port
 

@@ -1,43 +1,26 @@
 -- What is kept, stated and declared fits in the fields in which it is sent.
 use Rattle.std.proofs.Common.{◌≡◌, ℕ, zero, suc, ◌+◌, ◌-◌, ◌^◌, ◌<◌, Bool, true, false, ◌&&◌, ◌==◌, if◌then◌else◌, List, [], ◌∷◌, map, refl, subst, arith}
 use Rattle.std.specs.Prelude.{Option, Some, None, find, filter, is_none, min, nat_lt, position, slice_index_or, option_map, option_and_then, unwrap_or}
-use Rattle.std.specs.Option.{option_or}
+use Rattle.std.specs.{Option.option_or, List.AllByRecursion}
 use Rattle.std.proofs.Math.Nat.{min-le_right}
 use Rattle.std.proofs.lemmas.List.Quantifiers.{position-Some}
-use Rattle.std.specs.List.{AllByRecursion}
-use Rattle.srp_base.specs.declared.bandwidth.Class.{Class}
-use Rattle.srp_base.specs.declared.bandwidth.Class.TheVariants.{A, B}
-use Rattle.srp_base.specs.declared.numbers.StreamId.{StreamId}
-use Rattle.srp_base.specs.declared.streams.Talker.{Talker}
-use Rattle.srp_base.specs.declared.streams.ListenerKind.{ListenerKind}
-use Rattle.srp_base.specs.declared.streams.TalkerReg.{TalkerReg}
+use Rattle.srp_base.specs.declared.{bandwidth.Class.Class, bandwidth.Class.TheVariants.A, bandwidth.Class.TheVariants.B, numbers.StreamId.StreamId, streams.Talker.Talker, streams.ListenerKind.ListenerKind, streams.TalkerReg.TalkerReg}
 use Rattle.srp_base.specs.declared.streams.TalkerReg.TheVariants.{Absent, Advertise, Failed}
-use Rattle.stream_importance.specs.declared.entry.Fit.{Fit}
-use Rattle.stream_importance.specs.declared.entry.Fit.TheVariants.{Fits, TooLittle}
-use Rattle.stream_importance.specs.declared.entry.Want.{Want}
-use Rattle.stream_importance.specs.declared.entry.Entry.{Entry}
+use Rattle.stream_importance.specs.declared.{entry.Fit.Fit, entry.Fit.TheVariants.Fits, entry.Fit.TheVariants.TooLittle, entry.Want.Want, entry.Entry.Entry}
 use Rattle.stream_importance.specs.Bandwidth.{cap_of}
-use Rattle.port_ledger.specs.Decision.{above, booked_of, does_fit}
-use Rattle.port_ledger.specs.Book.{Book, fit_for, is_normal, tested_entry}
+use Rattle.port_ledger.specs.{Decision.above, Decision.booked_of, Decision.does_fit, Book.Book, Book.fit_for, Book.is_normal, Book.tested_entry}
 use Rattle.msrp_talker.specs.declared.port_config.PortConfig.{PortConfig}
 use Rattle.msrp_talker.specs.TalkerOut.{boundary_code, class_of_priority, fit_code, declared_of, delayed_by, refusal_of, talker_in, talker_out}
 use Rattle.mrp_participant.specs.State.{registered_at}
 use Rattle.msrp_listener.specs.Merging.{listener_out}
-use Rattle.msrp_codec.specs.declared.pdu.MsrpKey.{MsrpKey}
+use Rattle.msrp_codec.specs.declared.{pdu.MsrpKey.MsrpKey, pdu.MsrpContent.MsrpContent}
 use Rattle.msrp_codec.specs.declared.pdu.MsrpKey.TheVariants as keys
-use Rattle.msrp_codec.specs.declared.pdu.MsrpContent.{MsrpContent}
 use Rattle.msrp_codec.specs.declared.pdu.MsrpContent.TheVariants as contents
-use Rattle.msrp_codec.specs.Content.{value_of}
-use Rattle.msrp_codec.specs.FirstValue.{IsFailure, IsFirst, IsTalker}
+use Rattle.msrp_codec.specs.{Content.value_of, FirstValue.IsFailure, FirstValue.IsFirst, FirstValue.IsTalker}
 use Rattle.msrp.specs.PortState.{PortState}
-use Rattle.msrp.specs.Part.{Part, key_cmp, registered_talker, talker_content, talker_reg_of}
-use Rattle.msrp.specs.Domain.{domain_content, domain_key}
-use Rattle.msrp.specs.Stream.{advertise_of, edge_at, fit_at, is_number, is_present, is_talker_port, stated_at, talk_of, other_listeners, talker_at, first_talker, talkers_of, want_of_talker}
-use Rattle.msrp.specs.Side.{Streams, IsPort, seen_by}
-use Rattle.msrp.specs.Proper.{AreOfRange, HasRanges}
-use Rattle.msrp.proofs.Contents.{HoldsOfEach}
-use Rattle.msrp.proofs.Domains.{stated_value}
-use Rattle.msrp.proofs.Rules.{IsOf, found_holds, of_talker, registered_holds}
+use Rattle.msrp.specs.Part.{Part}
+use Rattle.msrp.specs.{key_cmp, registered_talker, talker_content, talker_reg_of, domain_content, domain_key, advertise_of, edge_at, fit_at, is_number, is_present, is_talker_port, stated_at, talk_of, other_listeners, talker_at, first_talker, talkers_of, want_of_talker, Streams, IsPort, seen_by, AreOfRange, HasRanges}
+use Rattle.msrp.proofs.{Contents.HoldsOfEach, Domains.stated_value, Rules.IsOf, Rules.found_holds, Rules.of_talker, Rules.registered_holds}
 
 -- a content of a key fits
 abbrev pub IsWithin : MsrpKey → MsrpContent → Type 0

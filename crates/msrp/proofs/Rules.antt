@@ -1,38 +1,25 @@
 -- What the rules state of a key is of the key, and what they want is of the stream.
 use Rattle.std.proofs.Common.{◌≡◌, ℕ, suc, Bool, true, false, not, ◌&&◌, ◌||◌, ◌==◌, if◌then◌else◌, List, [], ◌∷◌, ◌++◌, map, refl, sym, ap, subst, ◌∙◌, arith}
 use Rattle.std.specs.Prelude.{Option, Some, None, find, is_none, option_map, unwrap_or}
-use Rattle.std.specs.List.{AllByRecursion, filter_map, list_any}
-use Rattle.std.specs.Ordering.{nat_cmp, is_eq}
+use Rattle.std.specs.{List.AllByRecursion, List.filter_map, List.list_any, Ordering.nat_cmp, Ordering.is_eq}
 use Rattle.std.proofs.lemmas.Bool.Decides.{nat_tests}
+use Rattle.std.proofs.lemmas.Bool.{or_parts as or_false}
 use Rattle.registrar.specs.Table as registrar
-use Rattle.srp_base.specs.declared.bandwidth.Class.{Class}
-use Rattle.srp_base.specs.declared.numbers.StreamId.{StreamId}
-use Rattle.srp_base.specs.declared.streams.Talker.{Talker}
-use Rattle.srp_base.specs.declared.streams.ListenerKind.{ListenerKind}
-use Rattle.srp_base.specs.declared.streams.TalkerReg.{TalkerReg}
+use Rattle.srp_base.specs.declared.{bandwidth.Class.Class, numbers.StreamId.StreamId, streams.Talker.Talker, streams.ListenerKind.ListenerKind, streams.TalkerReg.TalkerReg}
 use Rattle.srp_base.specs.declared.streams.TalkerReg.TheVariants.{Absent, Advertise, Failed}
-use Rattle.stream_importance.specs.declared.entry.Fit.{Fit}
-use Rattle.stream_importance.specs.declared.entry.Fit.TheVariants.{Fits}
-use Rattle.stream_importance.specs.declared.entry.Want.{Want}
+use Rattle.stream_importance.specs.declared.{entry.Fit.Fit, entry.Fit.TheVariants.Fits, entry.Want.Want}
 use Rattle.msrp_talker.specs.declared.port_config.PortConfig.{PortConfig}
 use Rattle.msrp_talker.specs.TalkerOut.{check_of, class_of_priority, declared_of, delayed_by, refusal_of, talker_out}
 use Rattle.attribute_propagation.specs.Dirty.{is_awaiting, all_marked}
-use Rattle.mrp_participant.specs.Lookup.{find as row_of}
-use Rattle.mrp_participant.specs.Row.{registered_in}
-use Rattle.mrp_participant.specs.State.{registered_at}
-use Rattle.msrp_codec.specs.declared.pdu.MsrpKey.{MsrpKey}
+use Rattle.mrp_participant.specs.{Lookup.find as row_of, Row.registered_in, State.registered_at}
+use Rattle.msrp_codec.specs.declared.{pdu.MsrpKey.MsrpKey, pdu.MsrpContent.MsrpContent}
 use Rattle.msrp_codec.specs.declared.pdu.MsrpKey.TheVariants as keys
-use Rattle.msrp_codec.specs.declared.pdu.MsrpContent.{MsrpContent}
 use Rattle.msrp_codec.specs.declared.pdu.MsrpContent.TheVariants as contents
 use Rattle.msrp_codec.specs.Content.{Belongs}
 use Rattle.msrp.specs.PortState.{PortState}
-use Rattle.msrp.specs.Part.{Part, key_cmp, stream_cmp, registered_listener, registered_talker, talker_content, talker_reg_of}
-use Rattle.msrp.specs.Stream.{advertise_of, edge_at, fit_at, is_present, is_ready, is_talker_port, listener_at, stated_at, talk_of, talker_at, first_talker, talkers_of, want_in_class, want_of_reg, want_of_talker, wanted_at}
-use Rattle.msrp.specs.Settling.{listener_keys, stream_in, streams_in}
-use Rattle.msrp.specs.Side.{Streams, IsPort, seen_by}
-use Rattle.msrp.proofs.Places.{or_false}
-use Rattle.msrp.proofs.Contents.{HoldsOfEach, MsrpRow, own_row}
-use Rattle.msrp.proofs.Domains.{stated_value}
+use Rattle.msrp.specs.Part.{Part}
+use Rattle.msrp.specs.{key_cmp, stream_cmp, registered_listener, registered_talker, talker_content, talker_reg_of, advertise_of, edge_at, fit_at, is_present, is_ready, is_talker_port, listener_at, stated_at, talk_of, talker_at, first_talker, talkers_of, want_in_class, want_of_reg, want_of_talker, wanted_at, listener_keys, stream_in, streams_in, Streams, IsPort, seen_by}
+use Rattle.msrp.proofs.{Contents.HoldsOfEach, Contents.MsrpRow, Contents.own_row, Domains.stated_value}
 
 -- a Talker that is registered or declared is of a stream
 abbrev pub IsOf : StreamId → TalkerReg → Type 0

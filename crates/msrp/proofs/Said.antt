@@ -1,22 +1,16 @@
 -- What is sent is of its keys.
-use Rattle.std.proofs.Common.{◌≡◌, ◌≢◌, ◌≤◌, suc, Bool, true, false, ◌||◌, List, [], ◌∷◌, length, refl, subst, arith}
+use Rattle.std.proofs.Common.{◌≡◌, ◌≢◌, ◌≤◌, Bool, true, false, ◌||◌, List, [], ◌∷◌, length, refl, subst, arith}
 use Rattle.std.specs.Prelude.{nat_lt, Option, Some, None, Contains, option_map, option_to_list}
 use Rattle.std.specs.List.{AllByRecursion}
 use Rattle.std.proofs.lemmas.Bool.Decides.{nat_tests}
+use Rattle.srp_base.proofs.Lists.{each-contained as of_each, each_filter as all_filtered, each_append as all_joined}
 use Rattle.mrp_participant.specs.Lookup.{find}
-use Rattle.msrp_codec.specs.declared.pdu.MsrpKey.{MsrpKey}
-use Rattle.msrp_codec.specs.declared.pdu.MsrpContent.{MsrpContent}
+use Rattle.msrp_codec.specs.declared.{pdu.MsrpKey.MsrpKey, pdu.MsrpContent.MsrpContent}
 use Rattle.msrp_codec.specs.declared.attribute_type.AttributeType.TheVariants.{Advertise, Failed, Listener, Domain}
-use Rattle.msrp_codec.specs.Meaning.{KeyEvent}
-use Rattle.msrp_codec.specs.Writing.{has_type, in_type_order, of_type}
-use Rattle.msrp.specs.Part.{Part, key_cmp}
+use Rattle.msrp_codec.specs.{Meaning.KeyEvent, Writing.has_type, Writing.in_type_order, Writing.of_type}
+use Rattle.msrp.specs.Part.{Part}
+use Rattle.msrp.specs.{key_cmp}
 use Rattle.msrp.proofs.Contents.{HoldsOfEach, MsrpRow}
-use Rattle.msrp.proofs.Places.{all_filtered, all_joined}
-
--- what holds of each element that a list contains
-pub of_each : {X : Type 0} (P : X → Type 0) (xs : List X) → ((x : X) → Contains xs x → P x) → AllByRecursion P xs
-of_each P [] all = tt
-of_each P (x ∷ xs) all = (all x (0, omega arith, refl), of_each P xs (λ y c. all y (suc c.0, omega (arith, c.1), c.2)))
 
 -- what holds of both contents of each key that has a row holds of the content of a key's row
 pub stated_holds : (P : MsrpKey → MsrpContent → Type 0) (s : Part) → HoldsOfEach P s → (key : MsrpKey) (c : MsrpContent) → option_map (λ (r : MsrpRow). r.content) (find key_cmp key s.rows) ≡ Some c → P key c

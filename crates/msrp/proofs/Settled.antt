@@ -4,40 +4,24 @@ use Rattle.std.specs.Prelude.{slice_get, slice_set, Option, Some, None, is_some,
 use Rattle.std.specs.List.{filter_map, list_any}
 use Rattle.std.proofs.Math.ListN.{length-set}
 use Rattle.std.proofs.lemmas.Bool.Decides.{nat_tests}
-use Rattle.srp_base.specs.declared.numbers.StreamId.{StreamId}
-use Rattle.srp_base.specs.declared.streams.TalkerReg.{TalkerReg}
-use Rattle.srp_base.specs.declared.streams.TalkerReg.TheVariants.{Absent}
-use Rattle.srp_base.specs.declared.streams.ListenerKind.{ListenerKind}
-use Rattle.stream_importance.specs.declared.entry.Want.{Want}
-use Rattle.stream_importance.specs.declared.entry.Entry.{Entry}
-use Rattle.stream_importance.specs.declared.entry.Fit.{Fit}
-use Rattle.stream_importance.specs.declared.entry.Fit.TheVariants.{Fits}
+use Rattle.std.proofs.lemmas.Bool.{or_parts as or_false}
+use Rattle.srp_base.proofs.{Arithmetic.decide, Lists.each-get, Lists.each-set, Lists.get_set_other as get-set_other, Lists.get-set_same, Lists.map-set, Lists.map-set_same, Lists.paired}
+use Rattle.srp_base.specs.declared.{numbers.StreamId.StreamId, streams.TalkerReg.TalkerReg, streams.TalkerReg.TheVariants.Absent, streams.ListenerKind.ListenerKind}
+use Rattle.stream_importance.specs.declared.{entry.Want.Want, entry.Entry.Entry, entry.Fit.Fit, entry.Fit.TheVariants.Fits}
 use Rattle.msrp_talker.specs.declared.port_config.PortConfig.{PortConfig}
 use Rattle.msrp_talker.specs.TalkerOut.{talker_in, talker_out}
 use Rattle.msrp_listener.specs.declared.port_listener.PortListener.{PortListener}
 use Rattle.msrp_listener.specs.Merging.{listener_out}
-use Rattle.port_ledger.specs.Decision.{booked_of, IsAscending}
-use Rattle.port_ledger.specs.Book.{Book, booked_only_in, fit_for, since_of, want_of}
-use Rattle.attribute_propagation.specs.Dirty.{is_awaiting, all_marked}
-use Rattle.attribute_propagation.specs.Ports.{marked_elsewhere}
+use Rattle.port_ledger.specs.{Decision.booked_of, Decision.IsAscending, Book.Book, Book.booked_only_in, Book.fit_for, Book.since_of, Book.want_of}
+use Rattle.attribute_propagation.specs.{Dirty.is_awaiting, Dirty.all_marked, Ports.marked_elsewhere}
 use Rattle.mrp_participant.specs.State.{declared_at, registered_at}
-use Rattle.msrp_codec.specs.declared.pdu.MsrpKey.{MsrpKey}
+use Rattle.msrp_codec.specs.declared.{pdu.MsrpKey.MsrpKey, pdu.MsrpContent.MsrpContent}
 use Rattle.msrp_codec.specs.declared.pdu.MsrpKey.TheVariants as keys
-use Rattle.msrp_codec.specs.declared.pdu.MsrpContent.{MsrpContent}
 use Rattle.msrp_codec.specs.declared.pdu.MsrpContent.TheVariants as contents
 use Rattle.msrp.specs.PortState.{PortState}
-use Rattle.msrp.specs.Part.{Part, key_cmp, stream_cmp, registered_listener, registered_talker, listener_kind_of, settled_part, talker_content, talker_reg_of}
-use Rattle.msrp.specs.Domain.{domain_key}
-use Rattle.msrp.specs.Stream.{Registrations, advertise_of, edge_at, is_listened, is_talker_port, listener_at, listener_row, own_listener, stated_at, talk_of, talker_at, first_talker, talkers_of, want_of_talker, wanted_at}
-use Rattle.msrp.specs.Settling.{listener_keys, moved_streams, next_book, settled_book, settling_keys, streams_in, talker_keys}
-use Rattle.msrp.specs.Side.{Streams, IsKept, IsPort, IsSettled, IsSettledAt, seen_by, settled_streams}
-use Rattle.msrp.proofs.Places.{decide, each-get, each-set, get-set_other, get-set_same, map-set, map-set_same, or_false, paired}
-use Rattle.msrp.proofs.Telling.{Awaits, unmarked}
-use Rattle.msrp.proofs.Talkers.{HasRows, absent_stated, no_talker, stated_by, wanted_by}
-use Rattle.msrp.proofs.Domains.{edge_same}
-use Rattle.msrp.proofs.Participants.{PartLaws, declared-settled, own-settled, registered-settled, rows-settled}
-use Rattle.msrp.proofs.Ledgers.{BookLaws, IsLike, settled_like, settled_wants}
-use Rattle.msrp.proofs.Rules.{AwaitsStreams, among, among-append, of_talker, rule_own, stream_out, want_own}
+use Rattle.msrp.specs.Part.{Part}
+use Rattle.msrp.specs.{key_cmp, stream_cmp, registered_listener, registered_talker, listener_kind_of, settled_part, talker_content, talker_reg_of, domain_key, Registrations, advertise_of, edge_at, is_listened, is_talker_port, listener_at, listener_row, own_listener, stated_at, talk_of, talker_at, first_talker, talkers_of, want_of_talker, wanted_at, listener_keys, moved_streams, next_book, settled_book, settling_keys, streams_in, talker_keys, Streams, IsKept, IsPort, IsSettled, IsSettledAt, seen_by, settled_streams}
+use Rattle.msrp.proofs.{Telling.Awaits, Telling.unmarked, Talkers.HasRows, Talkers.absent_stated, Talkers.no_talker, Talkers.stated_by, Talkers.wanted_by, Domains.edge_same, Participants.PartLaws, Participants.declared-settled, Participants.own-settled, Participants.registered-settled, Participants.rows-settled, Ledgers.BookLaws, Ledgers.IsLike, Ledgers.settled_like, Ledgers.settled_wants, Rules.AwaitsStreams, Rules.among, Rules.among-append, Rules.of_talker, Rules.rule_own, Rules.stream_out, Rules.want_own}
 
 -- the laws of booked sets that settling rests on
 pub record MoveLaws : Type 0 where

@@ -1,21 +1,15 @@
 -- Each call keeps how the link ports are set up.
 use Rattle.std.proofs.Common.{◌≡◌, ℕ, Bool, true, false, if◌then◌else◌, List, [], ◌∷◌, length, refl, sym, ap, ◌∙◌}
 use Rattle.std.specs.Prelude.{slice_get, slice_set, Option, Some, None}
+use Rattle.srp_base.proofs.Lists.{map-set_same, mapped_length}
 use Rattle.srp_base.specs.declared.numbers.StreamId.{StreamId}
-use Rattle.stream_importance.specs.declared.entry.Want.{Want}
-use Rattle.stream_importance.specs.declared.slope.Caps.{Caps}
+use Rattle.stream_importance.specs.declared.{entry.Want.Want, slope.Caps.Caps}
 use Rattle.port_ledger.specs.Book.{Book}
 use Rattle.attribute_propagation.specs.Ports.{marked_elsewhere}
 use Rattle.msrp_codec.specs.declared.pdu.MsrpKey.{MsrpKey}
-use Rattle.msrp.specs.declared.asking.SrpRequest.{SrpRequest}
-use Rattle.msrp.specs.declared.asking.SrpRequest.TheVariants.{Talk, Hush, Listen, Unlisten}
+use Rattle.msrp.specs.{SrpRequest, Talk, Hush, Listen, Unlisten, key_cmp, Registrations, talk_of, wanted_at, book_with, book_without, with_wants, next_book, streams_in, taken_out, Streams, at_port, awaiting_at, clocked_port, clocked_streams, has_listen, has_talk, is_talk, moved_keys, with_port_at, requested_streams, with_told_port, seen_by, settled_at, settled_streams, with_part, with_port, Setup, setup_of, setups_of}
 use Rattle.msrp.specs.PortState.{PortState}
-use Rattle.msrp.specs.Part.{Part, key_cmp}
-use Rattle.msrp.specs.Stream.{Registrations, talk_of, wanted_at}
-use Rattle.msrp.specs.Settling.{book_with, book_without, with_wants, next_book, streams_in, taken_out}
-use Rattle.msrp.specs.Side.{Streams, at_port, awaiting_at, clocked_port, clocked_streams, has_listen, has_talk, is_talk, moved_keys, with_port_at, requested_streams, with_told_port, seen_by, settled_at, settled_streams, with_part, with_port}
-use Rattle.msrp.specs.Proper.{Setup, setup_of, setups_of}
-use Rattle.msrp.proofs.Places.{map-set_same, mapped_length}
+use Rattle.msrp.specs.Part.{Part}
 use Rattle.msrp.proofs.Clocked.{map_twice}
 
 pub setups-at : (side : Streams) (make : PortState → Streams) (o : Option PortState) → ((p : PortState) → o ≡ Some p → setups_of (make p) ≡ setups_of side) → setups_of (with_port o make side) ≡ setups_of side

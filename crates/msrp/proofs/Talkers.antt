@@ -1,32 +1,22 @@
 -- A stream without a Talker: what a port states and wants of it, and which Talker keys there are.
 use Rattle.std.proofs.Common.{◌≡◌, ℕ, zero, suc, ◌<◌, Bool, true, false, ◌||◌, ◌==◌, if◌then◌else◌, List, [], ◌∷◌, ◌++◌, length, map, refl, sym, ap, ◌∙◌, arith}
 use Rattle.std.specs.Prelude.{Option, Some, None, IsSome, find, position, Contains, slice_index_or, unwrap_or}
-use Rattle.std.specs.List.{AllByRecursion, flat_map, list_any}
-use Rattle.std.specs.Ordering.{nat_cmp, is_eq}
-use Rattle.std.proofs.lemmas.List.Quantifiers.{position-Some}
-use Rattle.std.proofs.lemmas.Bool.Decides.{nat_tests}
-use Rattle.srp_base.specs.declared.numbers.StreamId.{StreamId}
-use Rattle.srp_base.specs.declared.streams.Talker.{Talker}
-use Rattle.srp_base.specs.declared.streams.TalkerReg.{TalkerReg}
-use Rattle.srp_base.specs.declared.streams.TalkerReg.TheVariants.{Absent}
-use Rattle.srp_base.specs.declared.streams.ListenerKind.{ListenerKind}
-use Rattle.stream_importance.specs.declared.entry.Fit.TheVariants.{Fits}
-use Rattle.stream_importance.specs.declared.entry.Want.{Want}
+use Rattle.std.specs.{List.AllByRecursion, List.flat_map, List.list_any, Ordering.nat_cmp, Ordering.is_eq}
+use Rattle.std.proofs.lemmas.{List.Quantifiers.position-Some, Bool.Decides.nat_tests}
+use Rattle.std.proofs.lemmas.Bool.{or_left as either, or_parts as or_false}
+use Rattle.srp_base.specs.declared.{numbers.StreamId.StreamId, streams.Talker.Talker, streams.TalkerReg.TalkerReg, streams.TalkerReg.TheVariants.Absent, streams.ListenerKind.ListenerKind}
+use Rattle.stream_importance.specs.declared.{entry.Fit.TheVariants.Fits, entry.Want.Want}
 use Rattle.msrp_talker.specs.declared.port_config.PortConfig.{PortConfig}
 use Rattle.msrp_talker.specs.TalkerOut.{talker_out}
 use Rattle.port_ledger.specs.Book.{Book}
 use Rattle.attribute_propagation.specs.Dirty.{is_awaiting}
-use Rattle.mrp_participant.specs.Lookup.{key_of}
-use Rattle.mrp_participant.specs.State.{registered_at}
-use Rattle.msrp_codec.specs.declared.pdu.MsrpKey.{MsrpKey}
+use Rattle.mrp_participant.specs.{Lookup.key_of, State.registered_at}
+use Rattle.msrp_codec.specs.declared.{pdu.MsrpKey.MsrpKey, pdu.MsrpContent.MsrpContent}
 use Rattle.msrp_codec.specs.declared.pdu.MsrpKey.TheVariants as keys
-use Rattle.msrp_codec.specs.declared.pdu.MsrpContent.{MsrpContent}
 use Rattle.msrp.specs.PortState.{PortState}
 use Rattle.msrp.proofs.KeyLemmas.{key_self}
-use Rattle.msrp.specs.Part.{Part, key_cmp, registered_talker, talker_content, talker_reg_of}
-use Rattle.msrp.specs.Stream.{fit_at, is_present, is_ready, is_talker_port, want_of_reg, talk_of, talker_at, first_talker, talkers_of}
-use Rattle.msrp.specs.Settling.{talker_key_if, talker_keys, talker_keys_in}
-use Rattle.msrp.proofs.Places.{or_false}
+use Rattle.msrp.specs.Part.{Part}
+use Rattle.msrp.specs.{key_cmp, registered_talker, talker_content, talker_reg_of, fit_at, is_present, is_ready, is_talker_port, want_of_reg, talk_of, talker_at, first_talker, talkers_of, talker_key_if, talker_keys, talker_keys_in}
 
 -- what a port states of a Talker and wants for it, by what it looks at
 abbrev pub stated_by : ℕ → PortConfig → Book → Bool → List TalkerReg → TalkerReg
@@ -65,14 +55,6 @@ no_port xs all = by (position is_present xs) refl
         cc
 
 -- ---- the Talker keys
-
-either : (a b : Bool) → a ≡ true → (a || b) ≡ true
-either true b h = refl
-either false b h = cc
-
-or_true : (a b : Bool) → b ≡ true → (a || b) ≡ true
-or_true true b h = refl
-or_true false b h = h
 
 -- a key is among the joined keys where it is among either
 any-append : (p : MsrpKey → Bool) (xs ys : List MsrpKey) → list_any p (xs ++ ys) ≡ (list_any p xs || list_any p ys)

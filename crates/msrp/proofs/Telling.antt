@@ -2,27 +2,19 @@
 use Rattle.std.proofs.Common.{◌≡◌, ◌≢◌, ◌⊎◌, inl, inr, ℕ, zero, suc, ◌<◌, Bool, true, false, ◌&&◌, ◌==◌, if◌then◌else◌, List, [], ◌∷◌, length, map, refl, sym, ap, ◌∙◌, arith}
 use Rattle.std.specs.Prelude.{slice_get, slice_set, slice_index_or, Option, Some, None, option_map, Contains}
 use Rattle.std.specs.Ordering.{nat_cmp, is_eq}
-use Rattle.std.proofs.lemmas.List.Folds.{list_any_at}
+use Rattle.std.proofs.lemmas.{List.Folds.list_any_at, Bool.Decides.nat_tests}
 use Rattle.std.proofs.Math.ListN.{length-set}
-use Rattle.std.proofs.lemmas.Bool.Decides.{nat_tests}
-use Rattle.srp_base.specs.declared.numbers.StreamId.{StreamId}
-use Rattle.srp_base.specs.declared.streams.Talker.{Talker}
-use Rattle.attribute_propagation.specs.Dirty.{is_awaiting, all_marked}
-use Rattle.attribute_propagation.specs.Ports.{HasTold, keys_or_none, marked_everywhere}
-use Rattle.mrp_participant.specs.Lookup.{find, same}
-use Rattle.mrp_participant.specs.Row.{is_leaving_in}
-use Rattle.mrp_participant.specs.State.{registered_at, left_state}
+use Rattle.std.proofs.lemmas.Bool.{or_parts as or_false}
+use Rattle.srp_base.proofs.{Arithmetic.decide, Lists.get_set_other as get-set_other, Lists.get-set_same, Lists.map-set_same}
+use Rattle.srp_base.specs.declared.{numbers.StreamId.StreamId, streams.Talker.Talker}
+use Rattle.attribute_propagation.specs.{Dirty.is_awaiting, Dirty.all_marked, Ports.HasTold, Ports.keys_or_none, Ports.marked_everywhere}
+use Rattle.mrp_participant.specs.{Lookup.find, Lookup.same, Row.is_leaving_in, State.registered_at, State.left_state}
 use Rattle.msrp_codec.specs.declared.pdu.MsrpKey.{MsrpKey}
 use Rattle.msrp_codec.specs.declared.pdu.MsrpKey.TheVariants as keys
-use Rattle.msrp.specs.declared.domain.DomainSet.{DomainSet}
-use Rattle.msrp.specs.declared.domain.DomainSet.TheVariants.{Off, Nothing, OnlyA, Both}
+use Rattle.msrp.specs.{DomainSet, Off, Nothing, OnlyA, Both, key_cmp, registered_talker, talker_reg_of, listener_row, registrations_of, talkers_of, advertise_of, talk_of, is_listened, all_keys_with, is_domain_told, keys_of, marked_here, told_sets, TellsEach, left_key, with_part}
 use Rattle.msrp.specs.PortState.{PortState}
 use Rattle.msrp.proofs.KeyLemmas.{key_is, key_self}
-use Rattle.msrp.specs.Part.{Part, key_cmp, registered_talker, talker_reg_of}
-use Rattle.msrp.specs.Stream.{listener_row, registrations_of, talkers_of, advertise_of, talk_of, is_listened}
-use Rattle.msrp.specs.Settling.{all_keys_with, is_domain_told, keys_of, marked_here, told_sets}
-use Rattle.msrp.specs.Side.{TellsEach, left_key, with_part}
-use Rattle.msrp.proofs.Places.{decide, get-set_other, get-set_same, or_false, map-set_same}
+use Rattle.msrp.specs.Part.{Part}
 
 -- a key that is in a list is among its keys
 pub contained : (told : List MsrpKey) (k : ℕ) (key : MsrpKey) → k < length told → slice_index_or told k key ≡ key → is_awaiting key_cmp key told ≡ true

@@ -3,14 +3,10 @@
 -- with another VID is no agreement either is this project's own rule.
 use Rattle.std.specs.Prelude.{ℕ, Bool, true, false, not, ◌&&◌, ◌==◌, List, [], ◌∷◌, filter, find, fold, Option, Some, None, option_map, option_and_then}
 use Rattle.std.specs.Option.{option_eq}
-use Rattle.srp_base.specs.declared.bandwidth.Class.{Class}
-use Rattle.srp_base.specs.declared.bandwidth.Class.TheVariants.{A, B}
-use Rattle.srp_base.specs.declared.streams.Talker.{Talker}
-use Rattle.srp_base.specs.declared.streams.TalkerReg.{TalkerReg}
+use Rattle.srp_base.specs.declared.{bandwidth.Class.Class, bandwidth.Class.TheVariants.A, bandwidth.Class.TheVariants.B, streams.Talker.Talker, streams.TalkerReg.TalkerReg}
 use Rattle.mrp_participant.specs.State.{declared_state, registered_at}
-use Rattle.msrp_codec.specs.declared.pdu.MsrpKey.{MsrpKey}
+use Rattle.msrp_codec.specs.declared.{pdu.MsrpKey.MsrpKey, pdu.MsrpContent.MsrpContent}
 use Rattle.msrp_codec.specs.declared.pdu.MsrpKey.TheVariants as keys
-use Rattle.msrp_codec.specs.declared.pdu.MsrpContent.{MsrpContent}
 use Rattle.msrp_codec.specs.declared.pdu.MsrpContent.TheVariants as contents
 use Rattle.msrp_talker.specs.TalkerOut.{class_of_priority, talker_in}
 use Rattle.msrp.specs.declared.domain.DomainSet.{DomainSet}

@@ -1,14 +1,10 @@
 -- What a side of MSRP and its link ports hold: their states, and the memory that is taken for what comes. What a call
 -- does is said of the states alone.
 use Rattle.std.specs.Prelude.{ℕ, Bool, true, false, List, length, map}
-use Rattle.srp_base.specs.declared.streams.Talker.{Talker}
-use Rattle.attribute_propagation.specs.Dirty.{KeySet}
-use Rattle.attribute_propagation.specs.Ports.{HasRoom, keys_in}
+use Rattle.srp_base.specs.declared.{streams.Talker.Talker, numbers.StreamId.StreamId}
+use Rattle.attribute_propagation.specs.{Dirty.KeySet, Ports.HasRoom, Ports.keys_in}
 use Rattle.msrp_codec.specs.declared.pdu.MsrpKey.{MsrpKey}
-use Rattle.srp_base.specs.declared.numbers.StreamId.{StreamId}
-use Rattle.msrp.specs.PortState.{PortState}
-use Rattle.msrp.specs.Settling.{talker_keys}
-use Rattle.msrp.specs.Side.{Streams}
+use Rattle.msrp.specs.{PortState.PortState, Settling.talker_keys, Side.Streams}
 
 -- the state of a link port; for how many new keys its participant has room, and for how many new streams its ledger
 pub record PortHolding : Type 0 where

@@ -1,23 +1,15 @@
 -- The participant of MSRP at a port, with the keys and contents that MSRPDUs carry (IEEE Std 802.1Q-2018, 35.2.2).
 use Rattle.std.specs.Prelude.{◌≡◌, Bool, List, fold, Option, Some, None}
 use Rattle.std.specs.declared.cmp.Ordering.{Ordering}
-use Rattle.srp_base.specs.declared.numbers.Cs.{Cs}
-use Rattle.srp_base.specs.declared.numbers.StreamId.{StreamId}
-use Rattle.srp_base.specs.declared.streams.ListenerKind.{ListenerKind}
-use Rattle.srp_base.specs.declared.streams.TalkerReg.{TalkerReg}
+use Rattle.srp_base.specs.declared.{numbers.Cs.Cs, numbers.StreamId.StreamId, streams.ListenerKind.ListenerKind, streams.TalkerReg.TalkerReg}
 use Rattle.srp_base.specs.declared.streams.TalkerReg.TheVariants as regs
 use Rattle.mrp_participant.specs.declared.row.Row.{Row}
-use Rattle.mrp_participant.specs.Lookup.{find}
-use Rattle.mrp_participant.specs.State.{State, is_active, registered_at, declared_state, withdrawn_state, received_state, changed_keys, sent_events, sent_state}
-use Rattle.msrp_codec.specs.declared.pdu.MsrpKey.{MsrpKey}
+use Rattle.mrp_participant.specs.{Lookup.find, State.State, State.is_active, State.registered_at, State.declared_state, State.withdrawn_state, State.received_state, State.changed_keys, State.sent_events, State.sent_state}
+use Rattle.msrp_codec.specs.declared.{pdu.MsrpKey.MsrpKey, pdu.MsrpContent.MsrpContent, pdu.MsrpPdu.MsrpPdu}
 use Rattle.msrp_codec.specs.declared.pdu.MsrpKey.TheVariants as keys
-use Rattle.msrp_codec.specs.declared.pdu.MsrpContent.{MsrpContent}
 use Rattle.msrp_codec.specs.declared.pdu.MsrpContent.TheVariants.{Advertise, Failed, Listener, Domain}
-use Rattle.msrp_codec.specs.declared.pdu.MsrpPdu.{MsrpPdu}
-use Rattle.msrp_codec.specs.contracts.pdu.MsrpKeyOrd.TheImpl.{ghosts as key_order}
-use Rattle.msrp_codec.specs.contracts.pdu.MsrpContentPartialEq.TheImpl.{ghosts as content_equality}
+use Rattle.msrp_codec.specs.{contracts.pdu.MsrpKeyOrd.TheImpl.ghosts as key_order, contracts.pdu.MsrpContentPartialEq.TheImpl.ghosts as content_equality, Content.Belongs, Content.octets_of, Content.base_octets}
 use Rattle.srp_base.specs.contracts.numbers.StreamIdOrd.TheImpl.{ghosts as stream_order}
-use Rattle.msrp_codec.specs.Content.{Belongs, octets_of, base_octets}
 
 -- the state of a port's participant, with a row for each Talker, Listener or Domain key that it keeps something of
 abbrev pub Part : Type 0

@@ -1,21 +1,12 @@
 -- What the code takes together before it settles a port: the lists that settling fills, with their room. No public
 -- contract names it.
 use Rattle.std.specs.Prelude.{◌≡◌, ◌≤◌, ◌<◌, ℕ, ◌+◌, List, [], map, length, fold, slice_get, IfSome, vec_capacity, vec_len}
-use Rattle.srp_base.specs.declared.numbers.StreamId.{StreamId}
-use Rattle.srp_base.specs.declared.streams.Talker.{Talker}
-use Rattle.port_ledger.specs.Book.{Book}
-use Rattle.port_ledger.specs.Decision.{booked_of, IsAscending}
-use Rattle.attribute_propagation.specs.Dirty.{KeySet}
-use Rattle.attribute_propagation.specs.Ports.{HasRoom}
+use Rattle.srp_base.specs.declared.{numbers.StreamId.StreamId, streams.Talker.Talker}
+use Rattle.port_ledger.specs.{Book.Book, Decision.booked_of, Decision.IsAscending}
+use Rattle.attribute_propagation.specs.{Dirty.KeySet, Ports.HasRoom}
 use Rattle.msrp_codec.specs.declared.pdu.MsrpKey.{MsrpKey}
-use Rattle.msrp.specs.declared.plan.Asked.{Asked}
-use Rattle.msrp.specs.declared.plan.Stated.{Stated}
-use Rattle.msrp.specs.declared.plan.Plan.{Plan}
-use Rattle.msrp.specs.PortState.{PortState}
-use Rattle.msrp.specs.Part.{Part, settled_as}
-use Rattle.msrp.specs.Stream.{Registrations, stated_at, talkers_of, wanted_at}
-use Rattle.msrp.specs.Settling.{book_with, book_without, streams_in, talker_keys}
-use Rattle.msrp.specs.Holding.{PortHolding}
+use Rattle.msrp.specs.declared.{plan.Asked.Asked, plan.Stated.Stated, plan.Plan.Plan}
+use Rattle.msrp.specs.{PortState.PortState, Part.Part, Part.settled_as, Stream.Registrations, Stream.stated_at, Stream.talkers_of, Stream.wanted_at, Settling.book_with, Settling.book_without, Settling.streams_in, Settling.talker_keys, Holding.PortHolding}
 
 -- what a port wants for a stream
 abbrev pub asked_at : ℕ → List Talker → List PortState → PortState → StreamId → Asked

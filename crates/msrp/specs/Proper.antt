@@ -6,16 +6,11 @@ use Rattle.stream_importance.specs.declared.slope.Caps.{Caps}
 use Rattle.msrp_talker.specs.declared.port_config.PortConfig.{PortConfig}
 use Rattle.mrp_participant.specs.declared.row.Row.{Row}
 use Rattle.mrp_participant.specs.Lookup.{find}
-use Rattle.msrp_codec.specs.declared.pdu.MsrpKey.{MsrpKey}
-use Rattle.msrp_codec.specs.declared.pdu.MsrpContent.{MsrpContent}
-use Rattle.msrp_codec.specs.Content.{value_of}
-use Rattle.msrp_codec.specs.FirstValue.{IsFirst, IsTalker}
-use Rattle.msrp.specs.declared.domain.DomainSet.{DomainSet}
-use Rattle.msrp.specs.PortState.{PortState}
-use Rattle.msrp.specs.declared.asking.SrpRequest.{SrpRequest}
+use Rattle.msrp_codec.specs.declared.{pdu.MsrpKey.MsrpKey, pdu.MsrpContent.MsrpContent}
+use Rattle.msrp_codec.specs.{Content.value_of, FirstValue.IsFirst, FirstValue.IsTalker}
+use Rattle.msrp.specs.declared.{domain.DomainSet.DomainSet, asking.SrpRequest.SrpRequest}
+use Rattle.msrp.specs.{PortState.PortState, Part.Part, Part.key_cmp, Side.Streams, Side.IsKept}
 use Rattle.msrp.specs.declared.asking.SrpRequest.TheVariants.{Talk, Hush, Listen, Unlisten}
-use Rattle.msrp.specs.Part.{Part, key_cmp}
-use Rattle.msrp.specs.Side.{Streams, IsKept}
 
 -- of each key that has a row, the declared and the registered content fit in their fields
 pub record HasRanges (s : Part) : Type 0 where

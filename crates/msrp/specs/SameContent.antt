@@ -1,18 +1,11 @@
 -- Contents are one where each part is.
 use Rattle.std.proofs.Common.{◌≡◌, ◌∙◌, Bool, true, ◌&&◌, ◌==◌, refl, ap}
 use Rattle.std.proofs.lemmas.Bool.{and_parts, eqb-true}
-use Rattle.srp_base.specs.declared.bandwidth.Rank.{Rank}
-use Rattle.srp_base.specs.declared.bandwidth.Rank.TheVariants.{Emergency, Normal}
-use Rattle.srp_base.specs.declared.streams.Talker.{Talker}
-use Rattle.srp_base.specs.declared.streams.Failure.{Failure}
-use Rattle.srp_base.specs.declared.streams.ListenerKind.{ListenerKind}
+use Rattle.srp_base.specs.declared.{bandwidth.Rank.Rank, bandwidth.Rank.TheVariants.Emergency, bandwidth.Rank.TheVariants.Normal, streams.Talker.Talker, streams.Failure.Failure, streams.ListenerKind.ListenerKind}
 use Rattle.srp_base.specs.declared.streams.ListenerKind.TheVariants.{AskingFailed, Ready, ReadyFailed}
 use Rattle.msrp_codec.specs.declared.pdu.MsrpContent.{MsrpContent}
 use Rattle.msrp_codec.specs.declared.pdu.MsrpContent.TheVariants.{Advertise, Failed, Listener, Domain}
-use Rattle.srp_base.specs.contracts.streams.TalkerPartialEq.TheImpl.{ghosts as talker_equality}
-use Rattle.srp_base.specs.contracts.streams.FailurePartialEq.TheImpl.{ghosts as failure_equality}
-use Rattle.srp_base.specs.contracts.streams.ListenerKindPartialEq.TheImpl.{ghosts as kind_equality}
-use Rattle.srp_base.specs.contracts.bandwidth.RankPartialEq.TheImpl.{ghosts as rank_equality}
+use Rattle.srp_base.specs.{contracts.streams.TalkerPartialEq.TheImpl.ghosts as talker_equality, contracts.streams.FailurePartialEq.TheImpl.ghosts as failure_equality, contracts.streams.ListenerKindPartialEq.TheImpl.ghosts as kind_equality, contracts.bandwidth.RankPartialEq.TheImpl.ghosts as rank_equality}
 use Rattle.msrp.specs.Part.{same_content}
 
 -- whether two ranks are one

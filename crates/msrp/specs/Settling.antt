@@ -1,24 +1,17 @@
 -- Settling the keys that await at a link port: its ledger, and what it declares (IEEE Std 802.1Q-2018, 35.2.4).
 use Rattle.std.specs.Prelude.{ℕ, Bool, true, false, ◌&&◌, if◌then◌else◌, List, [], ◌∷◌, ◌++◌, map, filter, fold, Option, Some, None, is_some, slice_set}
 use Rattle.std.specs.List.{filter_map, flat_map, list_any}
-use Rattle.srp_base.specs.declared.numbers.StreamId.{StreamId}
-use Rattle.srp_base.specs.declared.streams.Talker.{Talker}
+use Rattle.srp_base.specs.declared.{numbers.StreamId.StreamId, streams.Talker.Talker}
 use Rattle.stream_importance.specs.declared.entry.Want.{Want}
 use Rattle.port_ledger.specs.Book.{Book, wanted_book, unwanted_book, booked_only_in}
-use Rattle.attribute_propagation.specs.Dirty.{all_marked}
-use Rattle.attribute_propagation.specs.Ports.{keys_at, marked_everywhere}
+use Rattle.attribute_propagation.specs.{Dirty.all_marked, Ports.keys_at, Ports.marked_everywhere}
 use Rattle.registrar.specs.Table.{is_leaving}
 use Rattle.mrp_participant.specs.declared.row.Row.{Row}
-use Rattle.mrp_participant.specs.Lookup.{key_of}
-use Rattle.mrp_participant.specs.State.{registered_at}
-use Rattle.msrp_codec.specs.declared.pdu.MsrpKey.{MsrpKey}
+use Rattle.mrp_participant.specs.{Lookup.key_of, State.registered_at}
+use Rattle.msrp_codec.specs.declared.{pdu.MsrpKey.MsrpKey, pdu.MsrpContent.MsrpContent}
 use Rattle.msrp_codec.specs.declared.pdu.MsrpKey.TheVariants.{Talker as TalkerKey, Listener as ListenerKey, Domain as DomainKey}
-use Rattle.msrp_codec.specs.declared.pdu.MsrpContent.{MsrpContent}
 use Rattle.msrp.specs.declared.domain.DomainSet.{DomainSet}
-use Rattle.msrp.specs.PortState.{PortState}
-use Rattle.msrp.specs.Part.{Part, key_cmp, stream_cmp, settled_part, talker_reg_of}
-use Rattle.msrp.specs.Domain.{are_counted}
-use Rattle.msrp.specs.Stream.{Registrations, is_present, wanted_at, stated_at}
+use Rattle.msrp.specs.{PortState.PortState, Part.Part, Part.key_cmp, Part.stream_cmp, Part.settled_part, Part.talker_reg_of, Domain.are_counted, Stream.Registrations, Stream.is_present, Stream.wanted_at, Stream.stated_at}
 
 -- the stream of a key; a Domain has none
 abbrev pub stream_in : MsrpKey → Option StreamId

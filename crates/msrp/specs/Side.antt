@@ -1,37 +1,18 @@
 -- MSRP at a node (IEEE Std 802.1Q-2018, clause 35): its state, and the state after each call.
 use Rattle.std.specs.Prelude.{◌≡◌, ◌⊎◌, ◌≤◌, ℕ, ◌==◌, Bool, true, false, not, ◌&&◌, ◌||◌, nat_lt, if◌then◌else◌, List, [], ◌∷◌, length, map, filter, Option, Some, None, is_some, slice_get, slice_set, Contains, Result, Ok, Err, IfSome}
 use Rattle.std.specs.List.{AllByRecursion, list_all, list_any}
-use Rattle.srp_base.specs.declared.numbers.Cs.{Cs}
-use Rattle.srp_base.specs.declared.numbers.BridgeId.{BridgeId}
-use Rattle.srp_base.specs.declared.numbers.StreamId.{StreamId}
-use Rattle.srp_base.specs.declared.ports.PortSetup.{PortSetup}
-use Rattle.srp_base.specs.declared.streams.Talker.{Talker}
-use Rattle.srp_base.specs.declared.streams.TalkerReg.{TalkerReg}
-use Rattle.srp_base.specs.declared.streams.ListenerKind.{ListenerKind}
-use Rattle.srp_base.specs.declared.memory.NoMemory.{NoMemory}
+use Rattle.srp_base.specs.declared.{numbers.Cs.Cs, numbers.BridgeId.BridgeId, numbers.StreamId.StreamId, ports.PortSetup.PortSetup, streams.Talker.Talker, streams.TalkerReg.TalkerReg, streams.ListenerKind.ListenerKind, memory.NoMemory.NoMemory}
 use Rattle.mrpdu_codec.specs.declared.error.DecodeErr.{DecodeErr}
 use Rattle.mrpdu_codec.specs.declared.error.DecodeErr.TheVariants as errors
-use Rattle.msrp_codec.specs.declared.pdu.MsrpPdu.{MsrpPdu}
-use Rattle.msrp_codec.specs.declared.pdu.MsrpKey.{MsrpKey}
-use Rattle.msrp_codec.specs.declared.pdu.MsrpKey.TheVariants.{Talker as TalkerKey, Listener as ListenerKey}
-use Rattle.msrp_codec.specs.Meaning.{msrp_reading}
-use Rattle.msrp_codec.specs.Writing.{msrp_spelling, as_written}
-use Rattle.mrp_participant.specs.Lookup.{find}
-use Rattle.mrp_participant.specs.Row.{is_leaving_in}
-use Rattle.mrp_participant.specs.State.{AreRows, is_silent, is_still, is_any_due, declared_at, registered_at, new_state, left_state, left_keys, due_state, leave_all_state, periodic_state}
-use Rattle.attribute_propagation.specs.Dirty.{is_awaiting, all_marked}
-use Rattle.attribute_propagation.specs.Ports.{count_of, keys_at, marked_elsewhere, marked_everywhere, new_sets, none_awaits, some_awaits}
-use Rattle.stream_importance.specs.Bandwidth.{caps_of}
-use Rattle.stream_importance.specs.Importance.{rank_number}
+use Rattle.msrp_codec.specs.declared.{pdu.MsrpPdu.MsrpPdu, pdu.MsrpKey.MsrpKey, pdu.MsrpKey.TheVariants.Talker as TalkerKey, pdu.MsrpKey.TheVariants.Listener as ListenerKey}
+use Rattle.msrp_codec.specs.{Meaning.msrp_reading, Writing.msrp_spelling, Writing.as_written}
+use Rattle.mrp_participant.specs.{Lookup.find, Row.is_leaving_in, State.AreRows, State.is_silent, State.is_still, State.is_any_due, State.declared_at, State.registered_at, State.new_state, State.left_state, State.left_keys, State.due_state, State.leave_all_state, State.periodic_state}
+use Rattle.attribute_propagation.specs.{Dirty.is_awaiting, Dirty.all_marked, Ports.count_of, Ports.keys_at, Ports.marked_elsewhere, Ports.marked_everywhere, Ports.new_sets, Ports.none_awaits, Ports.some_awaits}
+use Rattle.stream_importance.specs.{Bandwidth.caps_of, Importance.rank_number}
 use Rattle.port_ledger.specs.Book.{clocked_book, empty_book, has_new_booking, want_of, IsKept as IsKeptBook}
-use Rattle.msrp.specs.declared.domain.DomainSet.{DomainSet}
-use Rattle.msrp.specs.PortState.{PortState}
-use Rattle.msrp.specs.declared.asking.SrpRequest.{SrpRequest}
+use Rattle.msrp.specs.declared.{domain.DomainSet.DomainSet, asking.SrpRequest.SrpRequest}
+use Rattle.msrp.specs.{PortState.PortState, Part.Part, Part.key_cmp, Part.received_part, Part.told_by_receipt, Part.pdu_sent, Part.sent_part, Part.HasOwnContents, Domain.domain_part, Stream.Registrations, Stream.registrations_of, Stream.talkers_of, Stream.talk_of, Stream.is_listened, Stream.wanted_at, Stream.stated_at, Stream.heard_by, Stream.first_talker as talker_in, Settling.keys_of, Settling.known_keys, Settling.listener_keys, Settling.talker_keys, Settling.told_sets, Settling.moved_streams, Settling.next_book, Settling.settled_port}
 use Rattle.msrp.specs.declared.asking.SrpRequest.TheVariants.{Talk, Hush, Listen, Unlisten}
-use Rattle.msrp.specs.Part.{Part, key_cmp, received_part, told_by_receipt, pdu_sent, sent_part, HasOwnContents}
-use Rattle.msrp.specs.Domain.{domain_part}
-use Rattle.msrp.specs.Stream.{Registrations, registrations_of, talkers_of, talk_of, is_listened, wanted_at, stated_at, heard_by, first_talker as talker_in}
-use Rattle.msrp.specs.Settling.{keys_of, known_keys, listener_keys, talker_keys, told_sets, moved_streams, next_book, settled_port}
 
 -- the link ports in their order; the keys that await settling at each, ascending; the Talkers of the application,
 -- the latest first, and the streams that it listens to; and the moment of the clock in cs

@@ -2,30 +2,20 @@
 -- its Listeners, and wants for it (IEEE Std 802.1Q-2018, 35.2.4). Ports are numbered from 0, the application of a
 -- station; the link port at place n of a list, counted from 0, is port n + 1.
 use Rattle.std.specs.Prelude.{ℕ, suc, Bool, true, false, not, ◌&&◌, ◌==◌, if◌then◌else◌, List, ◌∷◌, ◌++◌, map, take, drop, find, position, Option, Some, None, is_some, is_none, option_map, option_and_then}
-use Rattle.std.specs.List.{filter_map, list_any}
-use Rattle.std.specs.Option.{unwrap_or}
-use Rattle.srp_base.specs.declared.bandwidth.Class.{Class}
-use Rattle.srp_base.specs.declared.numbers.StreamId.{StreamId}
-use Rattle.srp_base.specs.declared.streams.Talker.{Talker}
-use Rattle.srp_base.specs.declared.streams.TalkerReg.{TalkerReg}
+use Rattle.std.specs.{List.filter_map, List.list_any, Option.unwrap_or}
+use Rattle.srp_base.specs.declared.{bandwidth.Class.Class, numbers.StreamId.StreamId, streams.Talker.Talker, streams.TalkerReg.TalkerReg, streams.ListenerKind.ListenerKind}
 use Rattle.srp_base.specs.declared.streams.TalkerReg.TheVariants.{Absent, Advertise, Failed}
-use Rattle.srp_base.specs.declared.streams.ListenerKind.{ListenerKind}
 use Rattle.srp_base.specs.declared.streams.ListenerKind.TheVariants.{AskingFailed, Ready, ReadyFailed}
-use Rattle.stream_importance.specs.declared.entry.Want.{Want}
-use Rattle.stream_importance.specs.declared.entry.Fit.{Fit}
-use Rattle.stream_importance.specs.declared.entry.Fit.TheVariants.{Fits}
+use Rattle.stream_importance.specs.declared.{entry.Want.Want, entry.Fit.Fit, entry.Fit.TheVariants.Fits}
 use Rattle.stream_importance.specs.Bandwidth.{slope_of_frames}
 use Rattle.port_ledger.specs.Book.{Book, since_of, fit_for}
 use Rattle.msrp_talker.specs.TalkerOut.{check_of, class_of_priority, talker_in, talker_out}
 use Rattle.msrp_listener.specs.declared.port_listener.PortListener.{PortListener}
 use Rattle.msrp_listener.specs.Merging.{listener_out}
-use Rattle.msrp_codec.specs.declared.pdu.MsrpKey.{MsrpKey}
+use Rattle.msrp_codec.specs.declared.{pdu.MsrpKey.MsrpKey, pdu.MsrpContent.MsrpContent}
 use Rattle.msrp_codec.specs.declared.pdu.MsrpKey.TheVariants as keys
-use Rattle.msrp_codec.specs.declared.pdu.MsrpContent.{MsrpContent}
 use Rattle.msrp_codec.specs.declared.pdu.MsrpContent.TheVariants as contents
-use Rattle.msrp.specs.PortState.{PortState}
-use Rattle.msrp.specs.Part.{registered_talker, registered_listener, talker_content}
-use Rattle.msrp.specs.Domain.{domain_stated, is_edge}
+use Rattle.msrp.specs.{PortState.PortState, Part.registered_talker, Part.registered_listener, Part.talker_content, Domain.domain_stated, Domain.is_edge}
 
 -- what is registered of one stream at a node's ports, and where it is booked
 pub record Registrations : Type 0 where

@@ -2,9 +2,7 @@
 
 ghost use Rattle.std.specs.Prelude.{◌≡◌, ◌<◌, ◌≤◌, ◌^◌, false, length, slice_get, IsOk, IfOk, IfSome, OnOk, OnErr};
 ghost use Rattle.std.specs.List.{AllByRecursion};
-ghost use Rattle.mrp_participant.specs.Lookup.{find};
-ghost use Rattle.mrp_participant.specs.Row.{is_leaving_in};
-ghost use Rattle.mrp_participant.specs.State.{due_count, is_any_due};
+ghost use Rattle.mrp_participant.specs.{Lookup.find, Row.is_leaving_in, State.due_count, State.is_any_due};
 ghost use Rattle.msrp_codec.specs.Content.{Belongs};
 ghost use Rattle.attribute_propagation.specs.Ports.{IsLinkPort, place_of, count_of};
 ghost use Rattle.msrp.specs.Part.{key_cmp};

@@ -2,8 +2,7 @@
 
 ghost use Rattle.std.specs.Prelude.{◌≡◌, ◌≤◌, true, false, length, map, if◌then◌else◌, IsOk, OnOk, OnErr};
 ghost use Rattle.std.specs.List.{AllByRecursion, list_any};
-ghost use Rattle.attribute_propagation.specs.Dirty.{all_marked};
-ghost use Rattle.attribute_propagation.specs.Ports.{HasRoom, keys_in};
+ghost use Rattle.attribute_propagation.specs.{Dirty.all_marked, Ports.HasRoom, Ports.keys_in};
 ghost use Rattle.msrp.specs.Part.{key_cmp};
 ghost use Rattle.msrp.specs.Holding.{ports_in};
 ghost use Rattle.msrp.specs.Settling.{talker_keys};

@@ -3,13 +3,9 @@
 
 ghost use Rattle.std.specs.Prelude.{◌≡◌, ◌<◌, ◌^◌, false, length, slice_get, ℕ, List, IsOk, IfOk, IfSome, OnOk, OnErr};
 ghost use Rattle.std.specs.List.{AllByRecursion};
-ghost use Rattle.srp_base.specs.declared.numbers.StreamId.{StreamId};
-ghost use Rattle.srp_base.specs.declared.streams.Talker.{Talker};
-ghost use Rattle.attribute_propagation.specs.Dirty.{KeySet};
-ghost use Rattle.attribute_propagation.specs.Ports.{count_of, keys_in};
-ghost use Rattle.mrp_participant.specs.Lookup.{find};
-ghost use Rattle.mrp_participant.specs.Row.{is_leaving_in};
-ghost use Rattle.mrp_participant.specs.State.{AreRows, due_count};
+ghost use Rattle.srp_base.specs.declared.{numbers.StreamId.StreamId, streams.Talker.Talker};
+ghost use Rattle.attribute_propagation.specs.{Dirty.KeySet, Ports.count_of, Ports.keys_in};
+ghost use Rattle.mrp_participant.specs.{Lookup.find, Row.is_leaving_in, State.AreRows, State.due_count};
 ghost use Rattle.msrp_codec.specs.declared.pdu.MsrpKey.{MsrpKey};
 ghost use Rattle.msrp.specs.Part.{key_cmp};
 ghost use Rattle.msrp.specs.Holding.{ports_in, streams_of};

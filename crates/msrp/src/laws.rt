@@ -3,22 +3,11 @@
 
 ghost use Rattle.std.specs.Prelude.{◌≡◌, ◌≢◌, ◌⊎◌, ◌↔◌, ◌||◌, ◌<◌, ◌≤◌, ◌^◌, ℕ, suc, Bool, true, false, List, [], length, slice_get, Some, None};
 ghost use Rattle.std.specs.List.{AllByRecursion};
-ghost use Rattle.srp_base.specs.declared.numbers.BridgeId.{BridgeId};
-ghost use Rattle.srp_base.specs.declared.numbers.Cs.{Cs};
-ghost use Rattle.srp_base.specs.declared.bandwidth.Class.{Class};
-ghost use Rattle.srp_base.specs.declared.numbers.StreamId.{StreamId};
-ghost use Rattle.srp_base.specs.declared.ports.PortSetup.{PortSetup};
-ghost use Rattle.srp_base.specs.declared.streams.Talker.{Talker};
-ghost use Rattle.srp_base.specs.declared.streams.TalkerReg.{TalkerReg};
-ghost use Rattle.srp_base.specs.declared.streams.TalkerReg.TheVariants.{Advertise, Failed};
-ghost use Rattle.attribute_propagation.specs.Dirty.{is_awaiting};
-ghost use Rattle.attribute_propagation.specs.Ports.{marked_everywhere};
-ghost use Rattle.mrp_participant.specs.Lookup.{Ascends, same};
-ghost use Rattle.mrp_participant.specs.State.{AreRows, is_silent, registered_at};
-ghost use Rattle.msrp_codec.specs.declared.pdu.MsrpKey.{MsrpKey};
-ghost use Rattle.msrp_codec.specs.declared.pdu.MsrpPdu.{MsrpPdu};
-ghost use Rattle.msrp_codec.specs.Content.{Belongs};
-ghost use Rattle.msrp_codec.specs.Writing.{AreInRange, as_written, msrp_spelling, of_key};
+ghost use Rattle.srp_base.specs.declared.{numbers.BridgeId.BridgeId, numbers.Cs.Cs, bandwidth.Class.Class, numbers.StreamId.StreamId, ports.PortSetup.PortSetup, streams.Talker.Talker, streams.TalkerReg.TalkerReg, streams.TalkerReg.TheVariants.Advertise, streams.TalkerReg.TheVariants.Failed};
+ghost use Rattle.attribute_propagation.specs.{Dirty.is_awaiting, Ports.marked_everywhere};
+ghost use Rattle.mrp_participant.specs.{Lookup.Ascends, Lookup.same, State.AreRows, State.is_silent, State.registered_at};
+ghost use Rattle.msrp_codec.specs.declared.{pdu.MsrpKey.MsrpKey, pdu.MsrpPdu.MsrpPdu};
+ghost use Rattle.msrp_codec.specs.{Content.Belongs, Writing.AreInRange, Writing.as_written, Writing.msrp_spelling, Writing.of_key};
 ghost use Rattle.msrp.specs.declared.asking.SrpRequest.{SrpRequest};
 ghost use Rattle.msrp_talker.specs.TalkerOut.{check_of, delayed_by};
 ghost use Rattle.msrp.specs.declared.domain.DomainSet.{DomainSet};

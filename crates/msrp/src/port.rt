@@ -1,15 +1,12 @@
 //! A link port of a node as MSRP has it.
 
 ghost use Rattle.std.specs.Prelude.{◌≡◌, ◌+◌, ◌≤◌, ◌<◌, ◌^◌, ◌++◌, false, length, vec_capacity, vec_len, IfOk, OnOk, OnErr};
-ghost use Rattle.mrp_participant.specs.Lookup.{find};
-ghost use Rattle.mrp_participant.specs.Row.{is_leaving_in};
-ghost use Rattle.mrp_participant.specs.State.{IsTime, changed_keys, due_count, due_state, leave_all_state, left_keys, left_state, periodic_state, received_state};
+ghost use Rattle.mrp_participant.specs.{Lookup.find, Row.is_leaving_in, State.IsTime, State.changed_keys, State.due_count, State.due_state, State.leave_all_state, State.left_keys, State.left_state, State.periodic_state, State.received_state};
 ghost use Rattle.attribute_propagation.specs.Ports.{count_of};
 ghost use Rattle.msrp.specs.Part.{Part, key_cmp, same_content, sent_part};
 ghost use Rattle.msrp.specs.Holding.{PortHolding};
 ghost use Rattle.msrp.specs.Plan.{asked_book, stated_part};
-ghost use Rattle.port_ledger.specs.Book.{booked_only_in};
-ghost use Rattle.port_ledger.specs.Decision.{IsAscending};
+ghost use Rattle.port_ledger.specs.{Book.booked_only_in, Decision.IsAscending};
 ghost use Rattle.msrp.specs.Side.{clocked_port, new_port, shows_at, with_part};
 
 use crate::app::MsrpApp;

@@ -1,12 +1,8 @@
 //! One stream at a node: its Talker's port, and what each link port declares of it and wants for it.
 
 ghost use Rattle.std.specs.Prelude.{◌≡◌, ◌++◌, ◌∷◌, ◌+◌, ◌<◌, ◌≤◌, suc, List, [], Some, None, if◌then◌else◌, length, map, take, drop, find, position, option_map, option_and_then, vec_capacity, vec_len};
-ghost use Rattle.std.specs.List.{filter_map};
-ghost use Rattle.std.specs.Option.{unwrap_or};
-ghost use Rattle.srp_base.specs.declared.numbers.StreamId.{StreamId};
-ghost use Rattle.srp_base.specs.declared.streams.Talker.{Talker};
-ghost use Rattle.srp_base.specs.declared.streams.TalkerReg.TheVariants.{Absent};
-ghost use Rattle.srp_base.specs.declared.streams.ListenerKind.TheVariants.{Ready};
+ghost use Rattle.std.specs.{List.filter_map, Option.unwrap_or};
+ghost use Rattle.srp_base.specs.declared.{numbers.StreamId.StreamId, streams.Talker.Talker, streams.TalkerReg.TheVariants.Absent, streams.ListenerKind.TheVariants.Ready};
 ghost use Rattle.port_ledger.specs.Book.{fit_for};
 ghost use Rattle.msrp_talker.specs.TalkerOut.{talker_in};
 ghost use Rattle.msrp_codec.specs.declared.pdu.MsrpContent.TheVariants as contents;

@@ -3,8 +3,7 @@
 ghost use Rattle.std.specs.Prelude.{◌≡◌, ◌≤◌, ◌+◌, ◌∷◌, [], drop, length, map, IfOk};
 ghost use Rattle.std.specs.List.{flat_map};
 ghost use Rattle.attribute_propagation.specs.Dirty.{all_marked};
-ghost use Rattle.mrp_participant.specs.Lookup.{key_of};
-ghost use Rattle.mrp_participant.specs.State.{registered_at};
+ghost use Rattle.mrp_participant.specs.{Lookup.key_of, State.registered_at};
 ghost use Rattle.msrp_codec.specs.declared.pdu.MsrpKey.TheVariants as keys;
 ghost use Rattle.msrp.specs.Part.{key_cmp};
 ghost use Rattle.msrp.specs.Holding.{ports_in};

@@ -3,10 +3,8 @@
 ghost use Rattle.std.specs.Prelude.{◌≡◌, ◌&&◌, ◌++◌, ◌∷◌, ◌+◌, ◌<◌, ◌≤◌, ℕ, true, false, [], drop, filter, if◌then◌else◌, is_some, length, map, slice_get, IsOk, IfOk, IfSome, OnOk};
 ghost use Rattle.std.specs.List.{flat_map, list_any};
 ghost use Rattle.registrar.specs.Table.{is_leaving};
-ghost use Rattle.attribute_propagation.specs.Dirty.{all_marked};
-ghost use Rattle.attribute_propagation.specs.Ports.{HasRoom, keys_in, marked_everywhere};
-ghost use Rattle.mrp_participant.specs.Lookup.{key_of};
-ghost use Rattle.mrp_participant.specs.State.{registered_at};
+ghost use Rattle.attribute_propagation.specs.{Dirty.all_marked, Ports.HasRoom, Ports.keys_in, Ports.marked_everywhere};
+ghost use Rattle.mrp_participant.specs.{Lookup.key_of, State.registered_at};
 ghost use Rattle.msrp_codec.specs.declared.pdu.MsrpKey.TheVariants as keys;
 ghost use Rattle.msrp.specs.Part.{key_cmp};
 ghost use Rattle.msrp.specs.Domain.{are_counted};

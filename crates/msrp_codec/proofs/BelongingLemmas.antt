@@ -2,18 +2,12 @@
 use Rattle.std.proofs.Common.{ℕ, ◌+◌, List, [], ◌∷◌, ◌++◌, refl, sym, subst}
 use Rattle.std.specs.Prelude.{Option, Some, None, slice_index}
 use Rattle.std.specs.List.{AllByRecursion, flat_map}
-use Rattle.srp_base.specs.declared.mrp.MrpEvent.{MrpEvent}
-use Rattle.srp_base.specs.declared.numbers.StreamId.{StreamId}
-use Rattle.srp_base.specs.declared.streams.ListenerKind.{ListenerKind}
+use Rattle.srp_base.specs.declared.{mrp.MrpEvent.MrpEvent, numbers.StreamId.StreamId, streams.ListenerKind.ListenerKind}
 use Rattle.mrpdu_codec.specs.declared.pdu.VectorAttr.{VectorAttr}
 use Rattle.msrp_codec.specs.declared.attribute_type.AttributeType.{AttributeType}
 use Rattle.msrp_codec.specs.declared.first_value.FirstValue.{FirstValue}
 use Rattle.msrp_codec.specs.declared.first_value.FirstValue.TheVariants.{Advertise, Failed, Listener, Domain}
-use Rattle.msrp_codec.specs.declared.pdu.MsrpPdu.{MsrpPdu}
-use Rattle.msrp_codec.specs.AttributeType.{type_of}
-use Rattle.msrp_codec.specs.FirstValue.{first_value_of}
-use Rattle.msrp_codec.specs.Content.{Belongs}
-use Rattle.msrp_codec.specs.Meaning.{KeyEvent, SaysMsrp, event_at, events_from, kind_of, listener_event, message_events, typed_events, vector_events}
+use Rattle.msrp_codec.specs.{MsrpPdu, type_of, first_value_of, Belongs, KeyEvent, SaysMsrp, event_at, events_from, kind_of, listener_event, message_events, typed_events, vector_events}
 
 abbrev pub AreOwn : List KeyEvent → Type 0
 AreOwn events = AllByRecursion (λ (e : KeyEvent). Belongs e.1 e.2) events

@@ -4,13 +4,8 @@ use Rattle.std.proofs.lemmas.List.Filters.{length-filter_more}
 use Rattle.msrp_codec.specs.declared.attribute_type.AttributeType.{AttributeType}
 use Rattle.msrp_codec.specs.declared.attribute_type.AttributeType.TheVariants as types
 use Rattle.msrp_codec.specs.declared.counts.Counts.{Counts}
-use Rattle.msrp_codec.specs.declared.pdu.MsrpContent.{MsrpContent}
+use Rattle.msrp_codec.specs.{MsrpContent, KeyEvent, number_of_type, type_of_content, has_type, of_type, counts_of, with_one}
 use Rattle.msrp_codec.specs.declared.pdu.MsrpContent.TheVariants as contents
-use Rattle.msrp_codec.specs.Meaning.{KeyEvent}
-use Rattle.msrp_codec.specs.AttributeType.{number_of_type}
-use Rattle.msrp_codec.specs.Content.{type_of_content}
-use Rattle.msrp_codec.specs.Writing.{has_type, of_type}
-use Rattle.msrp_codec.specs.Counts.{counts_of, with_one}
 
 -- where none of the events is of a type
 pub none_typed : (t : AttributeType) (events : List KeyEvent) → length (of_type t events) ≡ 0 → of_type t events ≡ []

@@ -1,19 +1,12 @@
 -- The first vector whose values pass the end of a field, and its place.
 use Rattle.std.proofs.Common.{◌≡◌, ℕ, zero, suc, ◌+◌, true, false, inl, inr, List, [], ◌∷◌, take, Option, Some, None, refl, sym, ap, subst, ◌∙◌, arith}
 use Rattle.std.specs.Prelude.{slice_get}
-use Rattle.std.specs.List.{list_all}
-use Rattle.std.specs.Option.{unwrap_or}
-use Rattle.std.proofs.lemmas.Bool.{cases_Bool, and_parts, and_from}
-use Rattle.std.proofs.lemmas.Option.{some_pair_parts}
-use Rattle.mrpdu_codec.specs.declared.form.AppForm.TheVariants.{Msrp}
-use Rattle.mrpdu_codec.specs.declared.pdu.VectorAttr.{VectorAttr}
-use Rattle.mrpdu_codec.specs.declared.pdu.Message.{Message}
-use Rattle.mrpdu_codec.specs.declared.pdu.Pdu.{Pdu}
-use Rattle.mrpdu_codec.specs.Grammar.{Spells}
-use Rattle.mrpdu_codec.specs.Places.{first_places, first_value_place, StandAt, AllStandAt}
+use Rattle.std.specs.{List.list_all, Option.unwrap_or}
+use Rattle.std.proofs.lemmas.{Bool.cases_Bool, Bool.and_parts, Bool.and_from, Option.some_pair_parts}
+use Rattle.mrpdu_codec.specs.declared.{form.AppForm.TheVariants.Msrp, pdu.VectorAttr.VectorAttr, pdu.Message.Message, pdu.Pdu.Pdu}
+use Rattle.mrpdu_codec.specs.{Grammar.Spells, Places.first_places, Places.first_value_place, Places.StandAt, Places.AllStandAt}
 use Rattle.msrp_codec.specs.declared.attribute_type.AttributeType.{AttributeType}
-use Rattle.msrp_codec.specs.AttributeType.{type_of}
-use Rattle.msrp_codec.specs.Meaning.{is_in_range, are_in_range, message_in_range, first_past_in, typed_past, message_past, first_past, place_in, PassesEnd}
+use Rattle.msrp_codec.specs.{type_of, is_in_range, are_in_range, message_in_range, first_past_in, typed_past, message_past, first_past, place_in, PassesEnd}
 
 -- ---- vectors
 

@@ -2,8 +2,7 @@
 use Rattle.std.proofs.Common.{◌≡◌, ℕ, ◌+◌, ◌*◌, ◌/◌, ◌%◌, ◌<◌, ◌≤◌, min, List, [], ◌∷◌, length, get_or, take, refl, sym, ap, ◌∙◌, arith}
 use Rattle.std.specs.Prelude.{slice_index}
 use Rattle.std.specs.List.{flat_map}
-use Rattle.std.proofs.lemmas.List.{length-take, length-take-le, get_or-take, get_or_past}
-use Rattle.std.proofs.lemmas.List.Concat.{get_or-flat_map}
+use Rattle.std.proofs.lemmas.{List.length-take, List.length-take-le, List.get_or-take, List.get_or_past, List.Concat.get_or-flat_map}
 use Rattle.srp_base.specs.declared.mrp.MrpEvent.TheVariants.{New}
 use Rattle.mrpdu_codec.specs.Octets.{three_events, four_params}
 

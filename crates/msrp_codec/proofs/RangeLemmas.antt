@@ -5,26 +5,14 @@ use Rattle.std.specs.List.{AllByRecursion, flat_map, fold, list_all}
 use Rattle.std.proofs.Math.Nat.{pow-suc}
 use Rattle.std.proofs.lemmas.Bool.{and_parts, leb-true}
 use Rattle.srp_base.specs.Hexadecimal.{number_high_first}
-use Rattle.srp_base.specs.declared.mrp.MrpEvent.{MrpEvent}
-use Rattle.srp_base.specs.declared.numbers.StreamId.{StreamId}
-use Rattle.srp_base.specs.declared.streams.Talker.{Talker}
-use Rattle.srp_base.specs.declared.streams.Failure.{Failure}
-use Rattle.srp_base.specs.declared.streams.ListenerKind.{ListenerKind}
-use Rattle.mrpdu_codec.specs.declared.pdu.VectorAttr.{VectorAttr}
-use Rattle.mrpdu_codec.specs.declared.pdu.Message.{Message}
-use Rattle.mrpdu_codec.specs.declared.pdu.Pdu.{Pdu}
-use Rattle.mrpdu_codec.specs.Octets.{AreOctets}
-use Rattle.mrpdu_codec.specs.Shape.{HasOctets}
+use Rattle.srp_base.specs.declared.{mrp.MrpEvent.MrpEvent, numbers.StreamId.StreamId, streams.Talker.Talker, streams.Failure.Failure, streams.ListenerKind.ListenerKind}
+use Rattle.mrpdu_codec.specs.declared.{pdu.VectorAttr.VectorAttr, pdu.Message.Message, pdu.Pdu.Pdu}
+use Rattle.mrpdu_codec.specs.{Octets.AreOctets, Shape.HasOctets}
 use Rattle.msrp_codec.specs.declared.attribute_type.AttributeType.{AttributeType}
 use Rattle.msrp_codec.specs.declared.attribute_type.AttributeType.TheVariants as types
 use Rattle.msrp_codec.specs.declared.first_value.FirstValue.{FirstValue}
 use Rattle.msrp_codec.specs.declared.first_value.FirstValue.TheVariants.{Advertise, Failed, Listener, Domain}
-use Rattle.msrp_codec.specs.declared.pdu.MsrpPdu.{MsrpPdu}
-use Rattle.msrp_codec.specs.AttributeType.{type_of}
-use Rattle.msrp_codec.specs.FirstValue.{field, talker_of, failure_of, first_value_of, talker_after, talkers_fit, values_fit, IsTalker, IsFailure, IsFirst}
-use Rattle.msrp_codec.specs.Content.{value_of}
-use Rattle.msrp_codec.specs.Meaning.{KeyEvent, SaysMsrp, kind_of, listener_event, event_at, events_from, vector_events, typed_events, message_events, is_in_range, are_in_range, message_in_range}
-use Rattle.msrp_codec.specs.Writing.{AreInRange}
+use Rattle.msrp_codec.specs.{MsrpPdu, type_of, field, talker_of, failure_of, first_value_of, talker_after, talkers_fit, values_fit, IsTalker, IsFailure, IsFirst, value_of, KeyEvent, SaysMsrp, kind_of, listener_event, event_at, events_from, vector_events, typed_events, message_events, is_in_range, are_in_range, message_in_range, AreInRange}
 
 -- ---- fields
 

@@ -1,31 +1,19 @@
 -- What was written reads as what was written.
 use Rattle.std.proofs.Common.{◌≡◌, ℕ, ◌+◌, ◌*◌, ◌/◌, ◌%◌, ◌^◌, ◌<◌, ◌≤◌, Bool, true, false, List, [], ◌∷◌, ◌++◌, map, Some, refl, sym, ap, ◌∙◌, append-nil, arith}
 use Rattle.std.specs.Prelude.{slice_index}
-use Rattle.std.specs.List.{flat_map, list_all, AllByRecursion}
-use Rattle.std.specs.Int.{bytes_high_first}
+use Rattle.std.specs.{List.flat_map, List.list_all, List.AllByRecursion, Int.bytes_high_first}
 use Rattle.std.proofs.lemmas.Bool.{and_from, le-leb}
 use Rattle.srp_base.specs.Hexadecimal.{number_high_first}
-use Rattle.srp_base.specs.declared.bandwidth.Rank.{Rank}
-use Rattle.srp_base.specs.declared.bandwidth.Rank.TheVariants.{Emergency, Normal}
-use Rattle.srp_base.specs.declared.streams.Talker.{Talker}
-use Rattle.srp_base.specs.declared.streams.Failure.{Failure}
-use Rattle.srp_base.specs.declared.streams.ListenerKind.{ListenerKind}
+use Rattle.srp_base.specs.declared.{bandwidth.Rank.Rank, bandwidth.Rank.TheVariants.Emergency, bandwidth.Rank.TheVariants.Normal, streams.Talker.Talker, streams.Failure.Failure, streams.ListenerKind.ListenerKind, numbers.StreamId.StreamId, mrp.MrpEvent.MrpEvent}
 use Rattle.srp_base.specs.declared.streams.ListenerKind.TheVariants.{AskingFailed, Ready, ReadyFailed}
-use Rattle.srp_base.specs.declared.numbers.StreamId.{StreamId}
-use Rattle.srp_base.specs.declared.mrp.MrpEvent.{MrpEvent}
 use Rattle.mrpdu_codec.specs.declared.pdu.VectorAttr.{VectorAttr}
 use Rattle.msrp_codec.specs.declared.attribute_type.AttributeType.{AttributeType}
 use Rattle.msrp_codec.specs.declared.attribute_type.AttributeType.TheVariants as types
 use Rattle.msrp_codec.specs.declared.first_value.FirstValue.{FirstValue}
 use Rattle.msrp_codec.specs.declared.first_value.FirstValue.TheVariants.{Advertise, Failed, Listener, Domain}
-use Rattle.msrp_codec.specs.declared.pdu.MsrpKey.{MsrpKey}
+use Rattle.msrp_codec.specs.{MsrpKey, MsrpContent, rank_of, talker_of, failure_of, first_value_of, talkers_fit, values_fit, talker_after, rank_bit, talker_octets, failure_octets, first_octets, IsTalker, IsFailure, IsFirst, type_of_content, Belongs, value_of, kind_number, four_packed_for, KeyEvent, kind_of, listener_event, event_at, events_from, vector_events, is_in_range, event_vector, leave_vector, type_vectors}
 use Rattle.msrp_codec.specs.declared.pdu.MsrpKey.TheVariants as keys
-use Rattle.msrp_codec.specs.declared.pdu.MsrpContent.{MsrpContent}
 use Rattle.msrp_codec.specs.declared.pdu.MsrpContent.TheVariants as contents
-use Rattle.msrp_codec.specs.FirstValue.{rank_of, talker_of, failure_of, first_value_of, talkers_fit, values_fit, talker_after, rank_bit, talker_octets, failure_octets, first_octets, IsTalker, IsFailure, IsFirst}
-use Rattle.msrp_codec.specs.Content.{type_of_content, Belongs, value_of, kind_number, four_packed_for}
-use Rattle.msrp_codec.specs.Meaning.{KeyEvent, kind_of, listener_event, event_at, events_from, vector_events, is_in_range}
-use Rattle.msrp_codec.specs.Writing.{event_vector, leave_vector, type_vectors}
 use Rattle.msrp_codec.proofs.WritingLemmas.{vectors_more, all_later}
 
 -- the attribute type of a FirstValue

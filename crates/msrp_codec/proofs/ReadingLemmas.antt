@@ -1,23 +1,14 @@
 -- What a PDU that was read in place says of its vectors, and loops over values, vectors and Messages.
 use Rattle.std.proofs.Common.{◌≡◌, ℕ, ◌+◌, ◌≤◌, ◌^◌, true, eqb, leb, ◌&&◌, inl, inr, List, map, Some, sym, ◌∙◌, subst, arith}
 use Rattle.std.specs.List.{list_all, flat_map}
-use Rattle.std.proofs.lemmas.List.Folds.{list_all-map, flat_map-map}
-use Rattle.mrpdu_codec.specs.declared.raw.RawVector.{RawVector}
-use Rattle.mrpdu_codec.specs.declared.raw.RawMessage.{RawMessage}
-use Rattle.mrpdu_codec.specs.Raw.{attr_in, attrs_in, message_in}
-use Rattle.msrp_codec.specs.InPlace.{fits_in_place, is_in_range_in_place, events_in_place}
-use Rattle.msrp_codec.specs.Meaning.{vector_events, message_events, is_in_range, message_in_range}
-use Rattle.std.proofs.lemmas.Bool.{cases_Bool, and_parts, and_from, leb-true, le-leb}
-use Rattle.mrpdu_codec.specs.declared.form.AppForm.TheVariants.{Msrp}
-use Rattle.mrpdu_codec.specs.declared.pdu.VectorAttr.{VectorAttr}
-use Rattle.mrpdu_codec.specs.Shape.{vector_fits, vectors_fit, has_form}
-use Rattle.mrpdu_codec.specs.Types.{row_of}
+use Rattle.std.proofs.lemmas.{List.Folds.list_all-map, List.Folds.flat_map-map, Bool.cases_Bool, Bool.and_parts, Bool.and_from, Bool.leb-true, Bool.le-leb}
+use Rattle.mrpdu_codec.specs.declared.{raw.RawVector.RawVector, raw.RawMessage.RawMessage, form.AppForm.TheVariants.Msrp, pdu.VectorAttr.VectorAttr}
+use Rattle.mrpdu_codec.specs.{Raw.attr_in, Raw.attrs_in, Raw.message_in, Shape.vector_fits, Shape.vectors_fit, Shape.has_form, Types.row_of}
+use Rattle.msrp_codec.specs.{fits_in_place, is_in_range_in_place, events_in_place, vector_events, message_events, is_in_range, message_in_range, type_of, type_form, values_fit}
 use Rattle.msrp_codec.specs.declared.attribute_type.AttributeType.{AttributeType}
 use Rattle.msrp_codec.specs.declared.attribute_type.AttributeType.TheVariants.{Advertise, Failed, Listener, Domain}
 use Rattle.msrp_codec.specs.declared.first_value.FirstValue.{FirstValue}
 use Rattle.msrp_codec.specs.declared.first_value.FirstValue.TheVariants as firsts
-use Rattle.msrp_codec.specs.AttributeType.{type_of, type_form}
-use Rattle.msrp_codec.specs.FirstValue.{values_fit}
 
 -- ---- fewer values
 

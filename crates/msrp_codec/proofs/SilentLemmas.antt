@@ -4,16 +4,12 @@ use Rattle.std.specs.Prelude.{slice_index}
 use Rattle.std.specs.List.{flat_map}
 use Rattle.std.proofs.lemmas.Bool.{cases_lt}
 use Rattle.std.proofs.Math.ListN.{drop_of_length-le}
-use Rattle.srp_base.specs.declared.mrp.MrpEvent.{MrpEvent}
-use Rattle.srp_base.specs.declared.mrp.MrpEvent.TheVariants.{New}
+use Rattle.srp_base.specs.declared.{mrp.MrpEvent.MrpEvent, mrp.MrpEvent.TheVariants.New, numbers.StreamId.StreamId}
 use Rattle.mrpdu_codec.specs.declared.raw.RawVector.{RawVector}
-use Rattle.mrpdu_codec.specs.Octets.{three_events, four_params}
-use Rattle.mrpdu_codec.specs.Raw.{attr_in}
+use Rattle.mrpdu_codec.specs.{Octets.three_events, Octets.four_params, Raw.attr_in}
 use Rattle.msrp_codec.specs.declared.first_value.FirstValue.{FirstValue}
 use Rattle.msrp_codec.specs.declared.first_value.FirstValue.TheVariants.{Listener}
-use Rattle.srp_base.specs.declared.numbers.StreamId.{StreamId}
-use Rattle.msrp_codec.specs.InPlace.{event_in_place, values_from, IsSilent}
-use Rattle.msrp_codec.specs.Meaning.{event_at, events_from}
+use Rattle.msrp_codec.specs.{event_in_place, values_from, IsSilent, event_at, events_from}
 use Rattle.msrp_codec.proofs.PlaceLemmas.{four_at_place}
 
 -- ---- one value

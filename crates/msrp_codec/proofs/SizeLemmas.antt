@@ -2,19 +2,13 @@
 use Rattle.std.proofs.Common.{◌≡◌, ℕ, suc, ◌+◌, ◌*◌, ◌≤◌, Bool, true, false, eqb, List, [], ◌∷◌, length, map, refl, sym, ap, ◌∙◌, inl, inr, arith}
 use Rattle.std.specs.List.{sum_by}
 use Rattle.std.proofs.Math.Nat.{suc-mul}
-use Rattle.std.proofs.lemmas.Bool.{cases_Bool, false≢true, ne_eqb}
-use Rattle.std.proofs.lemmas.List.Sums.{sum_by-cons}
+use Rattle.std.proofs.lemmas.{Bool.cases_Bool, Bool.false≢true, Bool.ne_eqb, List.Sums.sum_by-cons}
 use Rattle.mrpdu_codec.specs.declared.pdu.VectorAttr.{VectorAttr}
-use Rattle.mrpdu_codec.specs.Tree.{vectors_octets}
-use Rattle.mrpdu_codec.specs.Canonical.{vectors_for, vector_size, vectors_size}
+use Rattle.mrpdu_codec.specs.{Tree.vectors_octets, Canonical.vectors_for, Canonical.vector_size, Canonical.vectors_size}
 use Rattle.msrp_codec.specs.declared.attribute_type.AttributeType.{AttributeType}
 use Rattle.msrp_codec.specs.declared.attribute_type.AttributeType.TheVariants.{Advertise, Failed, Listener, Domain}
-use Rattle.msrp_codec.specs.declared.pdu.MsrpContent.{MsrpContent}
+use Rattle.msrp_codec.specs.{MsrpContent, number_of_type, length_of, type_of_content, octets_of_type, octets_of, KeyEvent, has_type, of_type, event_vector, leave_vector, type_vectors, list_size, stated_octets}
 use Rattle.msrp_codec.specs.declared.pdu.MsrpContent.TheVariants as contents
-use Rattle.msrp_codec.specs.AttributeType.{number_of_type, length_of}
-use Rattle.msrp_codec.specs.Content.{type_of_content, octets_of_type, octets_of}
-use Rattle.msrp_codec.specs.Meaning.{KeyEvent}
-use Rattle.msrp_codec.specs.Writing.{has_type, of_type, event_vector, leave_vector, type_vectors, list_size, stated_octets}
 use Rattle.msrp_codec.proofs.WritingLemmas.{type_octets, vectors_more, all_later}
 
 -- a number has one type

@@ -1,22 +1,14 @@
 -- What is written, piece by piece.
 use Rattle.std.proofs.Common.{◌≡◌, ℕ, ◌+◌, ◌%◌, ◌<◌, Bool, true, false, List, [], ◌∷◌, ◌++◌, length, map, refl, sym, ap, ◌∙◌, append_assoc, append-nil, arith}
-use Rattle.mrpdu_codec.specs.declared.pdu.VectorAttr.{VectorAttr}
-use Rattle.mrpdu_codec.specs.declared.form.AppForm.TheVariants.{Msrp}
-use Rattle.mrpdu_codec.specs.Tree.{vectors_octets, messages_octets}
-use Rattle.mrpdu_codec.specs.Canonical.{two_octets, vectors_for, message_for}
+use Rattle.mrpdu_codec.specs.declared.{pdu.VectorAttr.VectorAttr, form.AppForm.TheVariants.Msrp}
+use Rattle.mrpdu_codec.specs.{Tree.vectors_octets, Tree.messages_octets, Canonical.two_octets, Canonical.vectors_for, Canonical.message_for}
 use Rattle.msrp_codec.specs.declared.attribute_type.AttributeType.{AttributeType}
 use Rattle.msrp_codec.specs.declared.attribute_type.AttributeType.TheVariants.{Advertise, Failed, Listener, Domain}
-use Rattle.msrp_codec.specs.AttributeType.{number_of_type, length_of}
+use Rattle.msrp_codec.specs.{number_of_type, length_of, first_octets, KeyEvent, of_type, event_vector, type_vectors, messages_for, type_messages}
 use Rattle.std.specs.Int.{bytes_high_first}
 use Rattle.msrp_codec.specs.declared.first_value.FirstValue.TheVariants as firsts
-use Rattle.msrp_codec.specs.FirstValue.{first_octets}
-use Rattle.msrp_codec.specs.Meaning.{KeyEvent}
-use Rattle.msrp_codec.specs.Writing.{of_type, event_vector, type_vectors, messages_for, type_messages}
 
 -- ---- fields, one after another
-
-pub three_pieces : (o a b c x y z : List ℕ) → a ≡ o ++ x → b ≡ a ++ y → c ≡ b ++ z → c ≡ o ++ (x ++ (y ++ z))
-three_pieces o a b c x y z p q r = rw (r, q, p) (simp append_assoc)
 
 pub seven_pieces : (o a b c d e f g s t u v w x y : List ℕ) → a ≡ o ++ s → b ≡ a ++ t → c ≡ b ++ u → d ≡ c ++ v → e ≡ d ++ w → f ≡ e ++ x → g ≡ f ++ y → g ≡ o ++ (s ++ (t ++ (u ++ (v ++ (w ++ (x ++ y))))))
 seven_pieces o a b c d e f g s t u v w x y p1 p2 p3 p4 p5 p6 p7 = rw (p7, p6, p5, p4, p3, p2, p1) (simp append_assoc)

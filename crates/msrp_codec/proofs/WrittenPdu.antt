@@ -1,39 +1,18 @@
 -- The PDU that is written: it can be written, says what was written, and is small.
 use Rattle.std.proofs.Common.{◌≡◌, ℕ, zero, suc, ◌+◌, ◌*◌, ◌^◌, ◌<◌, ◌≤◌, Bool, true, false, ltb, ◌||◌, inl, inr, List, [], ◌∷◌, ◌++◌, length, map, Option, Some, Result, Ok, refl, sym, ap, subst, ◌∙◌, append-nil, length-append, arith}
-use Rattle.std.specs.List.{flat_map, list_all, list_any, sum_by, AllByRecursion}
-use Rattle.std.specs.Int.{bytes_high_first}
-use Rattle.std.proofs.lemmas.Bool.{cases_Bool, and_from, le-leb, lt-ltb, ne_eqb, eq-eqb}
-use Rattle.std.proofs.lemmas.List.Concat.{flat_map-append}
-use Rattle.std.proofs.lemmas.List.Folds.{list_all-append, list_any-append}
-use Rattle.std.proofs.lemmas.List.Sums.{sum_by-append, sum_by-cons}
+use Rattle.std.specs.{List.flat_map, List.list_all, List.list_any, List.sum_by, List.AllByRecursion, Int.bytes_high_first}
+use Rattle.std.proofs.lemmas.{Bool.cases_Bool, Bool.and_from, Bool.le-leb, Bool.lt-ltb, Bool.ne_eqb, Bool.eq-eqb, List.Concat.flat_map-append, List.Folds.list_all-append, List.Folds.list_any-append, List.Sums.sum_by-append, List.Sums.sum_by-cons}
+use Rattle.srp_base.proofs.Bools.{or_no}
 use Rattle.srp_base.specs.Hexadecimal.{number_high_first}
-use Rattle.srp_base.specs.declared.mrp.MrpEvent.{MrpEvent}
-use Rattle.srp_base.specs.declared.streams.ListenerKind.{ListenerKind}
+use Rattle.srp_base.specs.declared.{mrp.MrpEvent.MrpEvent, streams.ListenerKind.ListenerKind}
 use Rattle.srp_base.specs.declared.streams.ListenerKind.TheVariants.{AskingFailed, Ready, ReadyFailed}
-use Rattle.mrpdu_codec.specs.declared.form.AppForm.TheVariants.{Msrp}
-use Rattle.mrpdu_codec.specs.declared.form.TypeForm.{TypeForm}
-use Rattle.mrpdu_codec.specs.declared.pdu.VectorAttr.{VectorAttr}
-use Rattle.mrpdu_codec.specs.declared.pdu.Message.{Message}
-use Rattle.mrpdu_codec.specs.Types.{row_of}
-use Rattle.mrpdu_codec.specs.Tree.{vectors_octets}
-use Rattle.mrpdu_codec.specs.Shape.{vector_fits, vectors_fit, message_leaves}
-use Rattle.mrpdu_codec.specs.Canonical.{vectors_for, vectors_size, message_size, pdu_size, message_fits, well_formed}
-use Rattle.mrpdu_codec.specs.Reading.{reading}
+use Rattle.mrpdu_codec.specs.declared.{form.AppForm.TheVariants.Msrp, form.TypeForm.TypeForm, pdu.VectorAttr.VectorAttr, pdu.Message.Message}
+use Rattle.mrpdu_codec.specs.{Types.row_of, Tree.vectors_octets, Shape.vector_fits, Shape.vectors_fit, Shape.message_leaves, Canonical.vectors_for, Canonical.vectors_size, Canonical.message_size, Canonical.pdu_size, Canonical.message_fits, Canonical.well_formed, Reading.reading}
 use Rattle.msrp_codec.specs.declared.attribute_type.AttributeType.{AttributeType}
 use Rattle.msrp_codec.specs.declared.attribute_type.AttributeType.TheVariants.{Advertise, Failed, Listener, Domain}
-use Rattle.msrp_codec.specs.declared.pdu.MsrpKey.{MsrpKey}
-use Rattle.msrp_codec.specs.declared.pdu.MsrpContent.{MsrpContent}
+use Rattle.msrp_codec.specs.{MsrpKey, MsrpContent, MsrpPdu, number_of_type, type_of, length_of, type_form, all_types, IsFirst, type_of_content, Belongs, octets_of_type, octets_of, value_of, KeyEvent, typed_events, message_events, vector_events, meaning, is_in_range, are_in_range, message_in_range, meaning_or_place, read_as, msrp_reading, has_type, of_type, event_vector, leave_vector, type_vectors, messages_for, type_messages, list_size, pdu_for, msrp_spelling, in_type_order, as_written, stated_octets, IsWritable}
 use Rattle.msrp_codec.specs.declared.pdu.MsrpContent.TheVariants as contents
-use Rattle.msrp_codec.specs.declared.pdu.MsrpPdu.{MsrpPdu}
-use Rattle.msrp_codec.specs.AttributeType.{number_of_type, type_of, length_of, type_form, all_types}
-use Rattle.msrp_codec.specs.FirstValue.{IsFirst}
-use Rattle.msrp_codec.specs.Content.{type_of_content, Belongs, octets_of_type, octets_of, value_of}
-use Rattle.msrp_codec.specs.Meaning.{KeyEvent, typed_events, message_events, vector_events, meaning, is_in_range, are_in_range, message_in_range, meaning_or_place, read_as, msrp_reading}
-use Rattle.msrp_codec.specs.Writing.{has_type, of_type, event_vector, leave_vector, type_vectors, messages_for, type_messages, list_size, pdu_for, msrp_spelling, in_type_order, as_written, stated_octets, IsWritable}
-use Rattle.msrp_codec.proofs.WritingLemmas.{vectors_more, all_later}
-use Rattle.msrp_codec.proofs.SizeLemmas.{same_type, list_sized}
-use Rattle.msrp_codec.proofs.ReadBackLemmas.{IsGood, vectors_again, vectors_in_range}
-use Rattle.msrp_codec.proofs.PastLemmas.{past_all}
+use Rattle.msrp_codec.proofs.{WritingLemmas.vectors_more, WritingLemmas.all_later, SizeLemmas.same_type, SizeLemmas.list_sized, ReadBackLemmas.IsGood, ReadBackLemmas.vectors_again, ReadBackLemmas.vectors_in_range, PastLemmas.past_all}
 
 abbrev BelongAll : List KeyEvent → Type 0
 BelongAll events = AllByRecursion (λ x. Belongs x.1 x.2) events
@@ -71,10 +50,6 @@ messages_say t (v ∷ vs) =
 messages_in_range : (t : AttributeType) (vs : List VectorAttr) → list_all (is_in_range t) vs ≡ true → list_all message_in_range (messages_for t vs) ≡ true
 messages_in_range t [] h = refl
 messages_in_range t (v ∷ vs) h = and_from _ _ (ap (λ (k : Option AttributeType). are_in_range k (v ∷ vs)) (type_again t) ∙ h) refl
-
-or_no : (b : Bool) → (b || false) ≡ b
-or_no true = refl
-or_no false = refl
 
 messages_leave : (t : AttributeType) (vs : List VectorAttr) → list_any message_leaves (messages_for t vs) ≡ list_any (λ (v : VectorAttr). v.leave_all) vs
 messages_leave t [] = refl
@@ -226,10 +201,6 @@ first_typed : (x : KeyEvent) (xs : List KeyEvent) → (t : AttributeType) → ty
 first_typed x xs t typed =
     let same : has_type t x ≡ true = eq-eqb (number_of_type (type_of_content x.2)) (number_of_type t) (ap number_of_type typed) in
     rw same (lt-ltb 0 (suc (length (of_type t xs))) (omega arith))
-
-or_true : (b : Bool) → (b || true) ≡ true
-or_true true = refl
-or_true false = refl
 
 some_messages : (leave : Bool) (events : List KeyEvent) → (leave || ltb 0 (length events)) ≡ true → 0 < length (flat_map (type_messages leave events) all_types)
 some_messages true events h = one_of true events Advertise (some_message true Advertise (of_type Advertise events) refl)

@@ -1,15 +1,11 @@
 -- What is declared of a key: its type, its octets, and whether it belongs to the key.
 use Rattle.std.specs.Prelude.{◌≡◌, ℕ, List, [], ◌∷◌}
-use Rattle.srp_base.specs.declared.numbers.StreamId.{StreamId}
-use Rattle.srp_base.specs.declared.streams.ListenerKind.{ListenerKind}
+use Rattle.srp_base.specs.declared.{numbers.StreamId.StreamId, streams.ListenerKind.ListenerKind}
 use Rattle.srp_base.specs.declared.streams.ListenerKind.TheVariants.{AskingFailed, Ready, ReadyFailed}
-use Rattle.msrp_codec.specs.declared.attribute_type.AttributeType.{AttributeType}
+use Rattle.msrp_codec.specs.declared.{attribute_type.AttributeType.AttributeType, first_value.FirstValue.FirstValue, pdu.MsrpKey.MsrpKey, pdu.MsrpContent.MsrpContent}
 use Rattle.msrp_codec.specs.declared.attribute_type.AttributeType.TheVariants as types
-use Rattle.msrp_codec.specs.declared.first_value.FirstValue.{FirstValue}
 use Rattle.msrp_codec.specs.declared.first_value.FirstValue.TheVariants as firsts
-use Rattle.msrp_codec.specs.declared.pdu.MsrpKey.{MsrpKey}
 use Rattle.msrp_codec.specs.declared.pdu.MsrpKey.TheVariants as keys
-use Rattle.msrp_codec.specs.declared.pdu.MsrpContent.{MsrpContent}
 use Rattle.msrp_codec.specs.declared.pdu.MsrpContent.TheVariants.{Advertise, Failed, Listener, Domain}
 
 -- the attribute type that carries it

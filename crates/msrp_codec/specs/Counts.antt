@@ -1,11 +1,9 @@
 -- How many events are of each type. No public contract names these words.
 use Rattle.std.specs.Prelude.{ℕ, ◌+◌, List, length}
 use Rattle.msrp_codec.specs.declared.attribute_type.AttributeType.TheVariants as types
-use Rattle.msrp_codec.specs.declared.counts.Counts.{Counts}
-use Rattle.msrp_codec.specs.declared.pdu.MsrpContent.{MsrpContent}
+use Rattle.msrp_codec.specs.declared.{counts.Counts.Counts, pdu.MsrpContent.MsrpContent}
 use Rattle.msrp_codec.specs.declared.pdu.MsrpContent.TheVariants.{Advertise, Failed, Listener, Domain}
-use Rattle.msrp_codec.specs.Meaning.{KeyEvent}
-use Rattle.msrp_codec.specs.Writing.{of_type}
+use Rattle.msrp_codec.specs.{Meaning.KeyEvent, Writing.of_type}
 
 -- how many events are of each type
 abbrev pub counts_of : List KeyEvent → Counts

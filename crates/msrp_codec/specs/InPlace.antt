@@ -1,15 +1,10 @@
 -- What is asked and said of vectors that lie in the octets. No public contract names these words.
 use Rattle.std.specs.Prelude.{◌≡◌, ℕ, ◌<◌, ◌/◌, Bool, List, length, drop, get_or, slice_index}
 use Rattle.mrpdu_codec.specs.declared.raw.RawVector.{RawVector}
-use Rattle.mrpdu_codec.specs.Raw.{attr_in}
-use Rattle.mrpdu_codec.specs.Shape.{vector_fits}
-use Rattle.srp_base.specs.declared.numbers.StreamId.{StreamId}
-use Rattle.msrp_codec.specs.declared.attribute_type.AttributeType.{AttributeType}
-use Rattle.msrp_codec.specs.AttributeType.{type_form}
-use Rattle.srp_base.specs.declared.mrp.MrpEvent.TheVariants.{New}
-use Rattle.msrp_codec.specs.declared.first_value.FirstValue.{FirstValue}
-use Rattle.msrp_codec.specs.declared.first_value.FirstValue.TheVariants.{Listener}
-use Rattle.msrp_codec.specs.Meaning.{KeyEvent, vector_events, is_in_range, event_at, events_from}
+use Rattle.mrpdu_codec.specs.{Raw.attr_in, Shape.vector_fits}
+use Rattle.srp_base.specs.declared.{numbers.StreamId.StreamId, mrp.MrpEvent.TheVariants.New}
+use Rattle.msrp_codec.specs.declared.{attribute_type.AttributeType.AttributeType, first_value.FirstValue.FirstValue, first_value.FirstValue.TheVariants.Listener}
+use Rattle.msrp_codec.specs.{AttributeType.type_form, Meaning.KeyEvent, Meaning.vector_events, Meaning.is_in_range, Meaning.event_at, Meaning.events_from}
 
 -- a vector has the form of its type
 abbrev pub fits_in_place : AttributeType → RawVector → Bool

@@ -6,3 +6,14 @@ pub mod Meaning
 pub mod Writing
 pub mod InPlace
 pub mod Counts
+pub use AttributeType.*
+pub use FirstValue.*
+pub use Content.*
+pub use Key.*
+pub use Meaning.*
+pub use Writing.*
+pub use InPlace.*
+pub use Counts.*
+pub use Rattle.msrp_codec.specs.declared.pdu.MsrpContent.{MsrpContent}
+pub use Rattle.msrp_codec.specs.declared.pdu.MsrpKey.{MsrpKey}
+pub use Rattle.msrp_codec.specs.declared.pdu.MsrpPdu.{MsrpPdu}

@@ -1,30 +1,16 @@
 -- What an MRPDU of MSRP says (IEEE Std 802.1Q-2018, 10.8.1.2, 35.2.2), and where one that `mrpdu_codec` reads is
 -- malformed all the same.
 use Rattle.std.specs.Prelude.{◌≡◌, ℕ, ◌+◌, Bool, true, false, List, [], ◌∷◌, ◌++◌, length, take, slice_get, slice_index, Option, Some, None, Result, Ok, Err, ◌==◌, if◌then◌else◌}
-use Rattle.std.specs.Option.{unwrap_or}
-use Rattle.std.specs.List.{flat_map, list_all}
-use Rattle.srp_base.specs.declared.numbers.StreamId.{StreamId}
-use Rattle.srp_base.specs.declared.mrp.MrpEvent.{MrpEvent}
-use Rattle.srp_base.specs.declared.streams.ListenerKind.{ListenerKind}
+use Rattle.std.specs.{Option.unwrap_or, List.flat_map, List.list_all}
+use Rattle.srp_base.specs.declared.{numbers.StreamId.StreamId, mrp.MrpEvent.MrpEvent, streams.ListenerKind.ListenerKind}
 use Rattle.srp_base.specs.declared.streams.ListenerKind.TheVariants.{AskingFailed, Ready, ReadyFailed}
-use Rattle.mrpdu_codec.specs.declared.form.AppForm.TheVariants.{Msrp}
-use Rattle.mrpdu_codec.specs.declared.pdu.VectorAttr.{VectorAttr}
-use Rattle.mrpdu_codec.specs.declared.pdu.Message.{Message}
-use Rattle.mrpdu_codec.specs.declared.pdu.Pdu.{Pdu}
-use Rattle.mrpdu_codec.specs.Grammar.{Spells, Breaks}
-use Rattle.mrpdu_codec.specs.Reading.{reading}
-use Rattle.mrpdu_codec.specs.Shape.{has_leave_all}
-use Rattle.mrpdu_codec.specs.Places.{first_places, first_value_place}
-use Rattle.msrp_codec.specs.declared.attribute_type.AttributeType.{AttributeType}
-use Rattle.msrp_codec.specs.declared.first_value.FirstValue.{FirstValue}
+use Rattle.mrpdu_codec.specs.declared.{form.AppForm.TheVariants.Msrp, pdu.VectorAttr.VectorAttr, pdu.Message.Message, pdu.Pdu.Pdu}
+use Rattle.mrpdu_codec.specs.{Grammar.Spells, Grammar.Breaks, Reading.reading, Shape.has_leave_all, Places.first_places, Places.first_value_place}
+use Rattle.msrp_codec.specs.declared.{attribute_type.AttributeType.AttributeType, first_value.FirstValue.FirstValue, pdu.MsrpKey.MsrpKey, pdu.MsrpContent.MsrpContent, pdu.MsrpPdu.MsrpPdu}
 use Rattle.msrp_codec.specs.declared.first_value.FirstValue.TheVariants.{Advertise, Failed, Listener, Domain}
-use Rattle.msrp_codec.specs.declared.pdu.MsrpKey.{MsrpKey}
 use Rattle.msrp_codec.specs.declared.pdu.MsrpKey.TheVariants as keys
-use Rattle.msrp_codec.specs.declared.pdu.MsrpContent.{MsrpContent}
 use Rattle.msrp_codec.specs.declared.pdu.MsrpContent.TheVariants as contents
-use Rattle.msrp_codec.specs.declared.pdu.MsrpPdu.{MsrpPdu}
-use Rattle.msrp_codec.specs.AttributeType.{type_of}
-use Rattle.msrp_codec.specs.FirstValue.{first_value_of, talker_after, values_fit}
+use Rattle.msrp_codec.specs.{AttributeType.type_of, FirstValue.first_value_of, FirstValue.talker_after, FirstValue.values_fit}
 
 -- ---- Events
 

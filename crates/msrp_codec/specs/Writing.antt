@@ -3,18 +3,10 @@
 -- order given.
 use Rattle.std.specs.Prelude.{◌≡◌, ℕ, ◌+◌, ◌*◌, ◌≤◌, Bool, true, false, ◌||◌, List, [], ◌∷◌, length, map, replicate, nat_lt, ◌==◌, if◌then◌else◌}
 use Rattle.std.specs.List.{flat_map, filter, sum_by, AllByRecursion}
-use Rattle.mrpdu_codec.specs.declared.form.AppForm.TheVariants.{Msrp}
-use Rattle.mrpdu_codec.specs.declared.pdu.VectorAttr.{VectorAttr}
-use Rattle.mrpdu_codec.specs.declared.pdu.Message.{Message}
-use Rattle.mrpdu_codec.specs.declared.pdu.Pdu.{Pdu}
+use Rattle.mrpdu_codec.specs.declared.{form.AppForm.TheVariants.Msrp, pdu.VectorAttr.VectorAttr, pdu.Message.Message, pdu.Pdu.Pdu}
 use Rattle.mrpdu_codec.specs.Canonical.{spelling}
-use Rattle.msrp_codec.specs.declared.attribute_type.AttributeType.{AttributeType}
-use Rattle.msrp_codec.specs.declared.pdu.MsrpKey.{MsrpKey}
-use Rattle.msrp_codec.specs.declared.pdu.MsrpPdu.{MsrpPdu}
-use Rattle.msrp_codec.specs.AttributeType.{number_of_type, length_of, all_types}
-use Rattle.msrp_codec.specs.FirstValue.{IsFirst, first_octets}
-use Rattle.msrp_codec.specs.Content.{type_of_content, value_of, four_packed_for, Belongs, octets_of_type, octets_of, base_octets}
-use Rattle.msrp_codec.specs.Meaning.{KeyEvent}
+use Rattle.msrp_codec.specs.declared.{attribute_type.AttributeType.AttributeType, pdu.MsrpKey.MsrpKey, pdu.MsrpPdu.MsrpPdu}
+use Rattle.msrp_codec.specs.{AttributeType.number_of_type, AttributeType.length_of, AttributeType.all_types, FirstValue.IsFirst, FirstValue.first_octets, Content.type_of_content, Content.value_of, Content.four_packed_for, Content.Belongs, Content.octets_of_type, Content.octets_of, Content.base_octets, Meaning.KeyEvent}
 
 -- the event is of this type
 abbrev pub has_type : AttributeType → KeyEvent → Bool

@@ -1,15 +1,11 @@
 //! Octets read as the events of keys.
 
 ghost use Rattle.std.specs.Prelude.{◌≡◌, ◌++◌, ◌≤◌, ◌<◌, ◌+◌, ◌^◌, ℕ, Ok, Err, length, get_or, slice_index, map, OnOk, IfOk, IsTrue};
-ghost use Rattle.std.specs.List.{flat_map, list_all};
-ghost use Rattle.std.specs.Option.{unwrap_or};
+ghost use Rattle.std.specs.{List.flat_map, List.list_all, Option.unwrap_or};
 ghost use Rattle.mrpdu_codec.specs.declared.error.DecodeErr.TheVariants as errors;
 ghost use Rattle.mrpdu_codec.specs.declared.form.AppForm.TheVariants.{Msrp};
-ghost use Rattle.mrpdu_codec.specs.Octets.{four_params};
-ghost use Rattle.mrpdu_codec.specs.Reading.{Answers};
+ghost use Rattle.mrpdu_codec.specs.{Octets.four_params, Reading.Answers, Raw.attr_in, Raw.attrs_in, Raw.message_in, Raw.pdu_in, Shape.has_form};
 ghost use Rattle.srp_base.specs.declared.mrp.MrpEvent.TheVariants.{New};
-ghost use Rattle.mrpdu_codec.specs.Raw.{attr_in, attrs_in, message_in, pdu_in};
-ghost use Rattle.mrpdu_codec.specs.Shape.{has_form};
 ghost use Rattle.msrp_codec.specs.InPlace.{fits_in_place, is_in_range_in_place, events_in_place, event_in_place, values_from, IsSilent};
 ghost use Rattle.msrp_codec.specs.declared.pdu.MsrpPdu.{MsrpPdu};
 ghost use Rattle.msrp_codec.specs.FirstValue.{first_value_of, talkers_fit, values_fit, talker_after};

@@ -1,11 +1,9 @@
 //! The events of keys written as octets.
 
 ghost use Rattle.std.specs.Prelude.{◌≡◌, ◌++◌, [], ◌<◌, ◌≤◌, ◌+◌, ◌*◌, false, List, Ok, ◌==◌, length, map, OnOk, IfOk, if◌then◌else◌};
-ghost use Rattle.std.specs.List.{AllByRecursion};
+ghost use Rattle.std.specs.{List.AllByRecursion, Int.bytes_high_first};
 ghost use Rattle.mrpdu_codec.specs.declared.form.AppForm.TheVariants.{Msrp};
-ghost use Rattle.mrpdu_codec.specs.Tree.{vector_octets, vectors_octets, messages_octets};
-ghost use Rattle.mrpdu_codec.specs.Canonical.{vector_for, vectors_for, message_for};
-ghost use Rattle.std.specs.Int.{bytes_high_first};
+ghost use Rattle.mrpdu_codec.specs.{Tree.vector_octets, Tree.vectors_octets, Tree.messages_octets, Canonical.vector_for, Canonical.vectors_for, Canonical.message_for};
 ghost use Rattle.msrp_codec.specs.AttributeType.{number_of_type, length_of};
 ghost use Rattle.msrp_codec.specs.declared.first_value.FirstValue.TheVariants as firsts;
 ghost use Rattle.msrp_codec.specs.FirstValue.{IsFirst, rank_bit, talker_octets, failure_octets, first_octets};

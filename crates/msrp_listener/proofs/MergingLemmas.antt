@@ -1,13 +1,10 @@
 -- What merging over a list of ports comes to.
 use Rattle.std.proofs.Common.{◌≡◌, ◌≢◌, ◌↔◌, Bool, true, false, cond, List, [], ◌∷◌, map, length, Option, Some, None, refl, sym, ◌∙◌, ap, arith}
-use Rattle.std.specs.List.{AllByRecursion, fold}
-use Rattle.std.specs.List.Sorted.{IsPermutation}
-use Rattle.std.proofs.lemmas.List.Sorted.{IsPermutation-sym, All-permutation, length_permutation}
-use Rattle.std.proofs.lemmas.List.Elements.{All-from_recursion, recursion_from_All}
+use Rattle.std.specs.{List.AllByRecursion, List.fold, List.Sorted.IsPermutation}
+use Rattle.std.proofs.lemmas.{List.Sorted.IsPermutation-sym, List.Sorted.All-permutation, List.Sorted.length_permutation, List.Elements.All-from_recursion, List.Elements.recursion_from_All}
 use Rattle.srp_base.specs.declared.streams.ListenerKind.{ListenerKind}
 use Rattle.srp_base.specs.declared.streams.ListenerKind.TheVariants.{AskingFailed, Ready, ReadyFailed}
-use Rattle.msrp_listener.specs.declared.port_listener.PortListener.{PortListener}
-use Rattle.msrp_listener.specs.Merging.{AreAskingFailed, AreReady, counted_kind, listener_out, merge_of}
+use Rattle.msrp_listener.specs.{PortListener, AreAskingFailed, AreReady, counted_kind, listener_out, merge_of}
 
 -- two kinds that come to Ready are Ready, and the same of AskingFailed
 abbrev MergesAlone : ListenerKind → Type 0

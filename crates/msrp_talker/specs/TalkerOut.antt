@@ -2,14 +2,9 @@
 -- order in which reasons to refuse are checked is this project's own.
 use Rattle.std.specs.Prelude.{◌≡◌, ℕ, ◌+◌, ◌-◌, ◌^◌, min, ◌==◌, Bool, nat_lt, if◌then◌else◌, is_none, Option, Some, None, option_map}
 use Rattle.std.specs.Option.{option_or}
-use Rattle.srp_base.specs.declared.bandwidth.Class.{Class}
-use Rattle.srp_base.specs.declared.bandwidth.Class.TheVariants.{A, B}
-use Rattle.srp_base.specs.declared.streams.Failure.{Failure}
-use Rattle.srp_base.specs.declared.streams.Talker.{Talker}
-use Rattle.srp_base.specs.declared.streams.TalkerReg.{TalkerReg}
+use Rattle.srp_base.specs.declared.{bandwidth.Class.Class, bandwidth.Class.TheVariants.A, bandwidth.Class.TheVariants.B, streams.Failure.Failure, streams.Talker.Talker, streams.TalkerReg.TalkerReg}
 use Rattle.srp_base.specs.declared.streams.TalkerReg.TheVariants.{Absent, Advertise, Failed}
-use Rattle.stream_importance.specs.declared.entry.Fit.{Fit}
-use Rattle.stream_importance.specs.declared.entry.Fit.TheVariants.{Fits, TooLittle}
+use Rattle.stream_importance.specs.declared.{entry.Fit.Fit, entry.Fit.TheVariants.Fits, entry.Fit.TheVariants.TooLittle}
 use Rattle.msrp_talker.specs.declared.port_config.PortConfig.{PortConfig}
 
 -- the SR class of a priority: 3 is class A, 2 is class B, and no other has one (34.5, the default of two classes)

@@ -2,12 +2,9 @@
 //! function that does nothing; calling it brings the law to a proof.
 
 ghost use Rattle.std.specs.Prelude.{◌≡◌, ◌↔◌, ◌⊎◌, ◌≤◌, ◌<◌, ◌+◌, ◌^◌, ℕ, Bool, true, false, Some, None};
-ghost use Rattle.srp_base.specs.declared.streams.Failure.{Failure};
-ghost use Rattle.srp_base.specs.declared.streams.Talker.{Talker};
-ghost use Rattle.srp_base.specs.declared.streams.TalkerReg.{TalkerReg};
+ghost use Rattle.srp_base.specs.declared.{streams.Failure.Failure, streams.Talker.Talker, streams.TalkerReg.TalkerReg};
 ghost use Rattle.srp_base.specs.declared.streams.TalkerReg.TheVariants.{Absent, Advertise, Failed};
-ghost use Rattle.stream_importance.specs.declared.entry.Fit.{Fit};
-ghost use Rattle.stream_importance.specs.declared.entry.Fit.TheVariants.{Fits};
+ghost use Rattle.stream_importance.specs.declared.{entry.Fit.Fit, entry.Fit.TheVariants.Fits};
 ghost use Rattle.msrp_talker.specs.declared.port_config.PortConfig.{PortConfig};
 ghost use Rattle.msrp_talker.specs.TalkerOut.{check_of, fit_code, delayed_by, IsCarriedOn, IsOfPort, refusal_of, statement_of, talker_in, talker_out};
 

@@ -2,11 +2,9 @@
 -- flat participant, for VIDs.
 use Rattle.std.specs.Prelude.{ℕ, Bool, List}
 use Rattle.std.specs.Ordering.{nat_cmp}
-use Rattle.srp_base.specs.declared.numbers.Cs.{Cs}
-use Rattle.srp_base.specs.declared.mrp.MrpEvent.{MrpEvent}
+use Rattle.srp_base.specs.declared.{numbers.Cs.Cs, mrp.MrpEvent.MrpEvent}
 use Rattle.mvrp_codec.specs.declared.pdu.MvrpPdu.{MvrpPdu}
-use Rattle.mvrp_codec.specs.Meaning.{mvrp_reading}
-use Rattle.mvrp_codec.specs.Writing.{mvrp_spelling}
+use Rattle.mvrp_codec.specs.{Meaning.mvrp_reading, Writing.mvrp_spelling}
 use Rattle.mrp_participant.specs.State.{sent_state}
 use Rattle.flat_side.specs.Codec.{Codec}
 use Rattle.flat_side.specs.Part as flat

@@ -1,8 +1,7 @@
 -- MVRP at a node (IEEE Std 802.1Q-2018, 11.2): the words on a flat side, for VIDs.
 use Rattle.std.specs.Prelude.{ℕ, Bool, List}
 use Rattle.std.specs.Ordering.{nat_cmp}
-use Rattle.srp_base.specs.declared.numbers.Cs.{Cs}
-use Rattle.srp_base.specs.declared.ports.PortSetup.{PortSetup}
+use Rattle.srp_base.specs.declared.{numbers.Cs.Cs, ports.PortSetup.PortSetup}
 use Rattle.mvrp_codec.specs.declared.pdu.MvrpPdu.{MvrpPdu}
 use Rattle.flat_side.specs.Codec as codec
 use Rattle.flat_side.specs.Side as flat

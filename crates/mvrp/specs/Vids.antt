@@ -2,8 +2,7 @@
 use Rattle.std.specs.Prelude.{◌≤◌, ℕ, List}
 use Rattle.std.specs.Ordering.{nat_cmp}
 use Rattle.flat_side.specs.Keys as keys
-use Rattle.mvrp.specs.Part.{Part}
-use Rattle.mvrp.specs.Side.{Vlans}
+use Rattle.mvrp.specs.{Part.Part, Side.Vlans}
 
 -- the number is a VID
 abbrev pub IsVid : ℕ → Type 0

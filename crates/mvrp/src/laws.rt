@@ -3,8 +3,7 @@
 
 ghost use Rattle.std.specs.Prelude.{◌≡◌, ℕ, Bool, false, List};
 ghost use Rattle.std.specs.Ordering.{nat_cmp};
-ghost use Rattle.srp_base.specs.declared.numbers.Cs.{Cs};
-ghost use Rattle.srp_base.specs.declared.ports.PortSetup.{PortSetup};
+ghost use Rattle.srp_base.specs.declared.{numbers.Cs.Cs, ports.PortSetup.PortSetup};
 ghost use Rattle.mvrp_codec.specs.declared.pdu.MvrpPdu.{MvrpPdu};
 ghost use Rattle.mvrp_codec.specs.Writing.{AreVids, mvrp_spelling};
 ghost use Rattle.mrp_participant.specs.State.{AreRows, is_silent};

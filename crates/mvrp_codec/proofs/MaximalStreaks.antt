@@ -2,7 +2,7 @@
 use Rattle.std.proofs.Common.{◌≡◌, ℕ, ◌+◌, eqb, inl, inr, List, [], ◌∷◌, ◌++◌, refl, ap, ◌∙◌}
 use Rattle.std.proofs.lemmas.Bool.{cases_Bool, eqb-true, eqb-false, eq-eqb, ne_eqb}
 use Rattle.srp_base.specs.declared.mrp.MrpEvent.{MrpEvent}
-use Rattle.mvrp_codec.specs.Writing.{join, streaks, IsStreak, EndsBefore, AreMaximal, events_of_streaks}
+use Rattle.mvrp_codec.specs.{join, streaks, IsStreak, EndsBefore, AreMaximal, events_of_streaks}
 
 join_joined : (x : MrpEvent × ℕ) (ss : List (List (MrpEvent × ℕ))) → events_of_streaks (join x ss) ≡ x ∷ events_of_streaks ss
 join_joined x [] = refl

@@ -1,14 +1,11 @@
 -- The events of consecutive VIDs, one packed octet after another.
 use Rattle.std.proofs.Common.{◌≡◌, ℕ, zero, suc, ◌+◌, ◌-◌, ◌/◌, ◌%◌, ◌<◌, ◌≤◌, min, false, leb, List, [], ◌∷◌, ◌++◌, length, get_or, take, drop, map, refl, sym, ap, ◌∙◌, append_assoc, arith}
 use Rattle.std.specs.List.{flat_map}
-use Rattle.std.proofs.lemmas.Bool.{lt-leb, and_right}
-use Rattle.std.proofs.lemmas.List.{append-nil, drop_all, drop_more}
-use Rattle.std.proofs.lemmas.List.Folds.{flat_map-map}
+use Rattle.std.proofs.lemmas.{Bool.lt-leb, Bool.and_right, List.append-nil, List.drop_all, List.drop_more, List.Folds.flat_map-map}
 use Rattle.srp_base.specs.declared.mrp.MrpEvent.{MrpEvent}
 use Rattle.mrpdu_codec.specs.declared.raw.RawMessage.{RawMessage}
-use Rattle.mrpdu_codec.specs.Octets.{event_numbered, three_events}
-use Rattle.mrpdu_codec.specs.Raw.{attr_in, message_in}
-use Rattle.mvrp_codec.specs.Meaning.{event_at, events_from, events_in_place, vector_events, message_events}
+use Rattle.mrpdu_codec.specs.{Octets.event_numbered, Octets.three_events, Raw.attr_in, Raw.message_in}
+use Rattle.mvrp_codec.specs.{event_at, events_from, events_in_place, vector_events, message_events}
 
 -- ---- the events of packed octets
 

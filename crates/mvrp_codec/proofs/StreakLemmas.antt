@@ -1,12 +1,10 @@
 -- Streaks of consecutive VIDs.
 use Rattle.std.proofs.Common.{◌≡◌, ℕ, suc, ◌+◌, ◌<◌, ◌≤◌, Bool, true, false, eqb, inl, inr, List, [], ◌∷◌, ◌++◌, length, get_or, take, drop, refl, sym, ap, subst, ◌∙◌, append_assoc, arith}
-use Rattle.std.proofs.lemmas.Bool.{cases_Bool, eq-eqb, ne_eqb}
-use Rattle.std.proofs.lemmas.List.{append-nil, take-append-drop, drop_more, drop_all, take_more}
+use Rattle.std.proofs.lemmas.{Bool.cases_Bool, Bool.eq-eqb, Bool.ne_eqb, List.append-nil, List.take-append-drop, List.drop_more, List.drop_all, List.take_more}
 use Rattle.srp_base.specs.declared.mrp.MrpEvent.{MrpEvent}
 use Rattle.mrpdu_codec.specs.declared.pdu.VectorAttr.{VectorAttr}
-use Rattle.mrpdu_codec.specs.Tree.{vector_octets, vectors_octets}
-use Rattle.mrpdu_codec.specs.Canonical.{vector_for, vectors_for}
-use Rattle.mvrp_codec.specs.Writing.{join, streaks, streak_vector, streak_vectors, streaks_octets, streak_len, AreVids}
+use Rattle.mrpdu_codec.specs.{Tree.vector_octets, Tree.vectors_octets, Canonical.vector_for, Canonical.vectors_for}
+use Rattle.mvrp_codec.specs.{join, streaks, streak_vector, streak_vectors, streaks_octets, streak_len, AreVids}
 use Rattle.mvrp_codec.proofs.VidLemmas.{vids-append}
 
 -- ---- how far a streak goes

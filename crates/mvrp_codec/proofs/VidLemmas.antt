@@ -3,12 +3,8 @@ use Rattle.std.proofs.Common.{◌≡◌, ℕ, ◌+◌, Bool, true, false, leb, �
 use Rattle.std.specs.List.{flat_map}
 use Rattle.std.proofs.lemmas.Bool.Decides.{nat_tests}
 use Rattle.srp_base.specs.declared.mrp.MrpEvent.{MrpEvent}
-use Rattle.mrpdu_codec.specs.declared.pdu.VectorAttr.{VectorAttr}
-use Rattle.mrpdu_codec.specs.declared.pdu.Message.{Message}
-use Rattle.mrpdu_codec.specs.declared.pdu.Pdu.{Pdu}
-use Rattle.mvrp_codec.specs.declared.pdu.MvrpPdu.{MvrpPdu}
-use Rattle.mvrp_codec.specs.Meaning.{first_vid, event_at, events_from, vector_events, message_events, meaning, read_as}
-use Rattle.mvrp_codec.specs.Writing.{AreVids}
+use Rattle.mrpdu_codec.specs.declared.{pdu.VectorAttr.VectorAttr, pdu.Message.Message, pdu.Pdu.Pdu}
+use Rattle.mvrp_codec.specs.{MvrpPdu, first_vid, event_at, events_from, vector_events, message_events, meaning, read_as, AreVids}
 
 pub vids-append : (xs ys : List (MrpEvent × ℕ)) → AreVids xs → AreVids ys → AreVids (xs ++ ys)
 vids-append [] ys h k = k

@@ -1,21 +1,12 @@
 -- What is written reads as what was written, in at most 1,500 octets.
 use Rattle.std.proofs.Common.{◌≡◌, ℕ, suc, ◌+◌, ◌*◌, ◌/◌, ◌%◌, ◌<◌, ◌≤◌, Bool, true, false, leb, ltb, eqb, ◌||◌, inl, inr, List, [], ◌∷◌, ◌++◌, length, map, Result, Ok, refl, sym, ap, ◌∙◌, append_assoc, length-append, arith}
 use Rattle.std.specs.List.{flat_map, list_any, list_all, AllByRecursion}
-use Rattle.std.proofs.lemmas.Bool.{cases_Bool, and_from, eqb-true, le-leb, lt-ltb}
-use Rattle.std.proofs.lemmas.List.{append-nil, length-map}
-use Rattle.std.proofs.lemmas.List.Sums.{sum_by-cons}
+use Rattle.std.proofs.lemmas.{Bool.cases_Bool, Bool.and_from, Bool.eqb-true, Bool.le-leb, Bool.lt-ltb, List.append-nil, List.length-map, List.Sums.sum_by-cons}
+use Rattle.srp_base.proofs.Bools.{or_no}
 use Rattle.srp_base.specs.declared.mrp.MrpEvent.{MrpEvent}
-use Rattle.mrpdu_codec.specs.declared.form.AppForm.TheVariants.{Mvrp}
-use Rattle.mrpdu_codec.specs.declared.form.TypeForm.{TypeForm}
-use Rattle.mrpdu_codec.specs.declared.pdu.VectorAttr.{VectorAttr}
-use Rattle.mrpdu_codec.specs.Octets.{number}
-use Rattle.mrpdu_codec.specs.Tree.{vectors_octets}
-use Rattle.mrpdu_codec.specs.Shape.{vector_fits}
-use Rattle.mrpdu_codec.specs.Canonical.{vectors_for, well_formed, spelling, vector_size, vectors_size, pdu_size}
-use Rattle.mrpdu_codec.specs.Reading.{reading}
-use Rattle.mvrp_codec.specs.declared.pdu.MvrpPdu.{MvrpPdu}
-use Rattle.mvrp_codec.specs.Meaning.{event_at, events_from, vector_events, meaning, read_as, mvrp_reading}
-use Rattle.mvrp_codec.specs.Writing.{join, streaks, streak_vector, streak_vectors, streaks_octets, pdu_around, one_message, pdu_for, mvrp_spelling, IsWritable, AreVids, events_of_streaks}
+use Rattle.mrpdu_codec.specs.declared.{form.AppForm.TheVariants.Mvrp, form.TypeForm.TypeForm, pdu.VectorAttr.VectorAttr}
+use Rattle.mrpdu_codec.specs.{Octets.number, Tree.vectors_octets, Shape.vector_fits, Canonical.vectors_for, Canonical.well_formed, Canonical.spelling, Canonical.vector_size, Canonical.vectors_size, Canonical.pdu_size, Reading.reading}
+use Rattle.mvrp_codec.specs.{MvrpPdu, event_at, events_from, vector_events, meaning, read_as, mvrp_reading, join, streaks, streak_vector, streak_vectors, streaks_octets, pdu_around, one_message, pdu_for, mvrp_spelling, IsWritable, AreVids, events_of_streaks}
 use Rattle.mvrp_codec.proofs.MaximalStreaks.{streaks_joined}
 
 -- ---- the events
@@ -75,10 +66,6 @@ leave_again true [] = refl
 leave_again false [] = refl
 leave_again true (s ∷ ss) = refl
 leave_again false (s ∷ ss) = none_leave ss
-
-or_no : (b : Bool) → (b || false) ≡ b
-or_no true = refl
-or_no false = refl
 
 made : Bool → List (MrpEvent × ℕ) → MvrpPdu
 made leave events = record { leave_all = leave; events = events }

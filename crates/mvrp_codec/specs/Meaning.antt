@@ -2,16 +2,8 @@
 use Rattle.std.specs.Prelude.{◌≡◌, ℕ, ◌+◌, ◌&&◌, List, [], ◌∷◌, ◌++◌, nat_le, if◌then◌else◌, Result, Ok, Err}
 use Rattle.std.specs.List.{flat_map}
 use Rattle.srp_base.specs.declared.mrp.MrpEvent.{MrpEvent}
-use Rattle.mrpdu_codec.specs.declared.form.AppForm.TheVariants.{Mvrp}
-use Rattle.mrpdu_codec.specs.declared.pdu.VectorAttr.{VectorAttr}
-use Rattle.mrpdu_codec.specs.declared.pdu.Message.{Message}
-use Rattle.mrpdu_codec.specs.declared.pdu.Pdu.{Pdu}
-use Rattle.mrpdu_codec.specs.declared.raw.RawVector.{RawVector}
-use Rattle.mrpdu_codec.specs.Octets.{number}
-use Rattle.mrpdu_codec.specs.Raw.{attr_in}
-use Rattle.mrpdu_codec.specs.Grammar.{Spells}
-use Rattle.mrpdu_codec.specs.Reading.{reading}
-use Rattle.mrpdu_codec.specs.Shape.{has_leave_all}
+use Rattle.mrpdu_codec.specs.declared.{form.AppForm.TheVariants.Mvrp, pdu.VectorAttr.VectorAttr, pdu.Message.Message, pdu.Pdu.Pdu, raw.RawVector.RawVector}
+use Rattle.mrpdu_codec.specs.{Octets.number, Raw.attr_in, Grammar.Spells, Reading.reading, Shape.has_leave_all}
 use Rattle.mvrp_codec.specs.declared.pdu.MvrpPdu.{MvrpPdu}
 
 -- the VID in the two octets that each FirstValue of MVRP has; octets of another number are none

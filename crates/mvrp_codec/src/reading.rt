@@ -4,12 +4,9 @@ ghost use Rattle.std.specs.Prelude.{◌≡◌, ◌++◌, ◌<◌, ◌≤◌, ◌
 ghost use Rattle.std.specs.List.{flat_map};
 ghost use Rattle.mrpdu_codec.specs.declared.error.DecodeErr.TheVariants as errors;
 ghost use Rattle.mrpdu_codec.specs.declared.form.AppForm.TheVariants.{Mvrp};
-ghost use Rattle.mrpdu_codec.specs.Grammar.{Breaks};
+ghost use Rattle.mrpdu_codec.specs.{Grammar.Breaks, Octets.three_events, Raw.pdu_in, Reading.Answers};
 ghost use Rattle.mvrp_codec.specs.declared.pdu.MvrpPdu.{MvrpPdu};
-ghost use Rattle.mrpdu_codec.specs.Octets.{three_events};
-ghost use Rattle.mrpdu_codec.specs.Raw.{pdu_in};
 ghost use Rattle.mvrp_codec.specs.Meaning.{first_vid, event_at, events_from, events_in_place, meaning, SaysMvrp, mvrp_reading};
-ghost use Rattle.mrpdu_codec.specs.Reading.{Answers};
 
 use crate::pdu::MvrpPdu;
 use mrpdu_codec::{AppForm, DecodeErr, RawMessage, RawPdu, RawVector, events_in};

@@ -2,8 +2,7 @@
 
 ghost use Rattle.std.specs.Prelude.{◌≡◌, ◌++◌, ◌<◌, ◌≤◌, ◌+◌, length, map, take, Ok, IfOk, OnOk};
 ghost use Rattle.mvrp_codec.specs.Meaning.{mvrp_reading};
-ghost use Rattle.mrpdu_codec.specs.Tree.{vector_octets};
-ghost use Rattle.mrpdu_codec.specs.Canonical.{vector_for};
+ghost use Rattle.mrpdu_codec.specs.{Tree.vector_octets, Canonical.vector_for};
 ghost use Rattle.mvrp_codec.specs.Writing.{streaks, first_for, streak_vector, streaks_octets, pdu_around, mvrp_spelling, IsWritable, streak_len, AreVids};
 
 use crate::pdu::MvrpPdu;

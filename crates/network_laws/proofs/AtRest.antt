@@ -2,33 +2,21 @@
 -- sound, no key awaits; so a port has registered what its peer declares.
 use Rattle.std.proofs.Common.{◌≡◌, ℕ, zero, suc, ◌+◌, ◌-◌, ◌<◌, true, ◌&&◌, ◌||◌, List, [], ◌∷◌, ◌++◌, length, subst, ap, ◌∙◌, arith}
 use Rattle.std.specs.Prelude.{slice_get, filter_map, Option, Some, ◌==◌}
-use Rattle.std.specs.declared.cmp.Ordering.{Ordering}
-use Rattle.std.specs.List.{list_all}
-use Rattle.std.specs.Option.{option_map_or}
+use Rattle.std.specs.{declared.cmp.Ordering.Ordering, List.list_all, Option.option_map_or}
 use Rattle.std.proofs.lemmas.Bool.{and_parts}
-use Rattle.srp_base.specs.declared.numbers.NodeNo.{NodeNo}
-use Rattle.srp_base.specs.declared.numbers.EgressPort.{EgressPort}
-use Rattle.srp_base.specs.declared.mrp.App.{App}
-use Rattle.srp_base.specs.declared.mrp.App.TheVariants.{Mvrp, Msrp}
-use Rattle.tree_topology.specs.Topology.{HasPort}
-use Rattle.tree_topology.specs.Ports.{peer_of}
-use Rattle.tree_topology.specs.PortLaws.{HasPortLaws}
-use Rattle.mrp_participant.specs.MarkedLink.{MarkedLink, AreMarkedDutiesMet, seen_link}
-use Rattle.mrp_participant.specs.State.{State, Messages, is_still, registered_at, declared_at}
+use Rattle.srp_base.proofs.Lists.{within as get-some, get-all}
+use Rattle.srp_base.specs.declared.{numbers.NodeNo.NodeNo, numbers.EgressPort.EgressPort, mrp.App.App, mrp.App.TheVariants.Mvrp, mrp.App.TheVariants.Msrp}
+use Rattle.tree_topology.specs.{Topology.HasPort, Ports.peer_of, PortLaws.HasPortLaws}
+use Rattle.mrp_participant.specs.{MarkedLink.MarkedLink, MarkedLink.AreMarkedDutiesMet, MarkedLink.seen_link, State.State, State.Messages, State.is_still, State.registered_at, State.declared_at}
 use Rattle.msrp_codec.specs.declared.pdu.MsrpKey.{MsrpKey}
 use Rattle.mvrp.specs.Part.{Part}
 use Rattle.attribute_propagation.specs.Ports.{place_of}
 use Rattle.flat_side.specs.Side.{are_still}
-use Rattle.msrp.specs.PortState.{PortState}
-use Rattle.msrp.specs.Side.{are_still as streams_are_still}
+use Rattle.msrp.specs.{PortState.PortState, Side.are_still as streams_are_still}
 use Rattle.node_core.specs.declared.types.Wire.{Wire}
 use Rattle.node_core.specs.State.{NodeState, box_at, are_empty, is_still_node, ports_of}
-use Rattle.world_core.specs.World.{WorldState, node_at, inbox, outbox, is_sound_in, are_ports_sound, are_nodes_sound}
-use Rattle.world_core.specs.Marks.{MarksState, mark_at}
-use Rattle.world_core.specs.Duty.{in_flight, part_at, marked_link, AreDutiesMetIn}
-use Rattle.world_core.specs.Kept.{IsKeptWorld}
-use Rattle.network_laws.specs.Vlans.{IsAtRest}
-use Rattle.network_laws.proofs.Lists.{get-some, get-all}
+use Rattle.world_core.specs.{World.WorldState, World.node_at, World.inbox, World.outbox, World.is_sound_in, World.are_ports_sound, World.are_nodes_sound, Marks.MarksState, Marks.mark_at, Duty.in_flight, Duty.part_at, Duty.marked_link, Duty.AreDutiesMetIn, Kept.IsKeptWorld}
+use Rattle.network_laws.specs.{IsAtRest}
 use Rattle.network_laws.proofs.Places.{empty-box}
 
 -- what a still link registers at its near end

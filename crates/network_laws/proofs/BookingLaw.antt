@@ -2,34 +2,23 @@
 -- exactly where it is advertised and Listeners that can have it are registered.
 use Rattle.std.proofs.Common.{◌≡◌, ℕ, suc, ◌+◌, ◌-◌, ◌<◌, ◌&&◌, Bool, true, false, List, [], length, refl, sym, ap, subst, ◌∙◌, arith}
 use Rattle.std.specs.Prelude.{slice_get, Option, Some, None, is_some, option_and_then, ◌↔◌, ◌==◌}
-use Rattle.std.specs.Option.{option_map_or}
-use Rattle.std.specs.List.{list_all}
+use Rattle.std.specs.{Option.option_map_or, List.list_all}
 use Rattle.std.proofs.lemmas.Bool.{and_parts}
-use Rattle.srp_base.specs.declared.numbers.EgressPort.{EgressPort}
-use Rattle.srp_base.specs.declared.numbers.StreamId.{StreamId}
-use Rattle.srp_base.specs.declared.streams.TalkerReg.{TalkerReg}
+use Rattle.srp_base.proofs.Lists.{each-get, get-all, within as get-some}
+use Rattle.srp_base.specs.declared.{numbers.EgressPort.EgressPort, numbers.StreamId.StreamId, streams.TalkerReg.TalkerReg}
 use Rattle.stream_importance.specs.declared.entry.Entry.{Entry}
 use Rattle.port_ledger.specs.Book.{entry_of, want_of, since_of}
-use Rattle.tree_topology.specs.Topology.{HasPort}
-use Rattle.tree_topology.specs.Ports.{neighbours}
+use Rattle.tree_topology.specs.{Topology.HasPort, Ports.neighbours}
 use Rattle.mrp_participant.specs.State.{declared_at, is_still}
 use Rattle.msrp_codec.specs.declared.pdu.MsrpKey.{MsrpKey}
 use Rattle.msrp_codec.specs.declared.pdu.MsrpKey.TheVariants as keys
-use Rattle.msrp.specs.PortState.{PortState}
-use Rattle.msrp.specs.Part.{key_cmp, talker_reg_of}
-use Rattle.msrp.specs.Stream.{is_advertised, talker_at, wanted_at}
-use Rattle.msrp.specs.Side.{Streams, IsKept, IsPort, IsSettled, awaiting_at, seen_by, are_still as streams_are_still}
-use Rattle.attribute_propagation.specs.Dirty.{is_awaiting}
-use Rattle.attribute_propagation.specs.Ports.{place_of}
+use Rattle.msrp.specs.{PortState.PortState, Part.key_cmp, Part.talker_reg_of, Stream.is_advertised, Stream.talker_at, Stream.wanted_at, Side.Streams, Side.IsKept, Side.IsPort, Side.IsSettled, Side.awaiting_at, Side.seen_by, Side.are_still as streams_are_still}
+use Rattle.attribute_propagation.specs.{Dirty.is_awaiting, Ports.place_of}
 use Rattle.flat_side.specs.Side.{are_still}
 use Rattle.node_core.specs.State.{NodeState, are_empty, booked_at, if_booked, is_still_node, of_port, ports_of}
-use Rattle.world_core.specs.World.{WorldState, is_quiet, node_at}
-use Rattle.world_core.specs.Kept.{IsKeptWorld}
-use Rattle.network_laws.specs.Bookings.{BookingsMatch, IsBookedAsAdvertised, at_port_of, declares_advertise, is_booked_in, registers_ready}
-use Rattle.network_laws.specs.Streams.{has_booked}
-use Rattle.network_laws.proofs.Lists.{each-get, get-all, get-empty, get-some, get-within}
-use Rattle.network_laws.proofs.StreamNode.{KeptWants, advertised-booked, booked-advertises, booked-wants, reg-content}
-use Rattle.network_laws.proofs.StreamNet.{entry-booked}
+use Rattle.world_core.specs.{World.WorldState, World.is_quiet, World.node_at, Kept.IsKeptWorld}
+use Rattle.network_laws.specs.{BookingsMatch, IsBookedAsAdvertised, at_port_of, declares_advertise, is_booked_in, registers_ready, has_booked}
+use Rattle.network_laws.proofs.{Lists.get-empty, Lists.get-within, StreamNode.KeptWants, StreamNode.advertised-booked, StreamNode.booked-advertises, StreamNode.booked-wants, StreamNode.reg-content, StreamNet.entry-booked}
 
 module _ (kept-wants : KeptWants) (side : Streams) (kept : IsKept side) (at : ℕ) (port : PortState) (stream : StreamId)
     (has : slice_get side.ports at ≡ Some port) where

@@ -3,10 +3,7 @@ use Rattle.std.proofs.Common.{◌≡◌, ℕ, zero, suc, ◌+◌, ◌-◌, ◌<�
 use Rattle.std.specs.Prelude.{Some, find}
 use Rattle.std.specs.List.{AllByRecursion, range_with_len}
 use Rattle.srp_base.specs.declared.numbers.EgressPort.{EgressPort}
-use Rattle.tree_topology.specs.Graph.{Joined, IsWalk}
-use Rattle.tree_topology.specs.Topology.{Topology, HasPort}
-use Rattle.tree_topology.specs.Ports.{egress_ports, IsPortPath}
-use Rattle.tree_topology.specs.PortLaws.{HasPortLaws}
+use Rattle.tree_topology.specs.{Graph.Joined, Graph.IsWalk, Topology.Topology, Topology.HasPort, Ports.egress_ports, Ports.IsPortPath, PortLaws.HasPortLaws}
 use Rattle.world_core.specs.World.{WorldState}
 
 -- so far nothing is decided of all ports: what is asked of them is asked of those that are left, which exist

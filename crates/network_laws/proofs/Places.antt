@@ -1,18 +1,16 @@
 -- Reading one place of a list where something holds at every place, and the flat rule place by place.
-use Rattle.std.proofs.Common.{◌≡◌, ◌≢◌, ◌⊎◌, inl, inr, ℕ, zero, suc, ◌+◌, ◌-◌, ◌<◌, ◌≤◌, Bool, true, false, ◌||◌, List, [], ◌∷◌, length, map, take, drop, refl, sym, ap, ◌∙◌, arith}
+use Rattle.std.proofs.Common.{◌≡◌, ◌≢◌, ◌⊎◌, inl, inr, ℕ, zero, suc, ◌+◌, ◌-◌, ◌<◌, ◌≤◌, Bool, true, false, ◌||◌, List, [], ◌∷◌, length, take, drop, refl, ap, ◌∙◌, arith}
 use Rattle.std.specs.Prelude.{slice_get, Some, ◌==◌}
 use Rattle.std.specs.List.{list_any, range_with_len}
 use Rattle.std.proofs.lemmas.Bool.{and_parts}
-use Rattle.attribute_propagation.specs.Flat.{is_any, elsewhere}
+use Rattle.std.proofs.lemmas.Bool.{or_right as true-right, or_left as true-left}
+use Rattle.srp_base.proofs.{Bools.or_true as or-cases, Bools.either, Arithmetic.same_or_below as decide, Lists.no-length}
+use Rattle.attribute_propagation.specs.{Flat.is_any, Flat.elsewhere, Ports.IsLinkPort}
 use Rattle.node_core.specs.declared.types.Wire.{Wire}
 use Rattle.node_core.specs.State.{NodeState, are_empty, box_at, ports_of}
 use Rattle.srp_base.specs.declared.numbers.EgressPort.{EgressPort}
-use Rattle.tree_topology.specs.Topology.{HasPort}
-use Rattle.tree_topology.specs.Ports.{neighbours}
-use Rattle.attribute_propagation.specs.Ports.{IsLinkPort}
-use Rattle.world_core.specs.World.{WorldState, node_at}
-use Rattle.world_core.specs.Kept.{IsKeptWorld}
-use Rattle.network_laws.proofs.Lists.{no-length}
+use Rattle.tree_topology.specs.{Topology.HasPort, Ports.neighbours}
+use Rattle.world_core.specs.{World.WorldState, World.node_at, Kept.IsKeptWorld}
 
 -- no PDU waits in any box
 pub empty-box : (boxes : List (List Wire)) (i : ℕ) → are_empty boxes ≡ true → box_at i boxes ≡ []
@@ -21,10 +19,6 @@ empty-box (b ∷ boxes) zero h = no-length b (and_parts (length b == 0) (are_emp
 empty-box (b ∷ boxes) (suc i) h = empty-box boxes i (and_parts (length b == 0) (are_empty boxes) h).1
 
 -- ---- the flat rule
-
-or-cases : (a b : Bool) → (a || b) ≡ true → (a ≡ true) ⊎ (b ≡ true)
-or-cases true b h = inl refl
-or-cases false b h = inr h
 
 pub any-at : (bs : List Bool) → is_any bs ≡ true → (j : ℕ) × (slice_get bs j ≡ Some true)
 any-at [] h = cc
@@ -40,10 +34,6 @@ any-from (false ∷ bs) (suc j) h = any-from bs j h
 -- a place but one is true
 abbrev pub is_other : ℕ → List Bool → Bool
 is_other at bs = is_any (take at bs) || is_any (drop 1 (drop at bs))
-
-either : (b x y : Bool) → (x || y) ≡ true → ((b || x) || y) ≡ true
-either true x y h = refl
-either false x y h = h
 
 pub other-at : (at : ℕ) (bs : List Bool) → is_other at bs ≡ true → (j : ℕ) × (j ≢ at) × (slice_get bs j ≡ Some true)
 other-at zero [] h = cc
@@ -72,17 +62,6 @@ pub flat-other : (at : ℕ) (own : Bool) (bs : List Bool) → is_other at bs ≡
 flat-other at true bs h = refl
 flat-other at false bs h = h
 
--- what a test says of an element at a place
-pub get-map : {X : Type 0} (test : X → Bool) (xs : List X) (j : ℕ) → slice_get (map test xs) j ≡ Some true → (x : X) × (slice_get xs j ≡ Some x) × (test x ≡ true)
-get-map test [] j h = cc
-get-map test (x ∷ xs) zero h = (x, refl, cc)
-get-map test (x ∷ xs) (suc j) h = get-map test xs j h
-
-pub map-get : {X : Type 0} (test : X → Bool) (xs : List X) (j : ℕ) (x : X) → slice_get xs j ≡ Some x → test x ≡ true → slice_get (map test xs) j ≡ Some true
-map-get test [] j x h e = cc
-map-get test (y ∷ xs) zero x h e = let same : y ≡ x = cc in ap Some (ap test same ∙ e)
-map-get test (y ∷ xs) (suc j) x h e = map-get test xs j x h e
-
 -- a port of the tree is a link port of its node
 pub link-port : (w : WorldState) → IsKeptWorld w → (p : EgressPort) → HasPort w.tree p → (s : NodeState) → node_at p.node w ≡ Some s → IsLinkPort p.port (ports_of s)
 link-port w kept p h s e =
@@ -92,31 +71,7 @@ link-port w kept p h s e =
 
 -- ---- the first that passes a test among consecutive numbers
 
-pub any-here : (test : ℕ → Bool) (a n : ℕ) → 0 < n → test a ≡ true → list_any test (range_with_len a n) ≡ true
-any-here test a zero lt h = absurd (omega arith)
-any-here test a (suc n) lt h = ap (λ b. b || list_any test (range_with_len (a + 1) n)) h
-
-pub any-later : (test : ℕ → Bool) (a n : ℕ) → 0 < n → test a ≡ false → list_any test (range_with_len a n) ≡ list_any test (range_with_len (a + 1) (n - 1))
-any-later test a zero lt h = absurd (omega arith)
-any-later test a (suc n) lt h =
-    let less : n ≡ suc n - 1 = omega arith in
-    ap (λ b. b || list_any test (range_with_len (a + 1) n)) h ∙ ap (λ k. list_any test (range_with_len (a + 1) k)) less
-
 -- ---- a number of a range that passes a test
-
-decide : (m n : ℕ) → m ≤ n → (m ≡ n) ⊎ (m + 1 ≤ n)
-decide m n le = by (n - m) refl
-  where
-    by : (d : ℕ) → n - m ≡ d → (m ≡ n) ⊎ (m + 1 ≤ n)
-    by zero e = inl (omega arith)
-    by (suc d) e = inr (omega arith)
-
-true-left : (a b : Bool) → a ≡ true → (a || b) ≡ true
-true-left a b h = ap (λ c. c || b) h
-
-true-right : (a b : Bool) → b ≡ true → (a || b) ≡ true
-true-right true b h = refl
-true-right false b h = h
 
 pub range-from : (test : ℕ → Bool) (n a y : ℕ) → a ≤ y → y < a + n → test y ≡ true → list_any test (range_with_len a n) ≡ true
 range-from test zero a y low high h = absurd (omega arith)
@@ -136,9 +91,3 @@ range-at test (suc n) a h = by (or-cases (test a) (list_any test (range_with_len
         → (y : ℕ) × (a ≤ y) × (y < a + suc n) × (test y ≡ true)
     by (inl e) rest = (a, omega arith, omega arith, e)
     by (inr e) rest = let r = rest e in (r.0, omega (arith, r.1), omega (arith, r.2), r.3)
-
--- two tests that are true together are one
-pub one-test : (a b : Bool) → (a ≡ true → b ≡ true) → (b ≡ true → a ≡ true) → a ≡ b
-one-test true b f g = sym (f refl)
-one-test false true f g = g refl
-one-test false false f g = refl

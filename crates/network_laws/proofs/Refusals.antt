@@ -2,36 +2,19 @@
 use Rattle.std.proofs.Common.{◌≡◌, ℕ, zero, suc, ◌+◌, ◌-◌, ◌<◌, Bool, true, false, ◌&&◌, ◌==◌, if◌then◌else◌, List, [], ◌∷◌, refl, sym, ap, ◌∙◌, arith}
 use Rattle.std.specs.Prelude.{slice_get, Option, Some, None, IsSome, is_some, option_map, option_and_then, ◌↔◌}
 use Rattle.std.specs.Option.{option_map_or}
-use Rattle.std.proofs.lemmas.Bool.{and_parts, eqb-true}
-use Rattle.std.proofs.lemmas.Bool.Decides.{nat_tests}
-use Rattle.srp_base.specs.declared.numbers.BridgeId.{BridgeId}
-use Rattle.srp_base.specs.declared.numbers.EgressPort.{EgressPort}
-use Rattle.srp_base.specs.declared.numbers.StreamId.{StreamId}
-use Rattle.srp_base.specs.declared.streams.Failure.{Failure}
-use Rattle.srp_base.specs.declared.streams.Talker.{Talker}
-use Rattle.srp_base.specs.declared.streams.TalkerReg.{TalkerReg}
-use Rattle.stream_importance.specs.declared.entry.Want.{Want}
-use Rattle.stream_importance.specs.declared.entry.Fit.{Fit}
-use Rattle.stream_importance.specs.declared.entry.Fit.TheVariants.{Fits, TooLittle}
+use Rattle.std.proofs.lemmas.{Bool.and_parts, Bool.eqb-true, Bool.Decides.nat_tests}
+use Rattle.srp_base.specs.declared.{numbers.BridgeId.BridgeId, numbers.EgressPort.EgressPort, numbers.StreamId.StreamId, streams.Failure.Failure, streams.Talker.Talker, streams.TalkerReg.TalkerReg}
+use Rattle.stream_importance.specs.declared.{entry.Want.Want, entry.Fit.Fit, entry.Fit.TheVariants.Fits, entry.Fit.TheVariants.TooLittle}
 use Rattle.stream_importance.specs.Bandwidth.{cap_of}
-use Rattle.port_ledger.specs.Decision.{above, booked_of, does_fit}
-use Rattle.port_ledger.specs.Book.{Book, fit_for, tested_entry, code_of}
-use Rattle.tree_topology.specs.Topology.{HasNode}
-use Rattle.tree_topology.specs.Walk.{path_between}
+use Rattle.port_ledger.specs.{Decision.above, Decision.booked_of, Decision.does_fit, Book.Book, Book.fit_for, Book.tested_entry, Book.code_of}
+use Rattle.tree_topology.specs.{Topology.HasNode, Walk.path_between, Refusal.is_station}
 use Rattle.msrp_talker.specs.TalkerOut.{talker_in}
-use Rattle.msrp.specs.PortState.{PortState}
-use Rattle.msrp.specs.Stream.{is_talker_port, talkers_of, first_talker as talker_in_list, fit_at, want_of_talker}
+use Rattle.msrp.specs.{PortState.PortState, Stream.is_talker_port, Stream.talkers_of, Stream.first_talker as talker_in_list, Stream.fit_at, Stream.want_of_talker, Side.talker_of, Side.has_talk}
 use Rattle.attribute_propagation.specs.Ports.{place_of}
-use Rattle.msrp.specs.Side.{talker_of, has_talk}
 use Rattle.node_core.specs.State.{NodeState, fit_of}
-use Rattle.world_core.specs.World.{WorldState, node_at}
-use Rattle.world_core.specs.Talks.{HasOneTalker}
-use Rattle.tree_topology.specs.Refusal.{is_station}
-use Rattle.network_laws.specs.declared.streams.Refusal.{Refusal}
-use Rattle.network_laws.specs.Streams.{IsTalkedOnce, is_talked_at, talking_node, failure_at, slope_of_reg, refusal_of, refusal_in, refusal_at, first_refusal, refusal_named, refusal_to, IsNamedAt, IsRefusalTo}
-use Rattle.network_laws.proofs.StreamNode.{KeptWants}
-use Rattle.network_laws.proofs.StreamNet.{AreStreamsStill}
-use Rattle.network_laws.proofs.StreamLaw.{shown, fit-there, moment-is}
+use Rattle.world_core.specs.{World.WorldState, World.node_at, Talks.HasOneTalker}
+use Rattle.network_laws.specs.{Refusal, IsTalkedOnce, is_talked_at, talking_node, failure_at, slope_of_reg, refusal_of, refusal_in, refusal_at, first_refusal, refusal_named, refusal_to, IsNamedAt, IsRefusalTo}
+use Rattle.network_laws.proofs.{StreamNode.KeptWants, StreamNet.AreStreamsStill, StreamLaw.shown, StreamLaw.fit-there, StreamLaw.moment-is}
 
 -- ---- the first along some ports
 

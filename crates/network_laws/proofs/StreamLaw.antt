@@ -1,40 +1,24 @@
 -- The laws of streams in a network at rest, in the words of their definitions.
 use Rattle.std.proofs.Common.{◌≡◌, ◌≢◌, ◌⊎◌, inl, inr, ℕ, zero, suc, ◌+◌, ◌-◌, ◌<◌, ◌≤◌, Bool, true, false, ◌&&◌, List, [], ◌∷◌, ◌++◌, length, refl, sym, ap, subst, ◌∙◌, arith}
 use Rattle.std.specs.Prelude.{slice_get, Option, Some, None, find, option_and_then, ◌↔◌, ◌==◌}
-use Rattle.std.specs.Option.{option_map_or}
-use Rattle.std.specs.List.{AllByRecursion, list_all, range_with_len}
-use Rattle.std.proofs.lemmas.Bool.{and_parts, eqb-true}
-use Rattle.std.proofs.lemmas.Bool.Decides.{nat_tests}
-use Rattle.srp_base.specs.declared.numbers.EgressPort.{EgressPort}
-use Rattle.srp_base.specs.declared.numbers.StreamId.{StreamId}
-use Rattle.srp_base.specs.declared.streams.Failure.{Failure}
-use Rattle.srp_base.specs.declared.streams.Talker.{Talker}
-use Rattle.srp_base.specs.declared.streams.TalkerReg.{TalkerReg}
+use Rattle.std.specs.{Option.option_map_or, List.AllByRecursion, List.list_all, List.range_with_len}
+use Rattle.std.proofs.lemmas.{Bool.and_parts, Bool.eqb-true, Bool.Decides.nat_tests}
+use Rattle.srp_base.proofs.{Lists.within as get-some, Arithmetic.is_other as other-port}
+use Rattle.srp_base.specs.declared.{numbers.EgressPort.EgressPort, numbers.StreamId.StreamId, streams.Failure.Failure, streams.Talker.Talker, streams.TalkerReg.TalkerReg}
 use Rattle.srp_base.specs.declared.streams.TalkerReg.TheVariants.{Absent, Advertise, Failed}
-use Rattle.stream_importance.specs.declared.entry.Want.{Want}
-use Rattle.stream_importance.specs.declared.entry.Fit.{Fit}
-use Rattle.stream_importance.specs.declared.entry.Fit.TheVariants.{Fits, TooLittle}
+use Rattle.stream_importance.specs.declared.{entry.Want.Want, entry.Fit.Fit, entry.Fit.TheVariants.Fits, entry.Fit.TheVariants.TooLittle}
 use Rattle.stream_importance.specs.Bandwidth.{cap_of}
-use Rattle.port_ledger.specs.Decision.{above, booked_of, does_fit}
-use Rattle.port_ledger.specs.Book.{Book, fit_for, tested_entry, code_of}
-use Rattle.tree_topology.specs.Topology.{HasNode, HasPort}
-use Rattle.tree_topology.specs.Ports.{neighbours, peer_of, far_node, LiesBehind, IsPortPath}
-use Rattle.tree_topology.specs.Walk.{is_behind, path_between}
+use Rattle.port_ledger.specs.{Decision.above, Decision.booked_of, Decision.does_fit, Book.Book, Book.fit_for, Book.tested_entry, Book.code_of}
+use Rattle.tree_topology.specs.{Topology.HasNode, Topology.HasPort, Ports.neighbours, Ports.peer_of, Ports.far_node, Ports.LiesBehind, Ports.IsPortPath, Walk.is_behind, Walk.path_between, Refusal.is_station}
 use Rattle.mrp_participant.specs.State.{registered_at}
 use Rattle.msrp_codec.specs.declared.pdu.MsrpKey.TheVariants as keys
 use Rattle.msrp_talker.specs.TalkerOut.{talker_in}
-use Rattle.msrp.specs.PortState.{PortState}
-use Rattle.msrp.specs.Part.{registered_talker, registered_listener, key_cmp, talker_reg_of}
-use Rattle.msrp.specs.Stream.{Registrations, is_present, is_advertised, is_number, talker_port, is_talker_port, is_ready, talk_of, first_talker, listener_at, fit_at, want_of_talker, heard_by, heard_from as heard_in}
+use Rattle.msrp.specs.{PortState.PortState, Part.registered_talker, Part.registered_listener, Part.key_cmp, Part.talker_reg_of, Stream.Registrations, Stream.is_present, Stream.is_advertised, Stream.is_number, Stream.talker_port, Stream.is_talker_port, Stream.is_ready, Stream.talk_of, Stream.first_talker, Stream.listener_at, Stream.fit_at, Stream.want_of_talker, Stream.heard_by, Stream.heard_from as heard_in, Side.seen_by, Side.has_listen, Side.heard_of}
 use Rattle.attribute_propagation.specs.Ports.{place_of}
-use Rattle.msrp.specs.Side.{seen_by, has_listen, heard_of}
 use Rattle.node_core.specs.State.{NodeState}
 use Rattle.world_core.specs.World.{WorldState, node_at}
-use Rattle.tree_topology.specs.Refusal.{is_station}
-use Rattle.network_laws.specs.Streams.{talker_at_place, is_talker_registered, is_talked_at, IsTalkedOnce, HasTalkerBehind, TalkersMatch, talking_node, has_booked, is_path_booked, IsPathBooked, is_ready_heard, hears_ready, is_listened_at, AreReadyOnPath, bandwidth_failure, failure_at, want_at, IsPushedOut, IsRefusedAt, IsOnPath, AreRefusalsShown}
-use Rattle.network_laws.proofs.Lists.{get-some, get-within}
-use Rattle.network_laws.proofs.StreamNode.{IsTalkers, port-of-present, is-port, same-port, other-port, KeptWants, booked-advertises, advertised-booked, IsOfBandwidth, listens}
-use Rattle.network_laws.proofs.StreamNet.{AreStreamsStill, At, at-port, reg, reg-is, regs, wanted, far-listener, near-talker, test, Talks, registered-behind, Sibling, towards, other-side, behind-registered, booked-is, path-booked, path-last, port-kept, kind-is, Refusing, refused, TalkersAt, at-app, at-link, talkers-at, get-map, is-not}
+use Rattle.network_laws.specs.{talker_at_place, is_talker_registered, is_talked_at, IsTalkedOnce, HasTalkerBehind, TalkersMatch, talking_node, has_booked, is_path_booked, IsPathBooked, is_ready_heard, hears_ready, is_listened_at, AreReadyOnPath, bandwidth_failure, failure_at, want_at, IsPushedOut, IsRefusedAt, IsOnPath, AreRefusalsShown}
+use Rattle.network_laws.proofs.{Lists.get-within, StreamNode.IsTalkers, StreamNode.port-of-present, StreamNode.is-port, StreamNode.same-port, StreamNode.KeptWants, StreamNode.booked-advertises, StreamNode.advertised-booked, StreamNode.IsOfBandwidth, StreamNode.listens, StreamNet.AreStreamsStill, StreamNet.At, StreamNet.at-port, StreamNet.reg, StreamNet.reg-is, StreamNet.regs, StreamNet.wanted, StreamNet.far-listener, StreamNet.near-talker, StreamNet.test, StreamNet.Talks, StreamNet.registered-behind, StreamNet.Sibling, StreamNet.towards, StreamNet.other-side, StreamNet.behind-registered, StreamNet.booked-is, StreamNet.path-booked, StreamNet.path-last, StreamNet.port-kept, StreamNet.kind-is, StreamNet.Refusing, StreamNet.refused, StreamNet.TalkersAt, StreamNet.at-app, StreamNet.at-link, StreamNet.talkers-at, StreamNet.get-map, StreamNet.is-not}
 
 -- a node lies behind a port by its walk exactly where the test says so; the egress ports of the walk are the path
 abbrev pub WalkBehind : WorldState → Type 0

@@ -3,41 +3,26 @@
 -- bookings, declared Talkers and declared Listeners hang together port by port.
 use Rattle.std.proofs.Common.{◌≡◌, ◌≢◌, ◌⊎◌, inl, inr, ℕ, zero, suc, ◌+◌, ◌-◌, ◌<◌, Bool, true, false, ◌&&◌, List, [], ◌∷◌, ◌++◌, length, map, refl, sym, ap, subst, ◌∙◌, arith}
 use Rattle.std.specs.Prelude.{slice_get, not, Option, Some, None, is_some, option_map, option_and_then, ◌==◌}
-use Rattle.std.specs.Option.{option_map_or}
-use Rattle.std.specs.List.{list_all}
+use Rattle.std.specs.{Option.option_map_or, List.list_all}
 use Rattle.std.proofs.lemmas.Bool.{and_parts}
-use Rattle.srp_base.specs.declared.numbers.EgressPort.{EgressPort}
-use Rattle.srp_base.specs.declared.numbers.StreamId.{StreamId}
-use Rattle.srp_base.specs.declared.streams.Failure.{Failure}
-use Rattle.srp_base.specs.declared.streams.Talker.{Talker}
-use Rattle.srp_base.specs.declared.streams.TalkerReg.{TalkerReg}
+use Rattle.srp_base.proofs.{Options.one_some as one, Lists.each-get, Lists.within as get-some, Arithmetic.is_other as other-port}
+use Rattle.srp_base.specs.declared.{numbers.EgressPort.EgressPort, numbers.StreamId.StreamId, streams.Failure.Failure, streams.Talker.Talker, streams.TalkerReg.TalkerReg, streams.ListenerKind.ListenerKind}
 use Rattle.srp_base.specs.declared.streams.TalkerReg.TheVariants.{Absent, Advertise, Failed}
-use Rattle.srp_base.specs.declared.streams.ListenerKind.{ListenerKind}
-use Rattle.stream_importance.specs.declared.entry.Want.{Want}
-use Rattle.tree_topology.specs.declared.graph.NodeKind.{NodeKind}
-use Rattle.tree_topology.specs.declared.graph.NodeKind.TheVariants.{Station, Bridge}
-use Rattle.tree_topology.specs.Topology.{HasNode, HasPort}
-use Rattle.tree_topology.specs.Ports.{neighbours, peer_of, far_node}
-use Rattle.tree_topology.specs.Walk.{is_behind, path_between, count_behind}
-use Rattle.tree_topology.specs.PortLaws.{HasPortLaws, HasBeyond}
+use Rattle.stream_importance.specs.declared.{entry.Want.Want, entry.Entry.Entry}
+use Rattle.tree_topology.specs.declared.{graph.NodeKind.NodeKind, graph.NodeKind.TheVariants.Station, graph.NodeKind.TheVariants.Bridge}
+use Rattle.tree_topology.specs.{Topology.HasNode, Topology.HasPort, Ports.neighbours, Ports.peer_of, Ports.far_node, Walk.is_behind, Walk.path_between, Walk.count_behind, PortLaws.HasPortLaws, PortLaws.HasBeyond, Refusal.is_station}
 use Rattle.mrp_participant.specs.State.{registered_at, declared_at}
-use Rattle.stream_importance.specs.declared.entry.Entry.{Entry}
 use Rattle.port_ledger.specs.Book.{entry_of, since_of, want_of}
 use Rattle.msrp_codec.specs.declared.pdu.MsrpKey.{MsrpKey}
 use Rattle.msrp_codec.specs.declared.pdu.MsrpKey.TheVariants as keys
 use Rattle.msrp_listener.specs.declared.port_listener.PortListener.{PortListener}
-use Rattle.msrp.specs.PortState.{PortState}
-use Rattle.msrp.specs.Part.{key_cmp, registered_talker, registered_listener, talker_reg_of, listener_kind_of}
-use Rattle.msrp.specs.Stream.{Registrations, advertise_of, talk_of, is_present, is_advertised, is_talker_port, is_ready, listener_row, first_talker, edge_at, talker_at, listener_at, wanted_at, want_of_talker}
+use Rattle.msrp.specs.{PortState.PortState, Part.key_cmp, Part.registered_talker, Part.registered_listener, Part.talker_reg_of, Part.listener_kind_of, Stream.Registrations, Stream.advertise_of, Stream.talk_of, Stream.is_present, Stream.is_advertised, Stream.is_talker_port, Stream.is_ready, Stream.listener_row, Stream.first_talker, Stream.edge_at, Stream.talker_at, Stream.listener_at, Stream.wanted_at, Stream.want_of_talker, Side.Streams, Side.IsKept, Side.IsPort, Side.IsSettled, Side.has_talk, Side.seen_by}
 use Rattle.msrp_talker.specs.TalkerOut.{talker_in}
 use Rattle.attribute_propagation.specs.Ports.{place_of}
-use Rattle.msrp.specs.Side.{Streams, IsKept, IsPort, IsSettled, has_talk, seen_by}
 use Rattle.node_core.specs.State.{NodeState, if_booked, booked_at}
 use Rattle.world_core.specs.World.{WorldState, node_at}
-use Rattle.tree_topology.specs.Refusal.{is_station}
-use Rattle.network_laws.specs.Streams.{is_talked_at, IsTalkedOnce, has_booked}
-use Rattle.network_laws.proofs.Lists.{each-get, get-some, get-within, get-empty}
-use Rattle.network_laws.proofs.StreamNode.{IsTalkers, first-is, port-of, port-of-present, is-port, same-port, other-port, declares, declared-present, present-declared, out-wants, reg-content, kind-content, KeptWants, Wants, booked-wants, advertised-booked, fit_of_reg, IsOfBandwidth, Refuses, failed-at, can_have, forwards}
+use Rattle.network_laws.specs.{is_talked_at, IsTalkedOnce, has_booked}
+use Rattle.network_laws.proofs.{Lists.get-within, Lists.get-empty, StreamNode.IsTalkers, StreamNode.first-is, StreamNode.port-of, StreamNode.port-of-present, StreamNode.is-port, StreamNode.same-port, StreamNode.declares, StreamNode.declared-present, StreamNode.present-declared, StreamNode.out-wants, StreamNode.reg-content, StreamNode.kind-content, StreamNode.KeptWants, StreamNode.Wants, StreamNode.booked-wants, StreamNode.advertised-booked, StreamNode.fit_of_reg, StreamNode.IsOfBandwidth, StreamNode.Refuses, StreamNode.failed-at, StreamNode.can_have, StreamNode.forwards}
 
 -- what MSRP keeps of a port
 abbrev pub stream_port : EgressPort → WorldState → Option PortState
@@ -55,9 +40,6 @@ pub record AreStreamsStill (w : WorldState) : Type 0 where
   pub idle : (x : ℕ) (s : NodeState) → slice_get w.nodes x ≡ Some s → s.kind ≡ Bridge → s.streams.talks ≡ []
   pub linked : (p : EgressPort) → HasPort w.tree p → (a b : PortState) → stream_port p w ≡ Some a → stream_port (peer_of w.tree.links p) w ≡ Some b
       → (key : MsrpKey) → registered_at key_cmp key a.part ≡ declared_at key_cmp key b.part
-
-one : {X : Type 0} (o : Option X) (x y : X) → o ≡ Some x → o ≡ Some y → x ≡ y
-one o x y a b = cc
 
 map-get : {X Y : Type 0} (f : X → Y) (xs : List X) (j : ℕ) (x : X) → slice_get xs j ≡ Some x → slice_get (map f xs) j ≡ Some (f x)
 map-get f [] j x h = cc

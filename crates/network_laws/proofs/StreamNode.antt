@@ -2,32 +2,21 @@
 -- Listeners there, and how that and the port's ledger hang together.
 use Rattle.std.proofs.Common.{◌≡◌, ◌≢◌, ◌⊎◌, inl, inr, ℕ, zero, suc, ◌+◌, ◌≤◌, Bool, true, false, ◌||◌, ◌==◌, if◌then◌else◌, List, [], ◌∷◌, ◌++◌, length, map, take, drop, refl, sym, ap, ◌∙◌, arith}
 use Rattle.std.specs.Prelude.{slice_get, nat_lt, Option, Some, None, IsSome, is_some, is_none, option_map, option_and_then, fold, ◌↔◌}
-use Rattle.std.specs.Option.{unwrap_or, option_or}
-use Rattle.std.specs.List.{list_any, filter_map, position_or_len}
-use Rattle.std.proofs.lemmas.Bool.{eqb-true}
-use Rattle.std.proofs.lemmas.Bool.Decides.{nat_tests}
-use Rattle.srp_base.specs.declared.bandwidth.Class.{Class}
-use Rattle.srp_base.specs.declared.numbers.StreamId.{StreamId}
-use Rattle.srp_base.specs.declared.streams.Failure.{Failure}
-use Rattle.srp_base.specs.declared.streams.Talker.{Talker}
-use Rattle.srp_base.specs.declared.streams.TalkerReg.{TalkerReg}
+use Rattle.std.specs.{Option.unwrap_or, Option.option_or, List.list_any, List.filter_map, List.position_or_len}
+use Rattle.std.proofs.lemmas.{Bool.eqb-true, Bool.Decides.nat_tests}
+use Rattle.std.proofs.lemmas.{Bool.or_right as true-right, Map.Keys.any_passes_from_place as any-get}
+use Rattle.srp_base.proofs.Bools.{or_true as or-cases}
+use Rattle.srp_base.specs.declared.{bandwidth.Class.Class, numbers.StreamId.StreamId, streams.Failure.Failure, streams.Talker.Talker, streams.TalkerReg.TalkerReg, streams.ListenerKind.ListenerKind}
 use Rattle.srp_base.specs.declared.streams.TalkerReg.TheVariants.{Absent, Advertise, Failed}
-use Rattle.srp_base.specs.declared.streams.ListenerKind.{ListenerKind}
 use Rattle.srp_base.specs.declared.streams.ListenerKind.TheVariants.{AskingFailed, Ready, ReadyFailed}
-use Rattle.stream_importance.specs.declared.entry.Entry.{Entry}
-use Rattle.stream_importance.specs.declared.entry.Want.{Want}
-use Rattle.stream_importance.specs.declared.entry.Fit.{Fit}
-use Rattle.stream_importance.specs.declared.entry.Fit.TheVariants.{Fits, TooLittle}
-use Rattle.port_ledger.specs.Decision.{stream_of}
-use Rattle.port_ledger.specs.Book.{Book, IsKept, entry_of, want_of, since_of, fit_for}
+use Rattle.stream_importance.specs.declared.{entry.Entry.Entry, entry.Want.Want, entry.Fit.Fit, entry.Fit.TheVariants.Fits, entry.Fit.TheVariants.TooLittle}
+use Rattle.port_ledger.specs.{Decision.stream_of, Book.Book, Book.IsKept, Book.entry_of, Book.want_of, Book.since_of, Book.fit_for}
 use Rattle.msrp_talker.specs.declared.port_config.PortConfig.{PortConfig}
 use Rattle.msrp_talker.specs.TalkerOut.{check_of, class_of_priority, refusal_of, declared_of, delayed_by, talker_in, talker_out}
 use Rattle.msrp_listener.specs.declared.port_listener.PortListener.{PortListener}
 use Rattle.msrp_listener.specs.Merging.{merge_of, counted_kind, listener_out}
 use Rattle.msrp_codec.specs.declared.pdu.MsrpContent.TheVariants as contents
-use Rattle.msrp.specs.PortState.{PortState}
-use Rattle.msrp.specs.Part.{registered_listener, talker_content, talker_reg_of, listener_kind_of}
-use Rattle.msrp.specs.Stream.{Registrations, is_present, is_advertised, is_number, is_talker_port, is_ready, is_ready_kind, talker_port, first_talker, edge_at, talker_at, want_of_talker, want_of_reg, want_in_class, wanted_at, listener_at, own_listener, other_listeners}
+use Rattle.msrp.specs.{PortState.PortState, Part.registered_listener, Part.talker_content, Part.talker_reg_of, Part.listener_kind_of, Stream.Registrations, Stream.is_present, Stream.is_advertised, Stream.is_number, Stream.is_talker_port, Stream.is_ready, Stream.is_ready_kind, Stream.talker_port, Stream.first_talker, Stream.edge_at, Stream.talker_at, Stream.want_of_talker, Stream.want_of_reg, Stream.want_in_class, Stream.wanted_at, Stream.listener_at, Stream.own_listener, Stream.other_listeners}
 
 -- ---- the Talker's port
 
@@ -100,13 +89,6 @@ is-port xs n x m t = ap (λ o. is_number m o) t.port
 
 pub same-port : (n : ℕ) → (n == n) ≡ true
 same-port n = grind (arith, nat_tests)
-
-pub other-port : (n m : ℕ) → n ≢ m → (n == m) ≡ false
-other-port n m ne = by (n == m) refl
-  where
-    by : (b : Bool) → (n == m) ≡ b → (n == m) ≡ false
-    by true e = absurd (ne (eqb-true n m e))
-    by false e = e
 
 -- ---- what a port declares of the Talker
 
@@ -441,10 +423,6 @@ fold-ready k (x ∷ ks) h = fold-ready (merge_of k x) ks (merge-left k x h)
 abbrev pub can_have : PortListener → Bool
 can_have row = is_ready_kind (counted_kind row)
 
-or-cases : (a b : Bool) → (a || b) ≡ true → (a ≡ true) ⊎ (b ≡ true)
-or-cases true b h = inl refl
-or-cases false b h = inr h
-
 fold-any : (k : ListenerKind) (rows : List PortListener) → list_any can_have rows ≡ true → is_ready_kind (fold merge_of k (map counted_kind rows)) ≡ true
 fold-any k [] h = cc
 fold-any k (row ∷ rows) h = by (or-cases (can_have row) (list_any can_have rows) h) (λ there. fold-any (merge_of k (counted_kind row)) rows there)
@@ -466,10 +444,6 @@ abbrev pub can_have_if : Option PortListener → Bool
 can_have_if None = false
 can_have_if (Some row) = can_have row
 
-true-right : (a b : Bool) → b ≡ true → (a || b) ≡ true
-true-right true b h = refl
-true-right false b h = h
-
 any-filter : (os : List (Option PortListener)) → list_any can_have_if os ≡ true → list_any can_have (filter_map (λ row. row) os) ≡ true
 any-filter [] h = cc
 any-filter (None ∷ os) h = any-filter os h
@@ -479,11 +453,6 @@ any-filter (Some row ∷ os) h = by (or-cases (can_have row) (list_any can_have_
         → (can_have row || list_any can_have (filter_map (λ x. x) os)) ≡ true
     by (inl here) rest = ap (λ b. b || list_any can_have (filter_map (λ x. x) os)) here
     by (inr there) rest = true-right (can_have row) (list_any can_have (filter_map (λ x. x) os)) (rest there)
-
-any-get : {X : Type 0} (q : X → Bool) (xs : List X) (j : ℕ) (x : X) → slice_get xs j ≡ Some x → q x ≡ true → list_any q xs ≡ true
-any-get q [] j x h t = cc
-any-get q (y ∷ xs) zero x h t = let same : y ≡ x = cc in ap (λ b. b || list_any q xs) (ap q same ∙ t)
-any-get q (y ∷ xs) (suc j) x h t = true-right (q y) (list_any q xs) (any-get q xs j x h t)
 
 others-any : {X : Type 0} (q : X → Bool) (at : ℕ) (xs : List X) (j : ℕ) (x : X) → j ≢ at → slice_get xs j ≡ Some x → q x ≡ true → list_any q (take at xs ++ drop (suc at) xs) ≡ true
 others-any q at [] j x ne h t = cc

@@ -2,30 +2,17 @@
 use Rattle.std.proofs.Common.{◌≡◌, ℕ, ◌-◌, true, false, ◌||◌, refl, sym, ap, ◌∙◌, arith}
 use Rattle.std.specs.Prelude.{slice_get, Option, Some, None, option_map, option_and_then}
 use Rattle.std.specs.Option.{option_map_or}
-use Rattle.srp_base.specs.declared.numbers.EgressPort.{EgressPort}
-use Rattle.srp_base.specs.declared.numbers.StreamId.{StreamId}
-use Rattle.srp_base.specs.declared.mrp.App.TheVariants.{Msrp}
-use Rattle.tree_topology.specs.Topology.{HasPort}
-use Rattle.tree_topology.specs.Ports.{peer_of}
-use Rattle.tree_topology.specs.PortLaws.{HasPortLaws}
+use Rattle.srp_base.proofs.Lists.{each-get, get-all}
+use Rattle.srp_base.specs.declared.{numbers.EgressPort.EgressPort, numbers.StreamId.StreamId, mrp.App.TheVariants.Msrp}
+use Rattle.tree_topology.specs.{Topology.HasPort, Ports.peer_of, PortLaws.HasPortLaws}
 use Rattle.mrp_participant.specs.State.{is_still, registered_at, declared_at}
-use Rattle.msrp_codec.specs.declared.pdu.MsrpKey.{MsrpKey}
-use Rattle.msrp_codec.specs.declared.pdu.MsrpContent.{MsrpContent}
-use Rattle.msrp.specs.PortState.{PortState}
-use Rattle.msrp.specs.Part.{key_cmp}
+use Rattle.msrp_codec.specs.declared.{pdu.MsrpKey.MsrpKey, pdu.MsrpContent.MsrpContent}
+use Rattle.msrp.specs.{PortState.PortState, Part.key_cmp}
 use Rattle.attribute_propagation.specs.Ports.{place_of}
 use Rattle.node_core.specs.State.{NodeState}
-use Rattle.world_core.specs.Marks.{mark_at}
-use Rattle.world_core.specs.World.{WorldState, node_at}
-use Rattle.world_core.specs.Duty.{streams_said, stream_place, stream_part}
-use Rattle.world_core.specs.Kept.{IsKeptWorld, FitsTree}
-use Rattle.network_laws.specs.Vlans.{IsAtRest}
-use Rattle.network_laws.specs.Streams.{IsTalkedOnce, KeepsStreamLaws}
-use Rattle.network_laws.proofs.Lists.{each-get, get-within, get-all}
-use Rattle.network_laws.proofs.AtRest.{StillLink, still-at, sound-at, registers-declared}
-use Rattle.network_laws.proofs.StreamNode.{KeptWants}
-use Rattle.network_laws.proofs.StreamNet.{stream_port, AreStreamsStill}
-use Rattle.network_laws.proofs.StreamLaw.{WalkBehind, WalkPath, talkers-match, are-ready-on-path, are-refusals-shown}
+use Rattle.world_core.specs.{Marks.mark_at, World.WorldState, World.node_at, Duty.streams_said, Duty.stream_place, Duty.stream_part, Kept.IsKeptWorld, Kept.FitsTree}
+use Rattle.network_laws.specs.{IsAtRest, IsTalkedOnce, KeepsStreamLaws}
+use Rattle.network_laws.proofs.{Lists.get-within, AtRest.StillLink, AtRest.still-at, AtRest.sound-at, AtRest.registers-declared, StreamNode.KeptWants, StreamNet.stream_port, StreamNet.AreStreamsStill, StreamLaw.WalkBehind, StreamLaw.WalkPath, StreamLaw.talkers-match, StreamLaw.are-ready-on-path, StreamLaw.are-refusals-shown}
 
 module _ (w : WorldState) (kept : IsKeptWorld w) (rest : IsAtRest w) (laws : HasPortLaws w.tree) (still : StillLink MsrpKey MsrpContent key_cmp) where
   -- the node and the place of what MSRP keeps of a port

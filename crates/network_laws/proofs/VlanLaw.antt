@@ -1,46 +1,26 @@
 -- In a network at rest a VID is registered at a port exactly where the far node's application, or another port of the far
 -- node, has it; and so, by the tree, exactly where a station behind the port has declared it.
-use Rattle.std.proofs.Common.{◌≡◌, ◌≢◌, ◌⊎◌, inl, inr, ℕ, suc, ◌+◌, ◌-◌, ◌<◌, Bool, true, false, ◌&&◌, ◌||◌, List, [], ◌∷◌, length, map, refl, sym, ap, ◌∙◌, arith}
+use Rattle.std.proofs.Common.{◌≡◌, ◌≢◌, ◌⊎◌, inl, inr, ℕ, suc, ◌+◌, ◌-◌, ◌<◌, true, false, ◌&&◌, ◌||◌, List, [], ◌∷◌, length, map, refl, sym, ap, ◌∙◌, arith}
 use Rattle.std.specs.Prelude.{slice_get, Option, Some, ◌↔◌}
-use Rattle.std.specs.Option.{option_map_or, option_and_then, is_some}
-use Rattle.std.specs.Ordering.{nat_cmp}
+use Rattle.std.specs.{Option.option_map_or, Option.option_and_then, Option.is_some, Ordering.nat_cmp}
 use Rattle.std.proofs.lemmas.Bool.{and_parts}
-use Rattle.srp_base.specs.declared.numbers.EgressPort.{EgressPort}
-use Rattle.srp_base.specs.declared.mrp.App.TheVariants.{Mvrp}
-use Rattle.tree_topology.specs.declared.graph.NodeKind.{NodeKind}
-use Rattle.tree_topology.specs.declared.graph.NodeKind.TheVariants.{Station, Bridge}
-use Rattle.tree_topology.specs.Topology.{HasNode, HasPort}
-use Rattle.tree_topology.specs.Ports.{neighbours, peer_of, far_node, LiesBehind}
-use Rattle.tree_topology.specs.Walk.{is_behind}
-use Rattle.tree_topology.specs.PortLaws.{HasPortLaws, IsPropagated, HasBeyond, HasBehind}
-use Rattle.attribute_propagation.specs.Dirty.{is_awaiting}
-use Rattle.attribute_propagation.specs.Flat.{elsewhere}
+use Rattle.std.proofs.lemmas.Bool.{and_from as both}
+use Rattle.srp_base.proofs.{Options.one_some as one, Lists.within as get-some, Lists.get-all, Lists.get-map, Lists.map-get, Bools.one-test}
+use Rattle.srp_base.specs.declared.{numbers.EgressPort.EgressPort, mrp.App.TheVariants.Mvrp}
+use Rattle.tree_topology.specs.declared.{graph.NodeKind.NodeKind, graph.NodeKind.TheVariants.Station, graph.NodeKind.TheVariants.Bridge}
+use Rattle.tree_topology.specs.{Topology.HasNode, Topology.HasPort, Ports.neighbours, Ports.peer_of, Ports.far_node, Ports.LiesBehind, Walk.is_behind, PortLaws.HasPortLaws, PortLaws.IsPropagated, PortLaws.HasBeyond, PortLaws.HasBehind, Refusal.is_station}
+use Rattle.attribute_propagation.specs.{Dirty.is_awaiting, Flat.elsewhere, Ports.place_of}
 use Rattle.mrp_participant.specs.State.{is_still}
-use Rattle.mvrp.specs.Part.{Part, registers, declares}
-use Rattle.attribute_propagation.specs.Ports.{place_of}
-use Rattle.mvrp.specs.Side.{Vlans, has_own, is_flat}
+use Rattle.mvrp.specs.{Part.Part, Part.registers, Part.declares, Side.Vlans, Side.has_own, Side.is_flat}
 use Rattle.node_core.specs.State.{NodeState}
-use Rattle.world_core.specs.Marks.{mark_at}
-use Rattle.world_core.specs.World.{WorldState, node_at}
-use Rattle.world_core.specs.Duty.{message_of, vlan_place, vlan_part}
-use Rattle.world_core.specs.Kept.{IsKeptWorld, FitsTree}
-use Rattle.tree_topology.specs.Refusal.{is_station}
-use Rattle.network_laws.specs.Vlans.{is_registered, is_declared_at, is_declared_behind, HasDeclaredBehind, VlansMatch, IsAtRest}
-use Rattle.network_laws.proofs.AtRest.{StillLink, IsStillNode, still-at, sound-at, registers-declared}
-use Rattle.network_laws.proofs.Lists.{each-get, get-some, get-within, get-all, get-empty}
-use Rattle.network_laws.proofs.Places.{is_other, other-at, other-from, flat-cases, flat-own, flat-other, get-map, map-get, range-from, range-at, one-test}
+use Rattle.world_core.specs.{Marks.mark_at, World.WorldState, World.node_at, Duty.message_of, Duty.vlan_place, Duty.vlan_part, Kept.IsKeptWorld, Kept.FitsTree}
+use Rattle.network_laws.specs.{is_registered, is_declared_at, is_declared_behind, HasDeclaredBehind, VlansMatch, IsAtRest}
+use Rattle.network_laws.proofs.{AtRest.StillLink, AtRest.IsStillNode, AtRest.still-at, AtRest.sound-at, AtRest.registers-declared, Lists.get-within, Lists.get-empty, Places.is_other, Places.other-at, Places.other-from, Places.flat-cases, Places.flat-own, Places.flat-other, Places.range-from, Places.range-at}
 
 -- an application that declares is a station's
 station-own : (vid : ℕ) (kind : NodeKind) (vlans : Vlans) → (kind ≡ Bridge → vlans.own ≡ []) → has_own vid vlans ≡ true → (is_station kind && has_own vid vlans) ≡ true
 station-own vid Station vlans h e = e
 station-own vid Bridge vlans h e = let none : has_own vid vlans ≡ false = ap (λ own. is_awaiting nat_cmp vid own) (h refl) in cc
-
-both : (a b : Bool) → a ≡ true → b ≡ true → (a && b) ≡ true
-both true b h k = k
-both false b h k = cc
-
-one : {X : Type 0} (o : Option X) (x y : X) → o ≡ Some x → o ≡ Some y → x ≡ y
-one o x y a b = cc
 
 module _ (w : WorldState) (kept : IsKeptWorld w) (rest : IsAtRest w) (laws : HasPortLaws w.tree) (still : StillLink ℕ (Unit {0}) nat_cmp) where
   -- a port's node, and its participant

@@ -3,15 +3,12 @@
 -- other at its participant, at what it declares and at what it has registered.
 use Rattle.std.specs.Prelude.{◌≡◌, ◌↔◌, Bool, true, false, is_some}
 use Rattle.std.specs.Option.{option_map_or}
-use Rattle.srp_base.specs.declared.numbers.EgressPort.{EgressPort}
-use Rattle.srp_base.specs.declared.numbers.StreamId.{StreamId}
+use Rattle.srp_base.specs.declared.{numbers.EgressPort.EgressPort, numbers.StreamId.StreamId}
 use Rattle.port_ledger.specs.Book.{since_of}
 use Rattle.tree_topology.specs.Topology.{HasPort}
 use Rattle.mrp_participant.specs.State.{declared_at}
 use Rattle.msrp_codec.specs.declared.pdu.MsrpKey.TheVariants.{Talker as TalkerKey}
-use Rattle.msrp.specs.PortState.{PortState}
-use Rattle.msrp.specs.Part.{key_cmp, registered_listener, talker_reg_of}
-use Rattle.msrp.specs.Stream.{is_advertised, is_ready}
+use Rattle.msrp.specs.{PortState.PortState, Part.key_cmp, Part.registered_listener, Part.talker_reg_of, Stream.is_advertised, Stream.is_ready}
 use Rattle.attribute_propagation.specs.Ports.{place_of}
 use Rattle.node_core.specs.State.{NodeState, of_port}
 use Rattle.world_core.specs.World.{WorldState, node_at}

@@ -2,36 +2,21 @@
 -- bandwidth comes of (IEEE Std 802.1Q-2018, 35.2.4). Either side by its own definition: one looks at what is registered or
 -- heard at one place, the other at the tree's walks, at what the stations' applications talk, and at bookings.
 use Rattle.std.specs.Prelude.{◌≡◌, ◌↔◌, ◌<◌, ◌+◌, ◌==◌, ℕ, Bool, true, false, ◌&&◌, ◌||◌, if◌then◌else◌, List, [], ◌∷◌, length, find, slice_get, Option, Some, None, is_some, option_and_then}
-use Rattle.std.specs.Option.{option_map_or, option_or}
-use Rattle.std.specs.List.{AllByRecursion, list_all, range_with_len}
-use Rattle.srp_base.specs.declared.numbers.EgressPort.{EgressPort}
-use Rattle.srp_base.specs.declared.numbers.StreamId.{StreamId}
-use Rattle.srp_base.specs.declared.streams.Failure.{Failure}
-use Rattle.srp_base.specs.declared.streams.Talker.{Talker}
-use Rattle.srp_base.specs.declared.streams.TalkerReg.{TalkerReg}
+use Rattle.std.specs.{Option.option_map_or, Option.option_or, List.AllByRecursion, List.list_all, List.range_with_len}
+use Rattle.srp_base.specs.declared.{numbers.EgressPort.EgressPort, numbers.StreamId.StreamId, streams.Failure.Failure, streams.Talker.Talker, streams.TalkerReg.TalkerReg, streams.ListenerKind.ListenerKind}
 use Rattle.srp_base.specs.declared.streams.TalkerReg.TheVariants.{Absent, Advertise, Failed}
-use Rattle.srp_base.specs.declared.streams.ListenerKind.{ListenerKind}
 use Rattle.srp_base.specs.declared.streams.ListenerKind.TheVariants.{AskingFailed, Ready, ReadyFailed}
 use Rattle.stream_importance.specs.Bandwidth.{cap_of}
-use Rattle.stream_importance.specs.declared.entry.Want.{Want}
-use Rattle.stream_importance.specs.declared.entry.Fit.{Fit}
-use Rattle.stream_importance.specs.declared.entry.Fit.TheVariants.{Fits, TooLittle}
-use Rattle.port_ledger.specs.Decision.{above, booked_of}
-use Rattle.port_ledger.specs.Book.{Book, tested_entry, code_of}
-use Rattle.tree_topology.specs.Topology.{HasNode, HasPort}
-use Rattle.tree_topology.specs.Ports.{LiesBehind, IsPortPath}
-use Rattle.tree_topology.specs.Walk.{path_between}
+use Rattle.stream_importance.specs.declared.{entry.Want.Want, entry.Fit.Fit, entry.Fit.TheVariants.Fits, entry.Fit.TheVariants.TooLittle}
+use Rattle.port_ledger.specs.{Decision.above, Decision.booked_of, Book.Book, Book.tested_entry, Book.code_of}
+use Rattle.tree_topology.specs.{Topology.HasNode, Topology.HasPort, Ports.LiesBehind, Ports.IsPortPath, Walk.path_between, Refusal.is_station}
 use Rattle.msrp_talker.specs.TalkerOut.{talker_in}
 use Rattle.msrp_codec.specs.declared.pdu.MsrpKey.TheVariants.{Talker as TalkerKey}
-use Rattle.msrp.specs.PortState.{PortState}
-use Rattle.msrp.specs.Part.{talker_reg_of}
-use Rattle.msrp.specs.Stream.{is_present, talk_of, want_of_talker}
+use Rattle.msrp.specs.{PortState.PortState, Part.talker_reg_of, Stream.is_present, Stream.talk_of, Stream.want_of_talker, Side.has_talk, Side.has_listen, Side.heard_of, Side.talker_of}
 use Rattle.attribute_propagation.specs.Ports.{place_of}
-use Rattle.msrp.specs.Side.{has_talk, has_listen, heard_of, talker_of}
 use Rattle.node_core.specs.State.{NodeState, content_at, booked_at, fit_of}
 use Rattle.world_core.specs.World.{WorldState, node_at}
 use Rattle.network_laws.specs.declared.streams.Refusal.{Refusal}
-use Rattle.tree_topology.specs.Refusal.{is_station}
 
 -- the node of this number
 abbrev pub node_of : ℕ → WorldState → Option NodeState

@@ -2,17 +2,11 @@
 -- 802.1Q-2018, 11.2). Either side by its own definition: one looks at the registrars, the other at the tree and at what
 -- the stations' applications declare.
 use Rattle.std.specs.Prelude.{◌≡◌, ◌↔◌, ℕ, Bool, true, false, ◌&&◌, length}
-use Rattle.std.specs.Option.{option_map_or}
-use Rattle.std.specs.List.{list_any, range_with_len}
+use Rattle.std.specs.{Option.option_map_or, List.list_any, List.range_with_len}
 use Rattle.srp_base.specs.declared.numbers.EgressPort.{EgressPort}
-use Rattle.tree_topology.specs.Topology.{HasNode, HasPort}
-use Rattle.tree_topology.specs.Refusal.{is_station}
-use Rattle.tree_topology.specs.Ports.{LiesBehind}
-use Rattle.tree_topology.specs.Walk.{is_behind}
-use Rattle.mvrp.specs.Part.{registers}
-use Rattle.mvrp.specs.Side.{has_own}
-use Rattle.world_core.specs.World.{WorldState, node_at, is_quiet, is_in_step}
-use Rattle.world_core.specs.Duty.{vlan_part}
+use Rattle.tree_topology.specs.{Topology.HasNode, Topology.HasPort, Refusal.is_station, Ports.LiesBehind, Walk.is_behind}
+use Rattle.mvrp.specs.{Part.registers, Side.has_own}
+use Rattle.world_core.specs.{World.WorldState, World.node_at, World.is_quiet, World.is_in_step, Duty.vlan_part}
 
 -- whether a VID is registered at a port: its registrar there is IN or LV
 abbrev pub is_registered : WorldState → ℕ → EgressPort → Bool

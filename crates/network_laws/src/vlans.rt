@@ -1,8 +1,7 @@
 //! Both sides of the law of VLANs, in any network.
 
 ghost use Rattle.std.specs.Prelude.{◌≡◌, ◌+◌, ◌&&◌, IfOk, IsOk};
-ghost use Rattle.tree_topology.specs.Topology.{HasNode, HasPort};
-ghost use Rattle.tree_topology.specs.Walk.{is_behind};
+ghost use Rattle.tree_topology.specs.{Topology.HasNode, Topology.HasPort, Walk.is_behind};
 ghost use Rattle.network_laws.specs.Vlans.{is_registered, is_declared_at, is_declared_behind, IsAtRest};
 
 use crate::laws::vlans_are_those_declared_behind;

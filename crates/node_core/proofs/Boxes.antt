@@ -1,38 +1,19 @@
 -- One box of a node changes: the others stay, and all are short.
-use Rattle.std.proofs.Common.{◌≡◌, sym, ℕ, zero, suc, ◌<◌, ◌++◌, List, [], ◌∷◌, length, map, refl, ap, subst, ◌∙◌, arith}
+use Rattle.std.proofs.Common.{◌≡◌, sym, ℕ, zero, suc, ◌<◌, List, [], ◌∷◌, length, map, refl, ap, subst, ◌∙◌, arith}
 use Rattle.std.specs.Prelude.{slice_set, slice_index_or}
 use Rattle.std.specs.List.{AllByRecursion, insert}
 use Rattle.mrp_participant.specs.Link.{with_repeat}
-use Rattle.node_core.specs.declared.types.Wire.{Wire}
-use Rattle.node_core.specs.Wires.{without, with_wire}
-use Rattle.node_core.specs.State.{box_at}
-
--- what stands at a place is set there twice, or is set to what it is
-pub set_set : {X : Type 0} (xs : List X) (i : ℕ) (x y : X) → slice_set (slice_set xs i x) i y ≡ slice_set xs i y
-set_set [] i x y = refl
-set_set (z ∷ xs) zero x y = refl
-set_set (z ∷ xs) (suc i) x y = ap (λ ys. z ∷ ys) (set_set xs i x y)
+use Rattle.node_core.specs.{Wire, without, with_wire, box_at}
 
 pub set_same : (boxes : List (List Wire)) (i : ℕ) → slice_set boxes i (box_at i boxes) ≡ boxes
 set_same [] i = refl
 set_same (b ∷ boxes) zero = refl
 set_same (b ∷ boxes) (suc i) = ap (λ bs. b ∷ bs) (set_same boxes i)
 
--- what holds of each element holds where one is set, and of each one that is read
-pub each_set : {X : Type 0} (P : X → Type 0) (xs : List X) (i : ℕ) (y : X) → P y → AllByRecursion P xs → AllByRecursion P (slice_set xs i y)
-each_set P [] i y h hs = tt
-each_set P (x ∷ xs) zero y h hs = (h, hs.1)
-each_set P (x ∷ xs) (suc i) y h hs = (hs.0, each_set P xs i y h hs.1)
-
 pub each_box : (P : Wire → Type 0) (boxes : List (List Wire)) (i : ℕ) → AllByRecursion (AllByRecursion P) boxes → AllByRecursion P (box_at i boxes)
 each_box P [] i hs = tt
 each_box P (b ∷ boxes) zero hs = hs.0
 each_box P (b ∷ boxes) (suc i) hs = each_box P boxes i hs.1
-
--- so it does of lists behind one another, of one without the PDU at a place, and of one with it twice
-pub each_append : {X : Type 0} (P : X → Type 0) (xs ys : List X) → AllByRecursion P xs → AllByRecursion P ys → AllByRecursion P (xs ++ ys)
-each_append P [] ys h k = k
-each_append P (x ∷ xs) ys h k = (h.0, each_append P xs ys h.1 k)
 
 pub each_without : (P : Wire → Type 0) (i : ℕ) (xs : List Wire) → AllByRecursion P xs → AllByRecursion P (without i xs)
 each_without P i [] h = nil i

@@ -1,53 +1,25 @@
 -- Each step of a node, and what happens to the PDUs that wait, keeps what every node keeps.
-use Rattle.std.proofs.Common.{◌≡◌, ℕ, zero, suc, ◌+◌, ◌≤◌, ◌^◌, Bool, true, false, if◌then◌else◌, List, [], ◌∷◌, ◌++◌, length, map, refl, sym, ap, subst, ◌∙◌, arith}
+use Rattle.std.proofs.Common.{◌≡◌, ℕ, ◌+◌, ◌≤◌, ◌^◌, Bool, true, false, if◌then◌else◌, List, [], ◌∷◌, ◌++◌, length, map, refl, sym, ap, subst, ◌∙◌, arith}
 use Rattle.std.specs.Prelude.{slice_get, Option, Some, None, Result, Ok, Err}
 use Rattle.std.proofs.lemmas.List.{length-map}
 use Rattle.std.proofs.Math.ListN.{length-set}
-use Rattle.std.specs.List.{AllByRecursion}
-use Rattle.std.specs.Option.{option_map_or}
-use Rattle.std.specs.Ordering.{nat_cmp}
-use Rattle.srp_base.specs.declared.numbers.Cs.{Cs}
-use Rattle.srp_base.specs.declared.mrp.App.{App}
-use Rattle.srp_base.specs.declared.mrp.App.TheVariants.{Mvrp, Msrp}
-use Rattle.srp_base.specs.declared.numbers.BridgeId.{BridgeId}
-use Rattle.srp_base.specs.declared.ports.PortSetup.{PortSetup}
+use Rattle.std.specs.{List.AllByRecursion, Option.option_map_or, Ordering.nat_cmp}
+use Rattle.srp_base.proofs.Lists.{each-get as at-place, each-set as each_set, each_append}
+use Rattle.srp_base.specs.declared.{numbers.Cs.Cs, mrp.App.App, mrp.App.TheVariants.Mvrp, mrp.App.TheVariants.Msrp, numbers.BridgeId.BridgeId, ports.PortSetup.PortSetup}
 use Rattle.msrp_talker.specs.declared.port_config.PortConfig.{PortConfig}
-use Rattle.tree_topology.specs.declared.graph.NodeKind.{NodeKind}
-use Rattle.tree_topology.specs.declared.graph.NodeKind.TheVariants.{Station, Bridge}
+use Rattle.tree_topology.specs.declared.{graph.NodeKind.NodeKind, graph.NodeKind.TheVariants.Station, graph.NodeKind.TheVariants.Bridge}
 use Rattle.mvrp_codec.specs.declared.pdu.MvrpPdu.{MvrpPdu}
-use Rattle.mvrp_codec.specs.Meaning.{mvrp_reading}
-use Rattle.mvrp_codec.specs.Writing.{AreVids, mvrp_spelling}
-use Rattle.msrp_codec.specs.declared.pdu.MsrpKey.{MsrpKey}
-use Rattle.msrp_codec.specs.declared.pdu.MsrpPdu.{MsrpPdu}
-use Rattle.msrp_codec.specs.Content.{Belongs}
-use Rattle.msrp_codec.specs.Meaning.{msrp_reading}
-use Rattle.msrp_codec.specs.Writing.{AreInRange, as_written, msrp_spelling}
+use Rattle.mvrp_codec.specs.{Meaning.mvrp_reading, Writing.AreVids, Writing.mvrp_spelling}
+use Rattle.msrp_codec.specs.declared.{pdu.MsrpKey.MsrpKey, pdu.MsrpPdu.MsrpPdu}
+use Rattle.msrp_codec.specs.{Content.Belongs, Meaning.msrp_reading, Writing.AreInRange, Writing.as_written, Writing.msrp_spelling}
 use Rattle.mrp_participant.specs.State.{AreRows, is_silent, new_state}
-use Rattle.mvrp.specs.Part.{Part, pdu_sent}
+use Rattle.mvrp.specs.{Part.Part, Part.pdu_sent, Side.Vlans, Side.IsWritten, Side.new_vlans, Side.received_vlans, Side.due_vlans, Side.left_vlans, Side.leave_all_vlans, Side.periodic_vlans, Side.spoilt_vlans, Side.settled_vlans, Side.sent_vlans, Side.requested_vlans, Vids.IsVid, Vids.HasVidRows, Vids.IsProper}
 use Rattle.attribute_propagation.specs.Ports.{place_of}
-use Rattle.mvrp.specs.Side.{Vlans, IsWritten, new_vlans, received_vlans, due_vlans, left_vlans, leave_all_vlans, periodic_vlans, spoilt_vlans, settled_vlans, sent_vlans, requested_vlans}
-use Rattle.mvrp.specs.Vids.{IsVid, HasVidRows, IsProper}
-use Rattle.msrp.specs.PortState.{PortState}
-use Rattle.msrp.specs.declared.asking.SrpRequest.{SrpRequest}
+use Rattle.msrp.specs.{PortState.PortState, Part.Part as SrpPart, Part.HasOwnContents, Part.key_cmp, Part.pdu_sent as srp_pdu_sent, Side.Streams, Side.IsPort, Side.IsWritten as IsSrpWritten, Side.new_port, Side.new_streams, Side.received_streams, Side.due_streams, Side.left_streams, Side.leave_all_streams, Side.periodic_streams, Side.spoilt_streams, Side.settled_streams, Side.sent_streams, Side.requested_streams, Side.clocked_streams, Proper.HasRanges, Proper.IsProper as IsProperSrp, Proper.IsRequestInRange, Proper.Setup, Proper.setup_of, Proper.setups_of}
+use Rattle.msrp.specs.declared.{asking.SrpRequest.SrpRequest, domain.DomainSet.DomainSet}
 use Rattle.msrp.specs.declared.asking.SrpRequest.TheVariants as asks
-use Rattle.msrp.specs.Part.{Part as SrpPart, HasOwnContents, key_cmp, pdu_sent as srp_pdu_sent}
-use Rattle.msrp.specs.declared.domain.DomainSet.{DomainSet}
-use Rattle.msrp.specs.Side.{Streams, IsPort, IsWritten as IsSrpWritten, new_port, new_streams, received_streams, due_streams, left_streams, leave_all_streams, periodic_streams, spoilt_streams, settled_streams, sent_streams, requested_streams, clocked_streams}
-use Rattle.msrp.specs.Proper.{HasRanges, IsProper as IsProperSrp, IsRequestInRange, Setup, setup_of, setups_of}
-use Rattle.node_core.specs.declared.types.Wire.{Wire}
-use Rattle.node_core.specs.declared.types.AppRequest.TheVariants.{Declare, Withdraw, Talk, Hush, Listen, Unlisten}
-use Rattle.node_core.specs.declared.types.NodeKey.TheVariants.{Vlan, Srp}
-use Rattle.node_core.specs.declared.types.PortStep.{PortStep}
-use Rattle.node_core.specs.declared.types.PortStep.TheVariants.{Work, LeaveNow, LeaveAllNow, PeriodicNow, Due, Settle, Send}
-use Rattle.node_core.specs.declared.types.NodeEvent.{NodeEvent}
-use Rattle.node_core.specs.declared.types.NodeEvent.TheVariants.{Request, Port, Clock}
-use Rattle.node_core.specs.Wires.{IsShort, AreShort, without, with_wire}
-use Rattle.node_core.specs.State.{NodeState, box_at, new_node}
-use Rattle.node_core.specs.Step.{CanStep, node_step, port_step, after_work, worked_app, worked_mvrp, worked_msrp, sent_octets, said_mvrp, said_msrp, with_said, after_app}
-use Rattle.node_core.specs.Links.{with_outbox, with_inbox, with_carried, lost_at, repeated_at, forged_at, spoilt_at}
-use Rattle.node_core.specs.Proper.{IsProperNode, IsProperWire, AreProperWires, IsInRange}
-use Rattle.node_core.proofs.Stays.{StaysVlans, StaysStreams, vlans_received, vlans_due, vlans_left, vlans_leave_all, vlans_periodic, vlans_sent, vlans_spoilt, vlans_settled, count_requested, streams_received, streams_due, streams_left, streams_leave_all, streams_periodic, streams_sent, streams_spoilt, streams_settled, moment_requested}
-use Rattle.node_core.proofs.Boxes.{each_set, each_box, each_append, each_without, each_repeated, each_with, each_new}
+use Rattle.node_core.specs.{Wire, Declare, Withdraw, Talk, Hush, Listen, Unlisten, Vlan, Srp, PortStep, Work, LeaveNow, LeaveAllNow, PeriodicNow, Due, Settle, Send, NodeEvent, Request, Port, Clock, IsShort, AreShort, without, with_wire, NodeState, box_at, new_node, CanStep, node_step, port_step, after_work, worked_app, worked_mvrp, worked_msrp, sent_octets, said_mvrp, said_msrp, with_said, after_app, with_outbox, with_inbox, with_carried, lost_at, repeated_at, forged_at, spoilt_at, IsProperNode, IsProperWire, AreProperWires, IsInRange}
+use Rattle.node_core.proofs.{Stays.StaysVlans, Stays.StaysStreams, Stays.vlans_received, Stays.vlans_due, Stays.vlans_left, Stays.vlans_leave_all, Stays.vlans_periodic, Stays.vlans_sent, Stays.vlans_spoilt, Stays.vlans_settled, Stays.count_requested, Stays.streams_received, Stays.streams_due, Stays.streams_left, Stays.streams_leave_all, Stays.streams_periodic, Stays.streams_sent, Stays.streams_spoilt, Stays.streams_settled, Stays.moment_requested, Boxes.each_box, Boxes.each_without, Boxes.each_repeated, Boxes.each_with, Boxes.each_new}
 
 -- the laws of MVRP at a node, as its public laws say them
 pub record SideLaws : Type 0 where
@@ -257,12 +229,6 @@ proper-new kind bridge leave_time periodic domain ports side streams few =
       readable_out = each_new IsProperWire ports;
       idle = λ k. record { own = refl; talks = refl; listens = refl };
     }
-
--- what holds of each holds of the one at a place
-at-place : {X : Type 0} (P : X → Type 0) (xs : List X) (i : ℕ) (x : X) → AllByRecursion P xs → slice_get xs i ≡ Some x → P x
-at-place P [] i x hs at = cc
-at-place P (y ∷ xs) zero x hs at = let same : y ≡ x = cc in subst P same hs.0
-at-place P (y ∷ xs) (suc i) x hs at = at-place P xs i x hs.1 at
 
 -- octets that are said are short, and say nothing that doesn't fit
 record IsFitToSend (app : App) (octets : List ℕ) : Type 0 where

@@ -3,8 +3,7 @@ use Rattle.std.proofs.Common.{◌≡◌, ◌<◌, ◌+◌, append_assoc, ℕ, ze
 use Rattle.std.specs.Prelude.{Option, Some, None, slice_get, filter_map, option_and_then, option_to_list}
 use Rattle.std.specs.List.{cons_option}
 use Rattle.mrp_participant.specs.declared.row.Row.{Row}
-use Rattle.node_core.specs.declared.types.NodeKey.{NodeKey}
-use Rattle.node_core.specs.State.{registered_key}
+use Rattle.node_core.specs.{NodeKey, registered_key}
 
 in_front : (o : Option NodeKey) (keys : List NodeKey) → cons_option o keys ≡ option_to_list o ++ keys
 in_front None keys = refl

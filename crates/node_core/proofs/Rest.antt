@@ -3,26 +3,22 @@ use Rattle.std.proofs.Common.{◌≡◌, ℕ, ◌+◌, ◌<◌, ◌≤◌, Bool,
 use Rattle.std.specs.Prelude.{not, nat_le, nat_lt, ◌==◌, ◌||◌}
 use Rattle.std.specs.List.{AllByRecursion, list_any}
 use Rattle.std.proofs.lemmas.Bool.{false≢true, and_cases, and_from, and_left, and_parts, and_right, lt-leb, ne_eqb, not_from_false, or_from, or_parts, cases_lt, le-leb}
+use Rattle.srp_base.proofs.Bools.{held_from as not-true}
 use Rattle.srp_base.specs.declared.numbers.Cs.{Cs}
 use Rattle.leaveall.specs.declared.Periodic.{Periodic}
 use Rattle.leaveall.specs.Table.{is_due}
 use Rattle.mrp_participant.specs.declared.row.Row.{Row}
 use Rattle.registrar.specs.Table.{is_leaving}
-use Rattle.mrp_participant.specs.Row.{leave_is_due}
-use Rattle.mrp_participant.specs.State.{State, is_any_due, is_leave_all_due, is_periodic_due}
+use Rattle.mrp_participant.specs.{Row.leave_is_due, State.State, State.is_any_due, State.is_leave_all_due, State.is_periodic_due}
 use Rattle.stream_importance.specs.declared.entry.Entry.{Entry}
 use Rattle.stream_importance.specs.Importance.{moment_or}
 use Rattle.port_ledger.specs.Book.{clocked_book, has_new_booking, is_since}
 use Rattle.msrp_codec.specs.declared.pdu.MsrpKey.{MsrpKey}
-use Rattle.msrp.specs.PortState.{PortState}
-use Rattle.msrp.specs.Settling.{talker_keys}
-use Rattle.msrp.specs.Side.{Streams, IsPort, clocked_port, clocked_sets, shows_at, is_busy as streams_are_busy}
+use Rattle.msrp.specs.{PortState.PortState, Settling.talker_keys, Side.Streams, Side.IsPort, Side.clocked_port, Side.clocked_sets, Side.shows_at, Side.is_busy as streams_are_busy}
 use Rattle.msrp.proofs.Clocked.{none_shown}
 use Rattle.flat_side.specs.Side.{is_busy as vlans_are_busy}
 use Rattle.mvrp.specs.Side.{Vlans}
-use Rattle.node_core.specs.Links.{IsKeptNode}
-use Rattle.node_core.specs.State.{NodeState, are_empty, is_at_rest, is_busy_at, is_busy_node}
-use Rattle.node_core.specs.Step.{clocked_node}
+use Rattle.node_core.specs.{IsKeptNode, NodeState, are_empty, is_at_rest, is_busy_at, is_busy_node, clocked_node}
 
 -- ---- sooner
 
@@ -84,10 +80,6 @@ pub record HasRest (until : Cs) (s : NodeState) : Type 0 where
   pub vlans : vlans_are_busy until s.vlans ≡ false
   pub streams : streams_are_busy until s.streams ≡ false
   pub shows : list_any (shows_at (s.clock.0 + 1)) s.streams.ports ≡ false
-
-not-true : (b : Bool) → not b ≡ true → b ≡ false
-not-true true h = sym h
-not-true false h = refl
 
 rest-parts : (until : Cs) (s : NodeState) → is_at_rest until s ≡ true → HasRest until s
 rest-parts until s h =

@@ -1,18 +1,11 @@
 -- What was put into an outbox makes the step Send of the node.
 use Rattle.std.proofs.Common.{◌≡◌, ℕ, List, sym, ap, refl, ◌∙◌}
 use Rattle.std.specs.Prelude.{slice_set, length, Option, Some, None, Result, Ok, Err, IfOk, OnErr}
-use Rattle.srp_base.specs.declared.mrp.App.{App}
-use Rattle.srp_base.specs.declared.mrp.App.TheVariants.{Mvrp, Msrp}
+use Rattle.srp_base.specs.declared.{mrp.App.App, mrp.App.TheVariants.Mvrp, mrp.App.TheVariants.Msrp, memory.NoMemory.NoMemory}
 use Rattle.attribute_propagation.specs.Ports.{count_of}
 use Rattle.mvrp.specs.Side.{Vlans, sent_vlans}
 use Rattle.msrp.specs.Side.{Streams, sent_streams}
-use Rattle.node_core.specs.declared.types.Wire.{Wire}
-use Rattle.node_core.specs.declared.types.StepReply.{StepReply}
-use Rattle.node_core.specs.declared.types.StepReply.TheVariants.{Silent, Sent}
-use Rattle.node_core.specs.State.{NodeState, box_at}
-use Rattle.srp_base.specs.declared.memory.NoMemory.{NoMemory}
-use Rattle.node_core.specs.Calls.{outcome_of_saying, HasOneSaid}
-use Rattle.node_core.specs.Step.{after_send, sent_octets, said_mvrp, said_msrp, with_octets, with_said, after_app}
+use Rattle.node_core.specs.{Wire, StepReply, Silent, Sent, NodeState, box_at, outcome_of_saying, HasOneSaid, after_send, sent_octets, said_mvrp, said_msrp, with_octets, with_said, after_app}
 use Rattle.node_core.proofs.Boxes.{set_same}
 
 -- the node that has these VLANs and streams and, at a place, this outbox

@@ -7,16 +7,12 @@ use Rattle.std.specs.Ordering.{nat_cmp}
 use Rattle.srp_base.specs.declared.numbers.Cs.{Cs}
 use Rattle.mvrp_codec.specs.declared.pdu.MvrpPdu.{MvrpPdu}
 use Rattle.mrp_participant.specs.State.{due_state, left_state, leave_all_state, periodic_state}
-use Rattle.mvrp.specs.Part.{Part, received_part, sent_part, settled_part}
+use Rattle.mvrp.specs.{Part.Part, Part.received_part, Part.sent_part, Part.settled_part, Side.Vlans, Side.has_own, Side.is_flat, Side.received_vlans, Side.due_vlans, Side.left_vlans, Side.leave_all_vlans, Side.periodic_vlans, Side.sent_vlans, Side.spoilt_vlans, Side.settled_vlans, Side.requested_vlans}
 use Rattle.flat_side.specs.Side.{with_part, awaiting_at}
-use Rattle.mvrp.specs.Side.{Vlans, has_own, is_flat, received_vlans, due_vlans, left_vlans, leave_all_vlans, periodic_vlans, sent_vlans, spoilt_vlans, settled_vlans, requested_vlans}
-use Rattle.msrp_codec.specs.declared.pdu.MsrpKey.{MsrpKey}
-use Rattle.msrp_codec.specs.declared.pdu.MsrpPdu.{MsrpPdu}
+use Rattle.msrp_codec.specs.declared.{pdu.MsrpKey.MsrpKey, pdu.MsrpPdu.MsrpPdu}
 use Rattle.msrp.specs.declared.asking.SrpRequest.{SrpRequest}
 use Rattle.msrp.specs.declared.asking.SrpRequest.TheVariants.{Talk, Hush, Listen, Unlisten}
-use Rattle.msrp.specs.PortState.{PortState}
-use Rattle.msrp.specs.Stream.{talk_of}
-use Rattle.msrp.specs.Side.{Streams, with_port, is_talk, has_talk, has_listen, received_streams, due_streams, left_streams, leave_all_streams, periodic_streams, sent_streams, spoilt_streams, settled_streams, requested_streams}
+use Rattle.msrp.specs.{PortState.PortState, Stream.talk_of, Side.Streams, Side.with_port, Side.is_talk, Side.has_talk, Side.has_listen, Side.received_streams, Side.due_streams, Side.left_streams, Side.leave_all_streams, Side.periodic_streams, Side.sent_streams, Side.spoilt_streams, Side.settled_streams, Side.requested_streams}
 
 -- ---- MVRP
 

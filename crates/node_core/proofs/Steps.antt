@@ -1,34 +1,15 @@
 -- A call that makes what a step makes of a node, or nothing, keeps what every node keeps.
 use Rattle.std.proofs.Common.{◌≡◌, ◌<◌, ◌≤◌, ◌+◌, ◌^◌, ℕ, Bool, true, false, nat_lt, nat_le, List, [], ◌∷◌, length, sym, ap, subst, ◌∙◌, arith, rules}
 use Rattle.std.specs.Prelude.{Result, Ok, Err, IfOk, OnOk, OnErr, slice_index_or, slice_set}
-use Rattle.srp_base.specs.declared.memory.NoMemory.{NoMemory}
-use Rattle.srp_base.specs.declared.mrp.App.{App}
-use Rattle.srp_base.specs.declared.mrp.App.TheVariants.{Mvrp, Msrp}
-use Rattle.srp_base.specs.declared.numbers.PortNo.{PortNo}
+use Rattle.srp_base.specs.declared.{memory.NoMemory.NoMemory, mrp.App.App, mrp.App.TheVariants.Mvrp, mrp.App.TheVariants.Msrp, numbers.PortNo.PortNo}
 use Rattle.attribute_propagation.specs.Ports.{IsLinkPort, place_of}
 use Rattle.tree_topology.specs.declared.graph.NodeKind.TheVariants.{Station}
-use Rattle.mvrp.specs.Side.{Vlans, due_vlans, leave_all_vlans, periodic_vlans, settled_vlans, spoilt_vlans, requested_vlans}
-use Rattle.mvrp.specs.Vids.{IsVid}
+use Rattle.mvrp.specs.{Side.Vlans, Side.due_vlans, Side.leave_all_vlans, Side.periodic_vlans, Side.settled_vlans, Side.spoilt_vlans, Side.requested_vlans, Vids.IsVid}
 use Rattle.msrp_codec.specs.declared.pdu.MsrpKey.{MsrpKey}
 use Rattle.msrp.specs.declared.asking.SrpRequest.{SrpRequest}
 use Rattle.msrp.specs.declared.asking.SrpRequest.TheVariants as asks
-use Rattle.msrp.specs.Proper.{IsRequestInRange}
-use Rattle.msrp.specs.Side.{Streams, clocked_streams, due_streams, leave_all_streams, periodic_streams, settled_streams, spoilt_streams, requested_streams}
-use Rattle.node_core.specs.declared.types.Wire.{Wire}
-use Rattle.node_core.specs.declared.types.AppRequest.TheVariants.{Declare, Withdraw, Talk, Hush, Listen, Unlisten}
-use Rattle.node_core.specs.declared.types.NodeKey.TheVariants.{Vlan, Srp}
-use Rattle.node_core.specs.declared.types.PortStep.TheVariants.{LeaveNow, LeaveAllNow, PeriodicNow, Due, Settle}
-use Rattle.node_core.specs.Calls.{HasOneTaken}
-use Rattle.node_core.specs.Links.{spoilt_at}
-use Rattle.node_core.specs.Wires.{without}
-use Rattle.node_core.specs.declared.types.NodeEvent.{NodeEvent}
-use Rattle.node_core.specs.declared.types.NodeEvent.TheVariants.{Request, Port, Clock}
-use Rattle.node_core.specs.declared.types.PortStep.{PortStep}
-use Rattle.node_core.specs.declared.types.StepReply.{StepReply}
-use Rattle.node_core.specs.State.{NodeState, ports_of, box_at}
-use Rattle.node_core.specs.Holding.{NodeHolding}
-use Rattle.node_core.specs.Step.{CanStep, Stepped, node_step, port_step, after_work, worked_app, left_vid_now, left_key_now}
-use Rattle.node_core.specs.Proper.{IsInRange, IsProperNode}
+use Rattle.msrp.specs.{Proper.IsRequestInRange, Side.Streams, Side.clocked_streams, Side.due_streams, Side.leave_all_streams, Side.periodic_streams, Side.settled_streams, Side.spoilt_streams, Side.requested_streams}
+use Rattle.node_core.specs.{Wire, Declare, Withdraw, Talk, Hush, Listen, Unlisten, Vlan, Srp, LeaveNow, LeaveAllNow, PeriodicNow, Due, Settle, HasOneTaken, spoilt_at, without, NodeEvent, Request, Port, Clock, PortStep, StepReply, NodeState, ports_of, box_at, NodeHolding, CanStep, Stepped, node_step, port_step, after_work, worked_app, left_vid_now, left_key_now, IsInRange, IsProperNode}
 
 -- nodes that are the same have the same state
 pub state_of : {a b : NodeHolding} → a ≡ b → a.state ≡ b.state

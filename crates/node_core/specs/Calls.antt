@@ -1,17 +1,12 @@
 -- What calls at one application, or at one of both, make of it: words of this crate's own calls.
 use Rattle.std.specs.Prelude.{◌≡◌, ℕ, List, length, Option, Some, None, Result, Ok, Err}
-use Rattle.srp_base.specs.declared.numbers.Cs.{Cs}
-use Rattle.srp_base.specs.declared.mrp.App.{App}
-use Rattle.srp_base.specs.declared.mrp.App.TheVariants.{Mvrp, Msrp}
-use Rattle.srp_base.specs.declared.memory.NoMemory.{NoMemory}
+use Rattle.srp_base.specs.declared.{numbers.Cs.Cs, mrp.App.App, mrp.App.TheVariants.Mvrp, mrp.App.TheVariants.Msrp, memory.NoMemory.NoMemory}
 use Rattle.mvrp_codec.specs.Meaning.{mvrp_reading}
 use Rattle.msrp_codec.specs.Meaning.{msrp_reading}
 use Rattle.attribute_propagation.specs.Ports.{count_of}
 use Rattle.mvrp.specs.Side.{Vlans, sent_vlans}
 use Rattle.msrp.specs.Side.{Streams, sent_streams}
-use Rattle.node_core.specs.declared.types.Wire.{Wire}
-use Rattle.node_core.specs.declared.types.StepReply.{StepReply}
-use Rattle.node_core.specs.declared.types.StepReply.TheVariants.{Silent, Sent}
+use Rattle.node_core.specs.declared.{types.Wire.Wire, types.StepReply.StepReply, types.StepReply.TheVariants.Silent, types.StepReply.TheVariants.Sent}
 use Rattle.node_core.specs.Step.{worked_mvrp, worked_msrp, said_mvrp, said_msrp, with_octets}
 
 -- one of both applications has taken a PDU, and the other one is as it was

@@ -2,8 +2,7 @@
 -- states alone.
 use Rattle.std.specs.Prelude.{ℕ, Bool, not, ◌||◌, List, map}
 use Rattle.std.specs.List.{list_any}
-use Rattle.msrp.specs.Holding.{SideHolding}
-use Rattle.msrp.specs.Side.{shows_at}
+use Rattle.msrp.specs.{Holding.SideHolding, Side.shows_at}
 use Rattle.node_core.specs.State.{NodeState}
 
 -- the state of a node, and whether it is ready for the clock: then a clock takes no memory

@@ -1,14 +1,12 @@
 -- What happens to the PDUs that wait at a node's link ports, and what every node keeps.
 use Rattle.std.specs.Prelude.{◌≡◌, ◌≤◌, ◌^◌, ℕ, Bool, nat_le, nat_lt, List, ◌++◌, length, slice_set}
 use Rattle.std.specs.List.{AllByRecursion}
-use Rattle.srp_base.specs.declared.mrp.App.{App}
-use Rattle.srp_base.specs.declared.mrp.App.TheVariants.{Mvrp, Msrp}
+use Rattle.srp_base.specs.declared.{mrp.App.App, mrp.App.TheVariants.Mvrp, mrp.App.TheVariants.Msrp}
 use Rattle.mrp_participant.specs.Link.{with_repeat}
 use Rattle.mvrp.specs.Side.{IsKept, spoilt_vlans}
 use Rattle.msrp.specs.Side.{IsKept as IsKeptStreams, spoilt_streams}
 use Rattle.node_core.specs.declared.types.Wire.{Wire}
-use Rattle.node_core.specs.Wires.{AreShort, without, with_wire}
-use Rattle.node_core.specs.State.{NodeState, box_at}
+use Rattle.node_core.specs.{Wires.AreShort, Wires.without, Wires.with_wire, State.NodeState, State.box_at}
 
 -- these PDUs wait in the outbox at a place
 abbrev pub with_outbox : ℕ → List Wire → NodeState → NodeState

@@ -2,23 +2,16 @@
 -- asks for nothing of its own; and the steps that name none but such.
 use Rattle.std.specs.Prelude.{◌≡◌, ℕ, List, [], Ok}
 use Rattle.std.specs.List.{AllByRecursion}
-use Rattle.srp_base.specs.declared.mrp.App.{App}
-use Rattle.srp_base.specs.declared.mrp.App.TheVariants.{Mvrp, Msrp}
+use Rattle.srp_base.specs.declared.{mrp.App.App, mrp.App.TheVariants.Mvrp, mrp.App.TheVariants.Msrp}
 use Rattle.msrp_codec.specs.declared.pdu.MsrpPdu.{MsrpPdu}
-use Rattle.msrp_codec.specs.FirstValue.{IsTalker}
-use Rattle.msrp_codec.specs.Meaning.{msrp_reading}
-use Rattle.msrp_codec.specs.Writing.{AreInRange}
+use Rattle.msrp_codec.specs.{FirstValue.IsTalker, Meaning.msrp_reading, Writing.AreInRange}
 use Rattle.mvrp.specs.Vids.{IsVid, AreOfVids}
-use Rattle.msrp.specs.PortState.{PortState}
-use Rattle.msrp.specs.Proper.{AreOfRange, Setup, setups_of}
+use Rattle.msrp.specs.{PortState.PortState, Proper.AreOfRange, Proper.Setup, Proper.setups_of}
 use Rattle.tree_topology.specs.declared.graph.NodeKind.TheVariants.{Bridge}
-use Rattle.node_core.specs.declared.types.Wire.{Wire}
-use Rattle.node_core.specs.declared.types.AppRequest.{AppRequest}
+use Rattle.node_core.specs.declared.{types.Wire.Wire, types.AppRequest.AppRequest, types.NodeEvent.NodeEvent}
 use Rattle.node_core.specs.declared.types.AppRequest.TheVariants.{Declare, Withdraw, Talk, Hush, Listen, Unlisten}
-use Rattle.node_core.specs.declared.types.NodeEvent.{NodeEvent}
 use Rattle.node_core.specs.declared.types.NodeEvent.TheVariants.{Request, Port, Clock}
-use Rattle.node_core.specs.State.{NodeState}
-use Rattle.node_core.specs.Links.{IsKeptNode}
+use Rattle.node_core.specs.{State.NodeState, Links.IsKeptNode}
 
 -- the octets of a PDU of an application say nothing that doesn't fit: those of MSRP, where they read, read as events
 -- that fit in their fields

@@ -1,41 +1,20 @@
 -- A node as contracts see it, and what its readers say of it.
 use Rattle.std.specs.Prelude.{ℕ, ◌+◌, ◌==◌, ◌%◌, Bool, false, not, ◌&&◌, ◌||◌, if◌then◌else◌, List, [], ◌∷◌, ◌++◌, length, map, Option, Some, None, option_and_then, slice_get}
-use Rattle.std.specs.Option.{option_map_or}
-use Rattle.std.specs.List.{list_all, list_any, filter_map}
-use Rattle.std.specs.Ordering.{nat_cmp}
-use Rattle.srp_base.specs.declared.numbers.Cs.{Cs}
-use Rattle.srp_base.specs.declared.numbers.BridgeId.{BridgeId}
-use Rattle.srp_base.specs.declared.numbers.StreamId.{StreamId}
-use Rattle.srp_base.specs.declared.bandwidth.Class.{Class}
-use Rattle.srp_base.specs.declared.ports.PortSetup.{PortSetup}
-use Rattle.srp_base.specs.declared.mrp.App.{App}
-use Rattle.srp_base.specs.declared.mrp.App.TheVariants.{Mvrp, Msrp}
+use Rattle.std.specs.{Option.option_map_or, List.list_all, List.list_any, List.filter_map, Ordering.nat_cmp}
+use Rattle.srp_base.specs.declared.{numbers.Cs.Cs, numbers.BridgeId.BridgeId, numbers.StreamId.StreamId, bandwidth.Class.Class, ports.PortSetup.PortSetup, mrp.App.App, mrp.App.TheVariants.Mvrp, mrp.App.TheVariants.Msrp}
 use Rattle.tree_topology.specs.declared.graph.NodeKind.{NodeKind}
-use Rattle.registrar.specs.declared.Registrar.{Registrar}
-use Rattle.registrar.specs.declared.Registrar.TheVariants.{Empty}
+use Rattle.registrar.specs.declared.{Registrar.Registrar, Registrar.TheVariants.Empty}
 use Rattle.registrar.specs.Table.{is_registered_in}
 use Rattle.mrp_participant.specs.declared.row.Row.{Row}
-use Rattle.mrp_participant.specs.Lookup.{find}
-use Rattle.mrp_participant.specs.Row.{registrar_of}
-use Rattle.mrp_participant.specs.State.{State, registered_at}
-use Rattle.stream_importance.specs.declared.entry.Entry.{Entry}
-use Rattle.stream_importance.specs.declared.entry.Fit.{Fit}
-use Rattle.port_ledger.specs.Decision.{is_booked, booked_of}
-use Rattle.port_ledger.specs.Book.{entry_of, booked_slope}
-use Rattle.msrp_codec.specs.declared.pdu.MsrpKey.{MsrpKey}
-use Rattle.msrp_codec.specs.declared.pdu.MsrpContent.{MsrpContent}
-use Rattle.mvrp.specs.Part.{Part}
+use Rattle.mrp_participant.specs.{Lookup.find, Row.registrar_of, State.State, State.registered_at}
+use Rattle.stream_importance.specs.declared.{entry.Entry.Entry, entry.Fit.Fit}
+use Rattle.port_ledger.specs.{Decision.is_booked, Decision.booked_of, Book.entry_of, Book.booked_slope}
+use Rattle.msrp_codec.specs.declared.{pdu.MsrpKey.MsrpKey, pdu.MsrpContent.MsrpContent}
+use Rattle.mvrp.specs.{Part.Part, Side.Vlans, Side.new_vlans}
 use Rattle.flat_side.specs.Side.{are_still, is_busy as vlans_are_busy}
-use Rattle.mvrp.specs.Side.{Vlans, new_vlans}
 use Rattle.msrp.specs.declared.domain.DomainSet.{DomainSet}
-use Rattle.msrp.specs.PortState.{PortState}
-use Rattle.msrp.specs.Part.{key_cmp}
-use Rattle.msrp.specs.Stream.{fit_at, talkers_of}
-use Rattle.msrp.specs.Side.{Streams, are_still as streams_are_still, is_busy as streams_are_busy, new_streams, shows_at}
-use Rattle.node_core.specs.declared.types.Wire.{Wire}
-use Rattle.node_core.specs.declared.types.NodeKey.{NodeKey}
-use Rattle.node_core.specs.declared.types.NodeKey.TheVariants.{Vlan, Srp}
-use Rattle.node_core.specs.declared.types.PortStep.{PortStep}
+use Rattle.msrp.specs.{PortState.PortState, Part.key_cmp, Stream.fit_at, Stream.talkers_of, Side.Streams, Side.are_still as streams_are_still, Side.is_busy as streams_are_busy, Side.new_streams, Side.shows_at}
+use Rattle.node_core.specs.declared.{types.Wire.Wire, types.NodeKey.NodeKey, types.NodeKey.TheVariants.Vlan, types.NodeKey.TheVariants.Srp, types.PortStep.PortStep}
 use Rattle.node_core.specs.declared.types.PortStep.TheVariants.{Work, Due, Settle, Send}
 
 -- what a node is, its clock, what each application keeps, and the PDUs that wait at each link port: those that

@@ -1,36 +1,21 @@
 -- One step of a node: the node afterwards, and what it answers.
 use Rattle.std.specs.Prelude.{◌≡◌, ◌<◌, ◌^◌, ℕ, ◌+◌, Bool, true, false, if◌then◌else◌, List, [], ◌∷◌, ◌++◌, length, Option, Some, None, slice_set, Result, Ok, Err}
 use Rattle.std.specs.Ordering.{nat_cmp}
-use Rattle.srp_base.specs.declared.numbers.Cs.{Cs}
-use Rattle.srp_base.specs.declared.mrp.App.{App}
-use Rattle.srp_base.specs.declared.mrp.App.TheVariants.{Mvrp, Msrp}
+use Rattle.srp_base.specs.declared.{numbers.Cs.Cs, mrp.App.App, mrp.App.TheVariants.Mvrp, mrp.App.TheVariants.Msrp}
 use Rattle.mvrp_codec.specs.declared.pdu.MvrpPdu.{MvrpPdu}
-use Rattle.mvrp_codec.specs.Meaning.{mvrp_reading}
-use Rattle.mvrp_codec.specs.Writing.{mvrp_spelling}
-use Rattle.msrp_codec.specs.declared.pdu.MsrpKey.{MsrpKey}
-use Rattle.msrp_codec.specs.declared.pdu.MsrpPdu.{MsrpPdu}
-use Rattle.msrp_codec.specs.Meaning.{msrp_reading}
-use Rattle.msrp_codec.specs.Writing.{msrp_spelling}
-use Rattle.mrp_participant.specs.Lookup.{find}
-use Rattle.mrp_participant.specs.Row.{is_leaving_in}
-use Rattle.mrp_participant.specs.State.{is_silent, due_count}
-use Rattle.mvrp.specs.Part.{pdu_sent}
+use Rattle.mvrp_codec.specs.{Meaning.mvrp_reading, Writing.mvrp_spelling}
+use Rattle.msrp_codec.specs.declared.{pdu.MsrpKey.MsrpKey, pdu.MsrpPdu.MsrpPdu}
+use Rattle.msrp_codec.specs.{Meaning.msrp_reading, Writing.msrp_spelling}
+use Rattle.mrp_participant.specs.{Lookup.find, Row.is_leaving_in, State.is_silent, State.due_count}
+use Rattle.mvrp.specs.{Part.pdu_sent, Side.Vlans, Side.received_vlans, Side.due_vlans, Side.left_vlans, Side.leave_all_vlans, Side.periodic_vlans, Side.settled_vlans, Side.sent_vlans, Side.requested_vlans}
 use Rattle.attribute_propagation.specs.Ports.{IsLinkPort, place_of, count_of}
 use Rattle.flat_side.specs.Side.{awaiting_at}
-use Rattle.mvrp.specs.Side.{Vlans, received_vlans, due_vlans, left_vlans, leave_all_vlans, periodic_vlans, settled_vlans, sent_vlans, requested_vlans}
 use Rattle.msrp.specs.declared.asking.SrpRequest.TheVariants as asks
-use Rattle.msrp.specs.Part.{key_cmp, pdu_sent as srp_pdu_sent}
-use Rattle.msrp.specs.Side.{Streams, awaiting_at as keys_awaiting_at, received_streams, due_streams, left_streams, leave_all_streams, periodic_streams, settled_streams, sent_streams, requested_streams, clocked_streams}
-use Rattle.node_core.specs.declared.types.Wire.{Wire}
-use Rattle.node_core.specs.declared.types.AppRequest.{AppRequest}
+use Rattle.msrp.specs.{Part.key_cmp, Part.pdu_sent as srp_pdu_sent, Side.Streams, Side.awaiting_at as keys_awaiting_at, Side.received_streams, Side.due_streams, Side.left_streams, Side.leave_all_streams, Side.periodic_streams, Side.settled_streams, Side.sent_streams, Side.requested_streams, Side.clocked_streams}
+use Rattle.node_core.specs.declared.{types.Wire.Wire, types.AppRequest.AppRequest, types.NodeKey.NodeKey, types.NodeKey.TheVariants.Vlan, types.NodeKey.TheVariants.Srp, types.PortStep.PortStep, types.NodeEvent.NodeEvent, types.StepReply.StepReply}
 use Rattle.node_core.specs.declared.types.AppRequest.TheVariants.{Declare, Withdraw, Talk, Hush, Listen, Unlisten}
-use Rattle.node_core.specs.declared.types.NodeKey.{NodeKey}
-use Rattle.node_core.specs.declared.types.NodeKey.TheVariants.{Vlan, Srp}
-use Rattle.node_core.specs.declared.types.PortStep.{PortStep}
 use Rattle.node_core.specs.declared.types.PortStep.TheVariants.{Work, LeaveNow, LeaveAllNow, PeriodicNow, Due, Settle, Send}
-use Rattle.node_core.specs.declared.types.NodeEvent.{NodeEvent}
 use Rattle.node_core.specs.declared.types.NodeEvent.TheVariants.{Request, Port, Clock}
-use Rattle.node_core.specs.declared.types.StepReply.{StepReply}
 use Rattle.node_core.specs.declared.types.StepReply.TheVariants.{Nothing, Discarded, Received, Fired, Settled, Silent, Sent, Taken}
 use Rattle.tree_topology.specs.declared.graph.NodeKind.TheVariants.{Station}
 use Rattle.node_core.specs.State.{NodeState, ports_of, box_at, of_part, of_port}

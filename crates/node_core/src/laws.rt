@@ -2,11 +2,7 @@
 //! the law to a proof.
 
 ghost use Rattle.std.specs.Prelude.{◌≡◌, ◌<◌, ◌≤◌, ◌^◌, ℕ, Bool, true, false, List, [], length};
-ghost use Rattle.srp_base.specs.declared.numbers.Cs.{Cs};
-ghost use Rattle.srp_base.specs.declared.numbers.BridgeId.{BridgeId};
-ghost use Rattle.srp_base.specs.declared.numbers.PortNo.{PortNo};
-ghost use Rattle.srp_base.specs.declared.mrp.App.{App};
-ghost use Rattle.srp_base.specs.declared.ports.PortSetup.{PortSetup};
+ghost use Rattle.srp_base.specs.declared.{numbers.Cs.Cs, numbers.BridgeId.BridgeId, numbers.PortNo.PortNo, mrp.App.App, ports.PortSetup.PortSetup};
 ghost use Rattle.tree_topology.specs.declared.graph.NodeKind.{NodeKind};
 ghost use Rattle.mrpdu_codec.specs.Octets.{AreOctets};
 ghost use Rattle.node_core.specs.declared.types.AppRequest.{AppRequest};

@@ -1,12 +1,9 @@
 -- The first line of a text.
-use Rattle.std.proofs.Common.{◌≡◌, ℕ, zero, suc, ◌+◌, ◌<◌, ◌≤◌, Bool, true, false, ◌==◌, List, [], ◌∷◌, length, take, drop, refl, ap, ◌∙◌, arith}
+use Rattle.std.proofs.Common.{◌≡◌, ℕ, zero, suc, ◌+◌, ◌<◌, ◌≤◌, true, false, ◌==◌, List, [], ◌∷◌, length, take, drop, refl, ap, ◌∙◌, arith}
 use Rattle.std.specs.Prelude.{slice_index, ◌-◌}
 use Rattle.std.proofs.lemmas.List.{take_all, length-drop}
-use Rattle.pdu_words.specs.Capture.{onto, lines_of}
-
-not-true : (b : Bool) → (b ≡ true → ⊥) → b ≡ false
-not-true true fails = absurd (fails refl)
-not-true false fails = refl
+use Rattle.std.proofs.lemmas.Bool.{false_from_ne_true as not-true}
+use Rattle.pdu_words.specs.{onto, lines_of}
 
 -- no line feed stands before a place
 abbrev pub NoneBelow : List ℕ → ℕ → Type 0

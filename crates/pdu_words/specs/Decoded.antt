@@ -10,8 +10,7 @@ use Rattle.msrp_codec.specs.Meaning.{msrp_reading}
 use Rattle.msrp_codec.specs.declared.pdu.MsrpPdu.{MsrpPdu}
 use Rattle.mvrp_codec.specs.Meaning.{mvrp_reading}
 use Rattle.mvrp_codec.specs.declared.pdu.MvrpPdu.{MvrpPdu}
-use Rattle.pdu_words.specs.Capture.{lines_of, digits_of, is_passed_over}
-use Rattle.pdu_words.specs.Events.{vlan_lines, stream_lines, group_lines, malformed_line, no_octets_line}
+use Rattle.pdu_words.specs.{Capture.lines_of, Capture.digits_of, Capture.is_passed_over, Events.vlan_lines, Events.stream_lines, Events.group_lines, Events.malformed_line, Events.no_octets_line}
 
 -- what octets say of VIDs, or where they break
 abbrev pub vlans_said : ℕ → Result MvrpPdu ℕ → List ℕ

@@ -2,12 +2,10 @@
 use Rattle.std.proofs.Common.{◌≡◌, ◌<◌, Bool, true, false, ◌||◌, ◌==◌, if◌then◌else◌, List, [], ◌∷◌, Some, None, refl, sym, ap, subst, arith}
 use Rattle.std.specs.Prelude.{find}
 use Rattle.std.specs.List.{AllByRecursion, list_any}
-use Rattle.std.proofs.lemmas.Bool.{or_left, or_right}
-use Rattle.std.proofs.lemmas.Bool.Decides.{nat_tests}
+use Rattle.std.proofs.lemmas.{Bool.or_left, Bool.or_right, Bool.Decides.nat_tests}
 use Rattle.srp_base.specs.declared.numbers.StreamId.{StreamId}
 use Rattle.stream_importance.specs.declared.entry.Entry.{Entry}
-use Rattle.port_ledger.specs.Decision.{stream_of, IsAscending}
-use Rattle.port_ledger.specs.Book.{entry_of, same_entry}
+use Rattle.port_ledger.specs.{stream_of, IsAscending, entry_of, same_entry}
 use Rattle.port_ledger.proofs.PerStream.{same_entry-is, same_entry-refl}
 
 -- what holds of all holds of what is found

@@ -1,35 +1,16 @@
 -- How a want that comes and an entry that goes lead to entries that are decided from a place of their order on.
 use Rattle.std.proofs.Common.{◌≡◌, ◌≢◌, ℕ, ◌+◌, ◌≤◌, ◌<◌, ◌^◌, Bool, true, false, not, ◌&&◌, ◌||◌, ◌==◌, cond, List, [], ◌∷◌, ◌++◌, map, length, take, drop, Option, Some, None, refl, sym, ◌∙◌, ap, subst, arith, append_assoc, true≢false, inl, inr}
 use Rattle.std.specs.Prelude.{nat_lt}
-use Rattle.std.specs.List.{AllByRecursion}
-use Rattle.std.specs.List.Sorted.{IsPermutation}
-use Rattle.std.specs.Ordering.{is_lt, nat_cmp}
-use Rattle.std.proofs.lemmas.Bool.Decides.{nat_tests}
-use Rattle.std.proofs.lemmas.Bool.{and_from, and_parts, cases_Bool, eq-eqb, eqb-true, ne_eqb, not_from_false}
-use Rattle.std.proofs.lemmas.List.{length-take-le, take-append-drop}
-use Rattle.std.proofs.lemmas.List.Sorted.{IsPermutation-cons, IsPermutation-sym, IsPermutation-to_front, IsPermutation-trans}
-use Rattle.srp_base.specs.declared.bandwidth.Class.TheVariants.{A, B}
-use Rattle.srp_base.specs.declared.numbers.StreamId.{StreamId}
-use Rattle.stream_importance.specs.declared.entry.Entry.{Entry}
-use Rattle.stream_importance.specs.declared.entry.Want.{Want}
-use Rattle.stream_importance.specs.declared.slope.Caps.{Caps}
+use Rattle.std.specs.{List.AllByRecursion, List.Sorted.IsPermutation, Ordering.is_lt, Ordering.nat_cmp}
+use Rattle.std.proofs.lemmas.{Bool.Decides.nat_tests, Bool.and_from, Bool.and_parts, Bool.cases_Bool, Bool.eq-eqb, Bool.eqb-true, Bool.ne_eqb, Bool.not_from_false, List.length-take-le, List.take-append-drop, List.Sorted.IsPermutation-cons, List.Sorted.IsPermutation-sym, List.Sorted.IsPermutation-to_front, List.Sorted.IsPermutation-trans}
+use Rattle.srp_base.proofs.Lists.{each_append as all_join}
+use Rattle.srp_base.specs.declared.{bandwidth.Class.TheVariants.A, bandwidth.Class.TheVariants.B, numbers.StreamId.StreamId}
+use Rattle.stream_importance.specs.declared.{entry.Entry.Entry, entry.Want.Want, slope.Caps.Caps}
 use Rattle.stream_importance.specs.Importance.{is_more_important, moment_or, IsImportanceOrder}
-use Rattle.port_ledger.specs.declared.front.Standing.{Standing}
+use Rattle.port_ledger.specs.{Standing, booked_slope, entry_of, has_new_booking, unbooked_entry, with_want, without, stream_of, comes_after, does_fit, is_booked, marked_set, marks_of, AreOfDifferentStreams, IsAscending, AreBehind, ArePriorTo, IsAhead, IsBehind, IsFront, IsOrdered, IsOrderedBook, IsSettled, later_standing, Runs, same_level, exchanged, has_want, totals_of}
 use Rattle.port_ledger.specs.declared.totals.Totals.{Totals}
-use Rattle.port_ledger.specs.Book.{Book, booked_slope, entry_of, has_new_booking, unbooked_entry, with_want, without}
-use Rattle.port_ledger.specs.Decision.{stream_of, comes_after, does_fit, is_booked, marked_set, marks_of, AreOfDifferentStreams, IsAscending}
-use Rattle.port_ledger.specs.Front.{AreBehind, ArePriorTo, IsAhead, IsBehind, IsFront, IsOrdered, IsOrderedBook, IsSettled, later_standing, Runs, same_level}
-use Rattle.port_ledger.specs.Pass.{exchanged, has_want}
-use Rattle.port_ledger.specs.Totals.{totals_of}
-use Rattle.port_ledger.proofs.Deciding.{different_right}
-use Rattle.port_ledger.proofs.Fronts.{seam-take}
-use Rattle.port_ledger.proofs.Keeping.{all-without, ascending-with_want, ascending-without, moments-with_want}
-use Rattle.port_ledger.proofs.Marking.{choice_above, different_from_ascending, marked-map}
-use Rattle.port_ledger.proofs.Moving.{with_want_exchanged, without_permuted}
-use Rattle.port_ledger.proofs.Ranking.{all_permuted, different_permuted, holds_permuted}
-use Rattle.port_ledger.proofs.Running.{all_with, Holds}
-use Rattle.port_ledger.proofs.Settling.{all_join, all_left, runs_front, settled_later, settled_seam}
-use Rattle.port_ledger.proofs.TotalsLemmas.{new_any, slope-permuted, totals_fit, totals_later, totals-permuted}
+use Rattle.port_ledger.specs.Book.{Book}
+use Rattle.port_ledger.proofs.{Deciding.different_right, Fronts.seam-take, Keeping.all-without, Keeping.ascending-with_want, Keeping.ascending-without, Keeping.moments-with_want, Marking.choice_above, Marking.different_from_ascending, Marking.marked-map, Moving.with_want_exchanged, Moving.without_permuted, Ranking.all_permuted, Ranking.different_permuted, Ranking.holds_permuted, Running.all_with, Running.Holds, Settling.all_left, Settling.runs_front, Settling.settled_later, Settling.settled_seam, TotalsLemmas.new_any, TotalsLemmas.slope-permuted, TotalsLemmas.totals_fit, TotalsLemmas.totals_later, TotalsLemmas.totals-permuted}
 
 -- ---- whose stream stands in no front
 

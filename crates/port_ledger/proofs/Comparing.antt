@@ -3,11 +3,8 @@ use Rattle.std.proofs.Common.{Result, Ok, Err, IfOk, ◌≡◌, ◌↔◌, ℕ, 
 use Rattle.std.specs.List.{AllByRecursion, list_any}
 use Rattle.std.proofs.lemmas.Bool.{cases_Bool, or_left, or_right}
 use Rattle.stream_importance.specs.declared.entry.Entry.{Entry}
-use Rattle.port_ledger.specs.Decision.{stream_of, booked_of, is_booked, IsAscending}
-use Rattle.port_ledger.specs.Book.{booked_only_in, same_entry}
-use Rattle.port_ledger.proofs.Finding.{differ}
-use Rattle.port_ledger.proofs.PerStream.{same_entry-is, same_entry-refl}
-use Rattle.port_ledger.proofs.Running.{all_with}
+use Rattle.port_ledger.specs.{stream_of, booked_of, is_booked, IsAscending, booked_only_in, same_entry}
+use Rattle.port_ledger.proofs.{Finding.differ, PerStream.same_entry-is, PerStream.same_entry-refl, Running.all_with}
 
 -- a fact of each entry is one of each booked entry
 pub all_booked : (P : Entry → Type 0) (xs : List Entry) → AllByRecursion P xs → AllByRecursion P (booked_of xs)

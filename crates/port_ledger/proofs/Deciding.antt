@@ -1,29 +1,13 @@
 -- Deciding from a place of the order on comes to the decision of all entries.
 use Rattle.std.proofs.Common.{◌≡◌, ℕ, ◌+◌, ◌≤◌, Bool, cond, List, [], ◌∷◌, ◌++◌, length, sym, ◌∙◌, ap, subst, arith, zero-add}
-use Rattle.std.specs.List.{AllByRecursion}
-use Rattle.std.specs.List.Sorted.{IsPermutation}
+use Rattle.std.specs.{List.AllByRecursion, List.Sorted.IsPermutation}
 use Rattle.std.proofs.lemmas.List.Sorted.{IsPermutation-append_right, IsPermutation-trans}
 use Rattle.srp_base.specs.declared.bandwidth.Class.TheVariants.{A, B}
-use Rattle.stream_importance.specs.declared.entry.Entry.{Entry}
-use Rattle.stream_importance.specs.declared.slope.Caps.{Caps}
+use Rattle.stream_importance.specs.declared.{entry.Entry.Entry, slope.Caps.Caps}
 use Rattle.stream_importance.specs.Importance.{moment_or, IsImportanceOrder}
 use Rattle.port_ledger.specs.declared.totals.Totals.{Totals}
-use Rattle.port_ledger.specs.Book.{booked_slope}
-use Rattle.port_ledger.specs.Decision.{entry_slope, is_booked, since_after, decided_entries, IsAscending, AreOfDifferentStreams}
-use Rattle.port_ledger.specs.Front.{settled_front, IsAhead, IsBehind, IsOrdered}
-use Rattle.port_ledger.specs.Pass.{importance_order, has_room, sum_with, entries_passed, with_pass, IsOnlyIn}
-use Rattle.port_ledger.specs.Totals.{together, totals_of}
-use Rattle.port_ledger.proofs.Keeping.{ascending_after}
-use Rattle.port_ledger.proofs.Levels.{behind_decided}
-use Rattle.port_ledger.proofs.Marking.{different_from_ascending}
-use Rattle.port_ledger.proofs.Passing.{only_own, pass_decides, pass_keeps, ranked_only, runs_on, sum_with-cond, with_since-own}
-use Rattle.port_ledger.proofs.Ranking.{IsPermutation-ranked, ranked_is_ranked, all_permuted, different_permuted}
-use Rattle.port_ledger.proofs.Rounds.{decided_decides}
-use Rattle.port_ledger.proofs.Running.{all_with, part, sum-filter, Runs}
-use Rattle.port_ledger.proofs.Settling.{ahead_ranked, ahead_settled, all_left, all_right, ranked_own, ranked_settled, settled_short}
-use Rattle.port_ledger.proofs.Shares.{class_parts, is_of}
-use Rattle.port_ledger.proofs.Standing.{since_own}
-use Rattle.port_ledger.proofs.TotalsLemmas.{totals-join, totals-permuted}
+use Rattle.port_ledger.specs.{booked_slope, entry_slope, is_booked, since_after, decided_entries, IsAscending, AreOfDifferentStreams, settled_front, IsAhead, IsBehind, IsOrdered, importance_order, has_room, sum_with, entries_passed, with_pass, IsOnlyIn, together, totals_of}
+use Rattle.port_ledger.proofs.{Keeping.ascending_after, Levels.behind_decided, Marking.different_from_ascending, Passing.only_own, Passing.pass_decides, Passing.pass_keeps, Passing.ranked_only, Passing.runs_on, Passing.sum_with-cond, Passing.with_since-own, Ranking.IsPermutation-ranked, Ranking.ranked_is_ranked, Ranking.all_permuted, Ranking.different_permuted, Rounds.decided_decides, Running.all_with, Running.part, Running.sum-filter, Running.Runs, Settling.ahead_ranked, Settling.ahead_settled, Settling.all_left, Settling.all_right, Settling.ranked_own, Settling.ranked_settled, Settling.settled_short, Shares.class_parts, Shares.is_of, Standing.since_own, TotalsLemmas.totals-join, TotalsLemmas.totals-permuted}
 
 -- what the booked ones of entries take
 abbrev pub taken : List Entry → ℕ

@@ -1,24 +1,13 @@
 -- Where a stream stands in a list that ascends by StreamID, and whether it is among chosen ones.
 use Rattle.std.proofs.Common.{◌≡◌, ◌≢◌, ℕ, zero, suc, ◌+◌, ◌<◌, ◌≤◌, Bool, false, ◌==◌, ◌&&◌, cond, List, [], ◌∷◌, ◌++◌, length, get_or, take, drop, set, Some, None, Result, Ok, Err, refl, sym, ◌∙◌, ap, arith, inl, inr, IfOk, IfErr}
 use Rattle.std.specs.Prelude.{find, nat_lt}
-use Rattle.std.specs.Ordering.{nat_cmp, is_lt}
-use Rattle.std.specs.declared.cmp.Ordering.TheVariants.{Less, Equal, Greater}
-use Rattle.std.specs.List.{AllByRecursion, AllWithin, HoldsAt, list_any}
-use Rattle.std.specs.List.Sorted.{IsBinarySearchResult, IsSearchInRange, IsSortedBy}
-use Rattle.std.proofs.lemmas.Bool.{eq-eqb, ne_eqb, cases_lt, lt-ltb, le-ltb, or_from, and_left, cond-true, cond-false}
-use Rattle.std.proofs.lemmas.Bool.Decides.{nat_tests}
-use Rattle.std.proofs.lemmas.Cmp.{nat_cmp_total}
-use Rattle.std.proofs.lemmas.List.Recursion.{found_at, found_nowhere}
-use Rattle.std.proofs.lemmas.List.Sorted.{searchable_from_sorted}
-use Rattle.std.proofs.lemmas.List.Elements.{All-from_recursion}
-use Rattle.srp_base.specs.declared.bandwidth.Class.TheVariants.{A}
-use Rattle.srp_base.specs.declared.bandwidth.Rank.TheVariants.{Emergency}
-use Rattle.srp_base.specs.declared.numbers.StreamId.{StreamId}
-use Rattle.stream_importance.specs.declared.entry.Entry.{Entry}
-use Rattle.stream_importance.specs.declared.entry.Want.{Want}
+use Rattle.std.specs.{Ordering.nat_cmp, Ordering.is_lt, declared.cmp.Ordering.TheVariants.Less, declared.cmp.Ordering.TheVariants.Greater, List.AllByRecursion, List.AllWithin, List.HoldsAt, List.list_any, List.Sorted.IsBinarySearchResult, List.Sorted.IsSearchInRange, List.Sorted.IsSortedBy}
+use Rattle.std.proofs.lemmas.{Bool.eq-eqb, Bool.ne_eqb, Bool.cases_lt, Bool.lt-ltb, Bool.le-ltb, Bool.or_from, Bool.and_left, Bool.cond-true, Bool.cond-false, Bool.Decides.nat_tests, Cmp.nat_cmp_total, List.Recursion.found_at, List.Recursion.found_nowhere, List.Sorted.searchable_from_sorted, List.Elements.All-from_recursion}
+use Rattle.srp_base.proofs.Arithmetic.{same_number as equal_is}
+use Rattle.srp_base.specs.declared.{bandwidth.Class.TheVariants.A, bandwidth.Rank.TheVariants.Emergency, numbers.StreamId.StreamId}
+use Rattle.stream_importance.specs.declared.{entry.Entry.Entry, entry.Want.Want}
 use Rattle.stream_importance.specs.Importance.{class_number, rank_number}
-use Rattle.port_ledger.specs.Decision.{stream_of, IsAscending}
-use Rattle.port_ledger.specs.Book.{entry_of, entry_with, unbooked_entry, with_want, same_want, same_since, same_entry}
+use Rattle.port_ledger.specs.{stream_of, IsAscending, entry_of, entry_with, unbooked_entry, with_want, same_want, same_since, same_entry}
 
 -- of two places the earlier has the lower StreamID
 pub ascending_at : (xs : List Entry) → IsAscending xs → (i j : ℕ) (d : Entry) → i < j → j < length xs
@@ -33,9 +22,6 @@ sorted_from_ascending : (xs : List Entry) → IsAscending xs
 sorted_from_ascending xs up k d low high =
     let l : stream_of (get_or xs k d) < stream_of (get_or xs (k + 1) d) = ascending_at xs up k (k + 1) d (omega arith) high in
     grind (arith, nat_tests)
-
-equal_is : (a b : ℕ) → nat_cmp a b ≡ Equal → a ≡ b
-equal_is a b h = grind (arith, nat_tests)
 
 less_is : (a b : ℕ) → nat_cmp a b ≡ Less → a < b
 less_is a b h = grind (arith, nat_tests)

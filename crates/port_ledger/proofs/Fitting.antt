@@ -1,26 +1,15 @@
 -- What leaves a fit as it was.
 use Rattle.std.proofs.Common.{◌≡◌, ◌≢◌, ℕ, ◌+◌, ◌<◌, ◌≤◌, Bool, true, false, not, ◌==◌, ◌&&◌, cond, if◌then◌else◌, List, [], ◌∷◌, filter, sum_by, Option, Some, None, option_and_then, is_some, IfSome, refl, sym, ◌∙◌, ap, subst, arith, inl, inr, zero-add}
 use Rattle.std.specs.Prelude.{nat_le, nat_lt}
-use Rattle.std.specs.Ordering.{nat_cmp, is_lt, ordering_then}
-use Rattle.std.specs.List.{AllByRecursion, list_any}
-use Rattle.std.proofs.lemmas.Bool.{cases_Bool, cases_order, cases_lt, eqb-true, eqb-false, lt-ltb, or_parts}
-use Rattle.std.proofs.lemmas.List.Sums.{sum_by-cons}
-use Rattle.srp_base.specs.declared.numbers.Cs.{Cs}
-use Rattle.srp_base.specs.declared.numbers.StreamId.{StreamId}
-use Rattle.stream_importance.specs.declared.entry.Entry.{Entry}
-use Rattle.stream_importance.specs.declared.entry.Want.{Want}
-use Rattle.stream_importance.specs.declared.entry.Fit.TheVariants.{Fits, TooLittle}
-use Rattle.stream_importance.specs.declared.slope.Caps.{Caps}
-use Rattle.stream_importance.specs.Bandwidth.{cap_of}
-use Rattle.stream_importance.specs.Importance.{class_number, rank_number, moment_or}
-use Rattle.port_ledger.specs.Decision.{stream_of, entry_slope, above, booked_of, does_fit, is_booked, comes_after, IsAscending}
-use Rattle.port_ledger.specs.Book.{Book, IsKept, code_of, entry_of, fit_for, fit_in, has_new_booking, is_normal, is_since, since_if_same, since_of, same_want, tested_entry}
-use Rattle.port_ledger.specs.Pass.{normal_slope_before, slope_before}
-use Rattle.port_ledger.proofs.Comparing.{all_booked}
-use Rattle.port_ledger.proofs.Finding.{none_of}
-use Rattle.port_ledger.proofs.Rounds.{filter_agree}
-use Rattle.port_ledger.proofs.Running.{all_with}
-use Rattle.port_ledger.proofs.Standing.{less_is_below}
+use Rattle.std.specs.{Ordering.nat_cmp, Ordering.is_lt, Ordering.ordering_then, List.AllByRecursion, List.list_any}
+use Rattle.std.proofs.lemmas.{Bool.cases_Bool, Bool.cases_order, Bool.cases_lt, Bool.eqb-true, Bool.eqb-false, Bool.lt-ltb, Bool.or_parts, List.Sums.sum_by-cons}
+use Rattle.srp_base.proofs.Arithmetic.{less_is_below}
+use Rattle.srp_base.specs.declared.{numbers.Cs.Cs, numbers.StreamId.StreamId}
+use Rattle.stream_importance.specs.declared.{entry.Entry.Entry, entry.Want.Want, entry.Fit.TheVariants.Fits, entry.Fit.TheVariants.TooLittle, slope.Caps.Caps}
+use Rattle.stream_importance.specs.{Bandwidth.cap_of, Importance.class_number, Importance.rank_number, Importance.moment_or}
+use Rattle.port_ledger.specs.{stream_of, entry_slope, above, booked_of, does_fit, is_booked, comes_after, IsAscending, IsKept, code_of, entry_of, fit_for, fit_in, has_new_booking, is_normal, is_since, since_if_same, since_of, same_want, tested_entry, normal_slope_before, slope_before}
+use Rattle.port_ledger.specs.Book.{Book}
+use Rattle.port_ledger.proofs.{Comparing.all_booked, Finding.none_of, Rounds.filter_agree, Running.all_with}
 
 -- the moment with which a want is tested
 abbrev tested_since : Want → Option Entry → Option Cs

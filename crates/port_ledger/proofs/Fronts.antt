@@ -1,26 +1,14 @@
 -- What is known of entries that are decided from a place of their order on, and how a call comes to such.
 use Rattle.std.proofs.Common.{◌≡◌, ℕ, ◌+◌, ◌-◌, ◌≤◌, ◌<◌, ◌^◌, List, [], ◌++◌, length, take, drop, sym, ◌∙◌, ap, subst, arith}
-use Rattle.std.specs.List.{AllByRecursion}
-use Rattle.std.specs.List.Sorted.{IsPermutation}
+use Rattle.std.specs.{List.AllByRecursion, List.Sorted.IsPermutation}
 use Rattle.std.proofs.lemmas.List.{drop_all, drop_at, length-append, length-drop, length-take-le, take-append-drop, take_all, take_at}
 use Rattle.srp_base.specs.declared.bandwidth.Class.TheVariants.{A, B}
-use Rattle.stream_importance.specs.declared.entry.Entry.{Entry}
-use Rattle.stream_importance.specs.declared.slope.Caps.{Caps}
+use Rattle.stream_importance.specs.declared.{entry.Entry.Entry, slope.Caps.Caps}
 use Rattle.stream_importance.specs.Importance.{IsImportanceOrder}
 use Rattle.port_ledger.specs.declared.totals.Totals.{Totals}
-use Rattle.port_ledger.specs.Book.{booked_slope}
-use Rattle.port_ledger.specs.Decision.{decided_entries, AreOfDifferentStreams}
-use Rattle.port_ledger.specs.Front.{AreBehind, settled_front, decided_behind, IsAhead, IsFront, IsOrdered}
-use Rattle.port_ledger.specs.Pass.{importance_order, with_pass, IsOnlyIn}
+use Rattle.port_ledger.specs.{booked_slope, decided_entries, AreOfDifferentStreams, AreBehind, settled_front, decided_behind, IsAhead, IsFront, IsOrdered, importance_order, with_pass, IsOnlyIn, together, totals_of}
 pub use Rattle.port_ledger.specs.Totals.{both_of}
-use Rattle.port_ledger.specs.Totals.{together, totals_of}
-use Rattle.port_ledger.proofs.Deciding.{after_same, decided_over, different_right, ordered_over, rest_different, rest_only, taken, taken-slopes}
-use Rattle.port_ledger.proofs.Keeping.{ascending_after, kept_after}
-use Rattle.port_ledger.proofs.Marking.{different_from_ascending}
-use Rattle.port_ledger.proofs.Ranking.{different_permuted}
-use Rattle.port_ledger.proofs.Rounds.{decided_decides}
-use Rattle.port_ledger.proofs.Shares.{runs_both}
-use Rattle.port_ledger.proofs.TotalsLemmas.{slope-permuted, totals_fit}
+use Rattle.port_ledger.proofs.{Deciding.after_same, Deciding.decided_over, Deciding.different_right, Deciding.ordered_over, Deciding.rest_different, Deciding.rest_only, Deciding.taken, Deciding.taken-slopes, Keeping.ascending_after, Keeping.kept_after, Marking.different_from_ascending, Ranking.different_permuted, Rounds.decided_decides, Shares.runs_both, TotalsLemmas.slope-permuted, TotalsLemmas.totals_fit}
 
 module _ (now : ℕ) (o : IsImportanceOrder now) (caps : Caps) (place : ℕ) (front : Totals) (es order : List Entry) (h : IsFront now caps place front es order) where
   abbrev pub ahead : List Entry

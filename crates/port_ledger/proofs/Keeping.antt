@@ -2,20 +2,12 @@
 use Rattle.std.proofs.Common.{◌≡◌, ℕ, ◌<◌, ◌≤◌, Bool, true, false, not, ◌==◌, cond, List, [], ◌∷◌, Option, Some, None, refl, sym, ◌∙◌, ap, subst, arith, inl, inr}
 use Rattle.std.specs.List.{AllByRecursion}
 use Rattle.std.proofs.lemmas.Bool.{cases_order}
-use Rattle.srp_base.specs.declared.numbers.Cs.{Cs}
-use Rattle.srp_base.specs.declared.numbers.StreamId.{StreamId}
-use Rattle.stream_importance.specs.declared.entry.Entry.{Entry}
-use Rattle.stream_importance.specs.declared.entry.Fit.{Fit}
-use Rattle.stream_importance.specs.declared.entry.Want.{Want}
-use Rattle.stream_importance.specs.declared.slope.Caps.{Caps}
+use Rattle.srp_base.specs.declared.{numbers.Cs.Cs, numbers.StreamId.StreamId}
+use Rattle.stream_importance.specs.declared.{entry.Entry.Entry, entry.Fit.Fit, entry.Want.Want, slope.Caps.Caps}
 use Rattle.stream_importance.specs.Importance.{moment_or, IsImportanceOrder}
-use Rattle.port_ledger.specs.Decision.{booked_of, stream_of, IsAscending, decided_entries, Decides, marks_of, with_moments, since_after}
-use Rattle.port_ledger.specs.Book.{BookWithRoom, Book, IsKept, clocked_book, fit_in, tested_entry, same_want, unbooked_entry, unwanted_book, wanted_book, entry_with, with_want, without}
-use Rattle.port_ledger.proofs.Running.{all_with}
-use Rattle.port_ledger.proofs.Finding.{with_want-lower, with_want-same, with_want-higher}
-use Rattle.port_ledger.proofs.Marking.{different_from_ascending}
-use Rattle.port_ledger.proofs.Rounds.{decided_decides}
-use Rattle.port_ledger.proofs.Standing.{book_stands, decision_settled}
+use Rattle.port_ledger.specs.{booked_of, stream_of, IsAscending, decided_entries, Decides, marks_of, with_moments, since_after, BookWithRoom, IsKept, clocked_book, fit_in, tested_entry, same_want, unbooked_entry, unwanted_book, wanted_book, entry_with, with_want, without}
+use Rattle.port_ledger.specs.Book.{Book}
+use Rattle.port_ledger.proofs.{Running.all_with, Finding.with_want-lower, Finding.with_want-same, Finding.with_want-higher, Marking.different_from_ascending, Rounds.decided_decides, Standing.book_stands, Standing.decision_settled}
 
 -- a moment that isn't past its ledger's isn't past a later one
 moment_later : (since : Option Cs) (moment now : ℕ) → moment ≤ now → moment_or moment since ≤ moment

@@ -1,17 +1,13 @@
 -- The level of an entry, its class and rank, and what of an order lasts: what time does to a pair of entries.
 use Rattle.std.proofs.Common.{◌≡◌, ◌⊎◌, ℕ, ◌+◌, ◌<◌, ◌≤◌, Bool, true, false, not, ◌&&◌, ◌||◌, ◌==◌, Option, Some, None, is_some, refl, sym, ◌∙◌, ap, arith, inl, inr, true≢false}
-use Rattle.std.specs.declared.cmp.Ordering.{Ordering}
-use Rattle.std.specs.Ordering.{nat_cmp, is_lt, ordering_then}
+use Rattle.std.specs.{declared.cmp.Ordering.Ordering, Ordering.nat_cmp, Ordering.is_lt, Ordering.ordering_then}
 use Rattle.std.proofs.lemmas.Bool.{and_from, and_parts, cases_Bool, cases_lt, cases_order, eq-eqb, eqb-true, not_from_false, or_left, or_right}
-use Rattle.srp_base.specs.declared.bandwidth.Rank.{Rank}
-use Rattle.srp_base.specs.declared.bandwidth.Rank.TheVariants.{Emergency, Normal}
-use Rattle.srp_base.specs.declared.numbers.Cs.{Cs}
-use Rattle.stream_importance.specs.declared.entry.Entry.{Entry}
-use Rattle.stream_importance.specs.declared.entry.Want.{Want}
+use Rattle.srp_base.proofs.{Bools.held_from, Arithmetic.less_is_below, Arithmetic.same_is_equal}
+use Rattle.srp_base.specs.declared.{bandwidth.Rank.Rank, bandwidth.Rank.TheVariants.Emergency, bandwidth.Rank.TheVariants.Normal, numbers.Cs.Cs}
+use Rattle.stream_importance.specs.declared.{entry.Entry.Entry, entry.Want.Want}
 use Rattle.stream_importance.specs.Importance.{class_number, rank_number, moment_or, is_more_important, IsImportanceOrder}
-use Rattle.port_ledger.specs.Decision.{stream_of, comes_after, is_booked, since_after}
-use Rattle.port_ledger.specs.Front.{is_prior, is_prior_to, same_level, stays_after, stays_behind}
-use Rattle.port_ledger.proofs.Standing.{above_is_greater, less_is_below, same_is_equal, still_first}
+use Rattle.port_ledger.specs.{stream_of, comes_after, is_booked, since_after, is_prior, is_prior_to, same_level, stays_after, stays_behind}
+use Rattle.port_ledger.proofs.Standing.{above_is_greater, still_first}
 
 -- ---- the level as a number: the lower goes first
 
@@ -145,10 +141,6 @@ sinks now x y false past h =
 free_of : (b v : Bool) → b ≡ false → (b || v) ≡ true → v ≡ true
 free_of true v e h = cc
 free_of false v e h = h
-
-held_from : (v : Bool) → not v ≡ true → v ≡ false
-held_from true h = cc
-held_from false h = refl
 
 weaker : (b k s : Bool) → (b || not s) ≡ true → (b || not (k && s)) ≡ true
 weaker true k s h = refl

@@ -1,19 +1,13 @@
 -- A choice of entries and the marks beside them; there is exactly one marking.
 use Rattle.std.proofs.Common.{◌≡◌, ℕ, ◌+◌, Bool, true, false, cond, List, [], ◌∷◌, map, filter, Option, is_some, refl, sym, ◌∙◌, ap, arith, zero-add}
 use Rattle.std.specs.Prelude.{nat_le}
-use Rattle.std.specs.List.{AllByRecursion}
-use Rattle.std.specs.List.Sorted.{IsPermutation}
+use Rattle.std.specs.{List.AllByRecursion, List.Sorted.IsPermutation}
 use Rattle.std.proofs.lemmas.List.Sorted.{IsPermutation-sym}
 use Rattle.srp_base.specs.declared.numbers.Cs.{Cs}
-use Rattle.stream_importance.specs.declared.entry.Entry.{Entry}
-use Rattle.stream_importance.specs.Importance.{IsImportanceOrder}
-use Rattle.stream_importance.specs.declared.slope.Caps.{Caps}
-use Rattle.stream_importance.specs.Bandwidth.{cap_of}
-use Rattle.port_ledger.specs.Decision.{stream_of, entry_slope, does_fit, marked_set, IsDecision, IsAscending, AreOfDifferentStreams, marks_of, with_moments, since_after}
-use Rattle.port_ledger.specs.Pass.{importance_order}
-use Rattle.port_ledger.proofs.Running.{total, above-filter, Holds, Runs, IsRanked, holds_from_runs, runs_from_holds, runs_agree, all_with}
-use Rattle.port_ledger.proofs.Ranking.{IsPermutation-ranked, ranked_is_ranked, holds_permuted, all_permuted, different_permuted}
-use Rattle.port_ledger.proofs.LettingIn.{is_among, streams_let_in, taken_runs}
+use Rattle.stream_importance.specs.declared.{entry.Entry.Entry, slope.Caps.Caps}
+use Rattle.stream_importance.specs.{Importance.IsImportanceOrder, Bandwidth.cap_of}
+use Rattle.port_ledger.specs.{stream_of, entry_slope, does_fit, marked_set, IsDecision, IsAscending, AreOfDifferentStreams, marks_of, with_moments, since_after, importance_order}
+use Rattle.port_ledger.proofs.{Running.total, Running.above-filter, Running.Holds, Running.Runs, Running.IsRanked, Running.holds_from_runs, Running.runs_from_holds, Running.runs_agree, Running.all_with, Ranking.IsPermutation-ranked, Ranking.ranked_is_ranked, Ranking.holds_permuted, Ranking.all_permuted, Ranking.different_permuted, LettingIn.is_among, LettingIn.streams_let_in, LettingIn.taken_runs}
 
 pub marked-map : (b : Entry → Bool) (xs : List Entry) → marked_set xs (map b xs) ≡ filter b xs
 marked-map b [] = refl

@@ -2,17 +2,11 @@
 use Rattle.std.proofs.Common.{◌≡◌, ℕ, suc, ◌+◌, ◌<◌, ◌≤◌, Bool, true, false, not, ◌||◌, ◌&&◌, cond, List, [], ◌∷◌, ◌++◌, map, length, get_or, drop, refl, sym, ◌∙◌, ap, subst, arith, inl, inr, append_assoc, drop-cons}
 use Rattle.std.specs.Prelude.{◌⊎◌, nat_lt}
 use Rattle.std.specs.List.{AllByRecursion, list_any}
-use Rattle.std.proofs.lemmas.List.{append-nil, drop_all}
-use Rattle.std.proofs.lemmas.Bool.{cases_Bool, ltb-true, ltb-false}
+use Rattle.std.proofs.lemmas.{List.append-nil, List.drop_all, Bool.cases_Bool, Bool.ltb-true, Bool.ltb-false}
 use Rattle.srp_base.specs.declared.numbers.StreamId.{StreamId}
 use Rattle.stream_importance.specs.declared.entry.Entry.{Entry}
-use Rattle.port_ledger.specs.Decision.{stream_of, is_booked, IsAscending}
-use Rattle.port_ledger.specs.Book.{booked_only_in, same_entry}
-use Rattle.port_ledger.specs.Pass.{begins_with_entry, from_stream, booked_stream, booked_streams_below}
-use Rattle.port_ledger.proofs.Comparing.{only_in}
-use Rattle.port_ledger.proofs.Finding.{differ, others_differ}
-use Rattle.port_ledger.proofs.PerStream.{same_entry-is, same_entry-refl}
-use Rattle.port_ledger.proofs.Running.{all_with}
+use Rattle.port_ledger.specs.{stream_of, is_booked, IsAscending, booked_only_in, same_entry, begins_with_entry, from_stream, booked_stream, booked_streams_below}
+use Rattle.port_ledger.proofs.{Comparing.only_in, Finding.differ, Finding.others_differ, PerStream.same_entry-is, PerStream.same_entry-refl, Running.all_with}
 
 -- what lies below a stream is none of an entry that doesn't
 found_from : (s : StreamId) (z : Entry) (ys : List Entry) → s.0 ≤ stream_of z

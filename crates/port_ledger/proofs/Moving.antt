@@ -2,19 +2,11 @@
 use Rattle.std.proofs.Common.{◌≡◌, ℕ, suc, ◌+◌, ◌<◌, Bool, true, false, not, ◌==◌, cond, List, [], ◌∷◌, filter, sum_by, length, get_or, Some, refl, sym, ◌∙◌, ap, subst, arith, inl, inr, zero-add}
 use Rattle.std.specs.Prelude.{remove}
 use Rattle.std.specs.List.Sorted.{IsPermutation}
-use Rattle.std.proofs.lemmas.Bool.{cases_Bool, cases_order, eq-eqb, ne_eqb}
-use Rattle.std.proofs.lemmas.List.Sums.{sum_by-cons}
-use Rattle.std.proofs.lemmas.List.Sorted.{IsPermutation-cons, IsPermutation-refl, IsPermutation-remove, IsPermutation-sym, IsPermutation-trans, IsPermutation-swap, sum_by-IsPermutation}
+use Rattle.std.proofs.lemmas.{Bool.cases_Bool, Bool.cases_order, Bool.eq-eqb, Bool.ne_eqb, List.Sums.sum_by-cons, List.Sorted.IsPermutation-cons, List.Sorted.IsPermutation-refl, List.Sorted.IsPermutation-remove, List.Sorted.IsPermutation-sym, List.Sorted.IsPermutation-trans, List.Sorted.IsPermutation-swap, List.Sorted.sum_by-IsPermutation}
 use Rattle.srp_base.specs.declared.numbers.StreamId.{StreamId}
-use Rattle.stream_importance.specs.declared.entry.Entry.{Entry}
-use Rattle.stream_importance.specs.declared.entry.Want.{Want}
-use Rattle.port_ledger.specs.Decision.{stream_of, IsAscending}
-use Rattle.port_ledger.specs.Book.{entry_of, same_entry, same_want, unbooked_entry, with_want, without}
-use Rattle.port_ledger.specs.Pass.{has_same, has_want}
-use Rattle.port_ledger.proofs.Finding.{with_want-higher, with_want-lower, with_want-same}
-use Rattle.port_ledger.proofs.PerStream.{same_entry-is, same_entry-refl}
-use Rattle.port_ledger.proofs.Running.{all_with}
-use Rattle.port_ledger.proofs.TakingOut.{without-others}
+use Rattle.stream_importance.specs.declared.{entry.Entry.Entry, entry.Want.Want}
+use Rattle.port_ledger.specs.{stream_of, IsAscending, entry_of, same_entry, same_want, unbooked_entry, with_want, without, has_same, has_want}
+use Rattle.port_ledger.proofs.{Finding.with_want-higher, Finding.with_want-lower, Finding.with_want-same, PerStream.same_entry-is, PerStream.same_entry-refl, Running.all_with, TakingOut.without-others}
 
 abbrev one : Entry → ℕ
 one y = 1

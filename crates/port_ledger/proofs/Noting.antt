@@ -1,40 +1,16 @@
 -- What a pass notes of the entries behind a front is what changed in the booked set.
 use Rattle.std.proofs.Common.{◌≡◌, ◌≢◌, ◌↔◌, IsTrue, ℕ, suc, ◌+◌, ◌≤◌, ◌<◌, Bool, true, false, not, ◌&&◌, ◌||◌, ◌==◌, cond, List, [], ◌∷◌, ◌++◌, map, filter, sum_by, length, get_or, set, take, drop, Option, Some, None, option_to_list, is_some, refl, sym, ◌∙◌, ap, subst, arith, inl, inr, append_assoc, append-nil, drop-cons, drop-set-lt, true≢false}
 use Rattle.std.specs.Prelude.{nat_lt}
-use Rattle.std.specs.List.{AllByRecursion, list_any}
-use Rattle.std.specs.List.Sorted.{IsNonDecreasingBy, IsPermutation}
-use Rattle.std.proofs.lemmas.Bool.{and_left, and_right, cases_Bool, cases_lt, eq-eqb, eqb-true, lt-ltb, ne_eqb, or_from}
-use Rattle.std.proofs.lemmas.List.{length-append, map-append}
-use Rattle.std.proofs.lemmas.List.Elements.{filter-append, recursion_from_All}
-use Rattle.std.proofs.lemmas.List.Sums.{sum_by-cons}
-use Rattle.std.proofs.lemmas.List.Sorted.{IsPermutation-append, IsPermutation-filter_both, IsPermutation-map, IsPermutation-refl, IsPermutation-sym, IsPermutation-trans, length_permutation, list_any-IsPermutation, sum_by-IsPermutation}
-use Rattle.srp_base.specs.declared.numbers.Cs.{Cs}
-use Rattle.srp_base.specs.declared.numbers.StreamId.{StreamId}
-use Rattle.stream_importance.specs.declared.entry.Entry.{Entry}
-use Rattle.stream_importance.specs.declared.entry.Want.{Want}
-use Rattle.stream_importance.specs.declared.slope.Caps.{Caps}
+use Rattle.std.specs.{List.AllByRecursion, List.list_any, List.Sorted.IsNonDecreasingBy, List.Sorted.IsPermutation}
+use Rattle.std.proofs.lemmas.{Bool.and_left, Bool.and_right, Bool.cases_Bool, Bool.cases_lt, Bool.eq-eqb, Bool.eqb-true, Bool.lt-ltb, Bool.ne_eqb, Bool.or_from, List.length-append, List.map-append, List.Elements.filter-append, List.Elements.recursion_from_All, List.Sums.sum_by-cons, List.Sorted.IsPermutation-append, List.Sorted.IsPermutation-filter_both, List.Sorted.IsPermutation-map, List.Sorted.IsPermutation-refl, List.Sorted.IsPermutation-sym, List.Sorted.IsPermutation-trans, List.Sorted.length_permutation, List.Sorted.list_any-IsPermutation, List.Sorted.sum_by-IsPermutation}
+use Rattle.std.proofs.lemmas.Bool.{or_parts as or_both}
+use Rattle.srp_base.proofs.Lists.{each_append as all_join}
+use Rattle.srp_base.specs.declared.{numbers.Cs.Cs, numbers.StreamId.StreamId}
+use Rattle.stream_importance.specs.declared.{entry.Entry.Entry, entry.Want.Want, slope.Caps.Caps}
 use Rattle.stream_importance.specs.Importance.{IsImportanceOrder}
 use Rattle.port_ledger.specs.declared.totals.Totals.{Totals}
-use Rattle.port_ledger.specs.Book.{booked_only_in, entry_of, same_entry, same_since, same_want, unbooked_entry, with_want, without}
-use Rattle.port_ledger.specs.Decision.{stream_of, booked_of, decided_entries, is_booked, since_after, AreOfDifferentStreams, IsAscending}
-use Rattle.port_ledger.specs.Front.{AreBehind, IsFront}
-use Rattle.port_ledger.specs.Notes.{booking_of, gains, has_booking, has_move, has_passed, loses, moves, noted, stream_where, streams_passed, AreRising}
-use Rattle.port_ledger.specs.Totals.{both_of}
-use Rattle.port_ledger.specs.Pass.{entries_passed, exchanged, has_room, has_same, has_want, importance_order, sum_with}
-use Rattle.port_ledger.proofs.Comparing.{in_own, nothing_changed, only_in}
-use Rattle.port_ledger.proofs.Finding.{differ}
-use Rattle.port_ledger.proofs.Fronts.{behind_different, joined_behind, joined_different}
-use Rattle.port_ledger.proofs.Keeping.{all-without}
-use Rattle.port_ledger.proofs.LettingIn.{is_among, streams_let_in, taken_runs}
-use Rattle.port_ledger.proofs.Marking.{different_from_ascending}
-use Rattle.port_ledger.proofs.Moving.{filter_permuted}
-use Rattle.port_ledger.proofs.Passing.{only_own, passed_is, runs_on, settled_at}
-use Rattle.port_ledger.proofs.PerStream.{same_entry-is, same_entry-refl, same_want-refl}
-use Rattle.port_ledger.proofs.Ranking.{all_permuted, different_permuted, IsPermutation-ranked}
-use Rattle.port_ledger.proofs.Rounds.{filter_agree}
-use Rattle.port_ledger.proofs.Running.{all_with, Runs}
-use Rattle.port_ledger.proofs.Settling.{all_join, all_left}
-use Rattle.port_ledger.proofs.Sorting.{ascending-filter, none_filtered, only_permuted}
+use Rattle.port_ledger.specs.{booked_only_in, entry_of, same_entry, same_since, same_want, unbooked_entry, with_want, without, stream_of, booked_of, decided_entries, is_booked, since_after, AreOfDifferentStreams, IsAscending, AreBehind, IsFront, booking_of, gains, has_booking, has_move, has_passed, loses, moves, noted, stream_where, streams_passed, AreRising, both_of, entries_passed, exchanged, has_room, has_same, has_want, importance_order, sum_with}
+use Rattle.port_ledger.proofs.{Comparing.in_own, Comparing.nothing_changed, Comparing.only_in, Finding.differ, Fronts.behind_different, Fronts.joined_behind, Fronts.joined_different, Keeping.all-without, LettingIn.is_among, LettingIn.streams_let_in, LettingIn.taken_runs, Marking.different_from_ascending, Moving.filter_permuted, Passing.only_own, Passing.passed_is, Passing.runs_on, Passing.settled_at, PerStream.same_entry-is, PerStream.same_entry-refl, PerStream.same_want-refl, Ranking.all_permuted, Ranking.different_permuted, Ranking.IsPermutation-ranked, Rounds.filter_agree, Running.all_with, Running.Runs, Settling.all_left, Sorting.ascending-filter, Sorting.none_filtered, Sorting.only_permuted}
 
 -- ---- what there is room for
 
@@ -449,10 +425,6 @@ empty_permuted (x ∷ xs) ys p e =
     let same = length_permutation (x ∷ xs) ys p in
     let none = ap length e in
     absurd (omega (arith, same, none))
-
-or_both : (p q : Bool) → (p || q) ≡ false → (p ≡ false) × (q ≡ false)
-or_both true q h = absurd (true≢false h)
-or_both false q h = (refl, h)
 
 empty_where : (v : Bool) (x : Entry) (ys : List StreamId) → stream_where v x ++ ys ≡ [] → (v ≡ false) × (ys ≡ [])
 empty_where true x ys e = let long : suc (length ys) ≡ 0 = ap length e in absurd (omega (arith, long))

@@ -1,23 +1,13 @@
 -- One pass in the order of importance sets the moments of a decision, in the order and among the entries.
 use Rattle.std.proofs.Common.{◌≡◌, ◌≢◌, ℕ, zero, suc, ◌+◌, ◌<◌, Bool, true, false, not, ◌&&◌, ◌==◌, ◌||◌, cond, List, [], ◌∷◌, ◌++◌, map, length, get_or, set, take, drop, Option, refl, sym, ◌∙◌, ap, subst, arith, inl, inr, append_assoc, drop-cons, drop-set-lt, take-suc-set, Some, None, is_some}
-use Rattle.std.specs.List.{AllByRecursion, AllWithin, list_any}
-use Rattle.std.specs.List.Sorted.{IsPermutation}
-use Rattle.std.proofs.lemmas.Bool.{eq-eqb, ne_eqb, eqb-true, cases_Bool, cases_lt, or_from, or_left, or_right, cond-true, cond-false}
-use Rattle.std.proofs.lemmas.List.Elements.{All-from_recursion}
-use Rattle.std.proofs.lemmas.List.Sorted.{IsPermutation-map, IsPermutation-trans, IsPermutation-sym, list_any-IsPermutation}
+use Rattle.std.specs.{List.AllByRecursion, List.AllWithin, List.list_any, List.Sorted.IsPermutation, Ordering.is_lt, Ordering.nat_cmp, Ordering.ordering_then}
+use Rattle.std.proofs.lemmas.{Bool.eq-eqb, Bool.ne_eqb, Bool.eqb-true, Bool.cases_Bool, Bool.cases_lt, Bool.or_from, Bool.or_left, Bool.or_right, Bool.cond-true, Bool.cond-false, List.Elements.All-from_recursion, List.Sorted.IsPermutation-map, List.Sorted.IsPermutation-trans, List.Sorted.IsPermutation-sym, List.Sorted.list_any-IsPermutation}
+use Rattle.std.proofs.lemmas.Bool.{or_parts as or_none}
 use Rattle.srp_base.specs.declared.numbers.Cs.{Cs}
-use Rattle.stream_importance.specs.declared.entry.Entry.{Entry}
-use Rattle.stream_importance.specs.declared.slope.Caps.{Caps}
+use Rattle.stream_importance.specs.declared.{entry.Entry.Entry, slope.Caps.Caps}
 use Rattle.stream_importance.specs.Importance.{class_number, moment_or, rank_number, IsImportanceOrder}
-use Rattle.std.specs.Ordering.{is_lt, nat_cmp, ordering_then}
-use Rattle.port_ledger.specs.Decision.{stream_of, comes_after, entry_slope, with_moments, since_after, decided_entries, IsAscending, AreOfDifferentStreams}
-use Rattle.port_ledger.specs.Pass.{importance_order, has_room, place, sum_with, entries_passed, with_pass, with_since, IsOnlyIn}
-use Rattle.port_ledger.specs.Notes.{has_loss, loses}
-use Rattle.port_ledger.proofs.Running.{Holds, IsRanked, Runs, all_with, holds_from_runs}
-use Rattle.port_ledger.proofs.Ranking.{IsPermutation-ranked, ranked_is_ranked, holds_permuted, all_permuted, different_permuted}
-use Rattle.port_ledger.proofs.LettingIn.{is_among, streams_let_in, taken_runs}
-use Rattle.port_ledger.proofs.Marking.{different_from_ascending}
-use Rattle.port_ledger.proofs.Rounds.{decided_by_choice}
+use Rattle.port_ledger.specs.{stream_of, comes_after, entry_slope, with_moments, since_after, decided_entries, IsAscending, AreOfDifferentStreams, importance_order, has_room, place, sum_with, entries_passed, with_pass, with_since, IsOnlyIn, has_loss, loses}
+use Rattle.port_ledger.proofs.{Running.Holds, Running.IsRanked, Running.Runs, Running.all_with, Running.holds_from_runs, Ranking.IsPermutation-ranked, Ranking.ranked_is_ranked, Ranking.holds_permuted, Ranking.all_permuted, Ranking.different_permuted, LettingIn.is_among, LettingIn.streams_let_in, LettingIn.taken_runs, Marking.different_from_ascending, Rounds.decided_by_choice}
 
 -- an entry with the moment that a choice gives it
 abbrev pub settled_at : ℕ → (Entry → Bool) → Entry → Entry
@@ -339,10 +329,6 @@ moment_stays now x None true e h = refl
 moment_stays now x None false e h = refl
 moment_stays now x (Some t) true e h = refl
 moment_stays now x (Some t) false e h = absurd (let lost : true ≡ false = sym (ap is_some e) ∙ h in cc)
-
-or_none : (p q : Bool) → (p || q) ≡ false → (p ≡ false) × (q ≡ false)
-or_none true q h = absurd (let none : true ≡ false = h in cc)
-or_none false q h = (refl, h)
 
 module _ (now : ℕ) (caps : Caps) where
   all_passed : (x : Entry) (v : Bool) (sum : ℕ) (ys : List Entry) → loses x v ≡ false → AllByRecursion (λ y. comes_after now y x ≡ true) ys → has_loss caps sum ys ≡ false

@@ -3,25 +3,11 @@ use Rattle.std.proofs.Common.{◌≡◌, ◌≢◌, ◌↔◌, ℕ, ◌<◌, Boo
 use Rattle.std.specs.Prelude.{find}
 use Rattle.std.specs.List.{AllByRecursion}
 use Rattle.std.proofs.lemmas.Bool.{eq-eqb, ne_eqb, and_parts, and_from, cases_order, cases_Bool, cond-true, cond-false, eqb-true, eqb-false}
-use Rattle.srp_base.specs.declared.numbers.Cs.{Cs}
-use Rattle.srp_base.specs.declared.numbers.StreamId.{StreamId}
-use Rattle.srp_base.specs.declared.bandwidth.Class.{Class}
-use Rattle.srp_base.specs.declared.bandwidth.Class.TheVariants.{A, B}
-use Rattle.srp_base.specs.declared.bandwidth.Rank.{Rank}
-use Rattle.srp_base.specs.declared.bandwidth.Rank.TheVariants.{Emergency, Normal}
-use Rattle.stream_importance.specs.declared.entry.Entry.{Entry}
-use Rattle.stream_importance.specs.declared.entry.Want.{Want}
-use Rattle.stream_importance.specs.declared.entry.Fit.{Fit}
-use Rattle.stream_importance.specs.declared.entry.Fit.TheVariants.{Fits, TooLittle}
-use Rattle.stream_importance.specs.declared.slope.Caps.{Caps}
-use Rattle.stream_importance.specs.Bandwidth.{cap_of}
-use Rattle.stream_importance.specs.Importance.{class_number, rank_number, IsImportanceOrder}
-use Rattle.port_ledger.specs.Decision.{stream_of, decided_entries, decided_set, booked_of, is_booked, does_fit, above, marks_of, with_moments, since_after, IsAscending, IsDecision, Decides}
-use Rattle.port_ledger.specs.Book.{entry_of, entry_with, want_of, since_of, since_if_same, same_entry, same_since, same_want, unbooked_entry, with_want, tested_entry, fit_in, code_of}
-use Rattle.port_ledger.proofs.Finding.{with_want-lower, with_want-same, with_want-higher}
-use Rattle.port_ledger.proofs.Marking.{marked-map, decision_unique, different_from_ascending}
-use Rattle.port_ledger.proofs.Running.{all_with}
-use Rattle.port_ledger.proofs.Standing.{settled-own}
+use Rattle.srp_base.specs.declared.{numbers.Cs.Cs, numbers.StreamId.StreamId, bandwidth.Class.Class, bandwidth.Class.TheVariants.A, bandwidth.Class.TheVariants.B, bandwidth.Rank.Rank, bandwidth.Rank.TheVariants.Emergency, bandwidth.Rank.TheVariants.Normal}
+use Rattle.stream_importance.specs.declared.{entry.Entry.Entry, entry.Want.Want, entry.Fit.Fit, entry.Fit.TheVariants.Fits, entry.Fit.TheVariants.TooLittle, slope.Caps.Caps}
+use Rattle.stream_importance.specs.{Bandwidth.cap_of, Importance.class_number, Importance.rank_number, Importance.IsImportanceOrder}
+use Rattle.port_ledger.specs.{stream_of, decided_entries, decided_set, booked_of, is_booked, does_fit, above, marks_of, with_moments, since_after, IsAscending, IsDecision, Decides, entry_of, entry_with, want_of, since_of, since_if_same, same_entry, same_since, same_want, unbooked_entry, with_want, tested_entry, fit_in, code_of}
+use Rattle.port_ledger.proofs.{Finding.with_want-lower, Finding.with_want-same, Finding.with_want-higher, Marking.marked-map, Marking.decision_unique, Marking.different_from_ascending, Running.all_with, Standing.settled-own}
 
 -- where two functions agree on a list, they agree on what is found in it
 map_found : (f g p : Entry → Bool) (xs : List Entry) → map f xs ≡ map g xs → IfSome (find p xs) (λ x. f x ≡ g x)

@@ -1,18 +1,11 @@
 -- The entries in the order of importance, and what doesn't depend on the order of a list.
 use Rattle.std.proofs.Common.{◌≡◌, ◌≢◌, ◌⊎◌, ℕ, ◌+◌, ◌≤◌, Bool, true, false, not, ◌==◌, cond, List, [], ◌∷◌, refl, sym, ◌∙◌, ap, subst, arith, inl, inr, true≢false, zero-add}
 use Rattle.std.specs.Prelude.{nat_le}
-use Rattle.std.specs.List.{AllByRecursion}
-use Rattle.std.specs.List.Sorted.{IsPermutation}
-use Rattle.std.proofs.lemmas.List.Sorted.{IsPermutation-refl, IsPermutation-cons, IsPermutation-swap, IsPermutation-trans, All-permutation, sum_by-IsPermutation}
-use Rattle.std.proofs.lemmas.List.Elements.{All-from_recursion, recursion_from_All}
-use Rattle.std.proofs.lemmas.List.Recursion.{is_sum_by}
-use Rattle.std.proofs.lemmas.Bool.{ne_eqb, eq-eqb, and_parts, and_from, not_from_false, cases_Bool, eqb-true}
-use Rattle.stream_importance.specs.declared.entry.Entry.{Entry}
-use Rattle.stream_importance.specs.declared.slope.Caps.{Caps}
-use Rattle.stream_importance.specs.Bandwidth.{cap_of}
-use Rattle.stream_importance.specs.Importance.{is_more_important, IsImportanceOrder}
-use Rattle.port_ledger.specs.Decision.{stream_of, entry_slope, comes_after, AreOfDifferentStreams}
-use Rattle.port_ledger.specs.Pass.{place, importance_order}
+use Rattle.std.specs.{List.AllByRecursion, List.Sorted.IsPermutation}
+use Rattle.std.proofs.lemmas.{List.Sorted.IsPermutation-refl, List.Sorted.IsPermutation-cons, List.Sorted.IsPermutation-swap, List.Sorted.IsPermutation-trans, List.Sorted.All-permutation, List.Sorted.sum_by-IsPermutation, List.Elements.All-from_recursion, List.Elements.recursion_from_All, List.Recursion.is_sum_by, Bool.ne_eqb, Bool.eq-eqb, Bool.and_parts, Bool.and_from, Bool.not_from_false, Bool.cases_Bool, Bool.eqb-true}
+use Rattle.stream_importance.specs.declared.{entry.Entry.Entry, slope.Caps.Caps}
+use Rattle.stream_importance.specs.{Bandwidth.cap_of, Importance.is_more_important, Importance.IsImportanceOrder}
+use Rattle.port_ledger.specs.{stream_of, entry_slope, comes_after, AreOfDifferentStreams, place, importance_order}
 use Rattle.port_ledger.proofs.Running.{part, IsRanked, Holds, all_with}
 
 -- of two entries of different streams one goes before the other

@@ -3,15 +3,10 @@ use Rattle.std.proofs.Common.{◌≡◌, ℕ, zero, suc, ◌+◌, Bool, false, c
 use Rattle.std.specs.Prelude.{nat_le}
 use Rattle.std.specs.List.{AllByRecursion}
 use Rattle.std.proofs.lemmas.List.Sorted.{IsPermutation-sym, length_permutation}
-use Rattle.stream_importance.specs.declared.entry.Entry.{Entry}
-use Rattle.stream_importance.specs.declared.slope.Caps.{Caps}
-use Rattle.stream_importance.specs.Bandwidth.{cap_of}
-use Rattle.stream_importance.specs.Importance.{IsImportanceOrder}
-use Rattle.port_ledger.specs.Decision.{entry_slope, comes_after, does_fit, set_after, decided_set, decided_entries, with_moments, marks_of, IsDecision, Decides, AreOfDifferentStreams}
-use Rattle.port_ledger.specs.Pass.{importance_order}
-use Rattle.port_ledger.proofs.Running.{total, total-head, total-tail, Holds, IsRanked, all_with}
-use Rattle.port_ledger.proofs.Ranking.{IsPermutation-ranked, ranked_is_ranked, part-IsPermutation, all_permuted, holds_permuted}
-use Rattle.port_ledger.proofs.Marking.{all_of, choice, choice_above, map_agree, marks_of-settled, holds_from_decision, decision_from_holds, decision_exists}
+use Rattle.stream_importance.specs.declared.{entry.Entry.Entry, slope.Caps.Caps}
+use Rattle.stream_importance.specs.{Bandwidth.cap_of, Importance.IsImportanceOrder}
+use Rattle.port_ledger.specs.{entry_slope, comes_after, does_fit, set_after, decided_set, decided_entries, with_moments, marks_of, IsDecision, Decides, AreOfDifferentStreams, importance_order}
+use Rattle.port_ledger.proofs.{Running.total, Running.total-head, Running.total-tail, Running.Holds, Running.IsRanked, Running.all_with, Ranking.IsPermutation-ranked, Ranking.ranked_is_ranked, Ranking.part-IsPermutation, Ranking.all_permuted, Ranking.holds_permuted, Marking.all_of, Marking.choice, Marking.choice_above, Marking.map_agree, Marking.marks_of-settled, Marking.holds_from_decision, Marking.decision_from_holds, Marking.decision_exists}
 
 -- two choices agree on the first entries
 abbrev AgreeOn : ℕ → (b c : Entry → Bool) → List Entry → Type 0

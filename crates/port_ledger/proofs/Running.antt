@@ -3,13 +3,10 @@
 use Rattle.std.proofs.Common.{◌≡◌, ℕ, ◌+◌, Bool, true, false, not, ◌==◌, cond, List, [], ◌∷◌, filter, sum_by, refl, sym, ◌∙◌, ap, arith, zero-add}
 use Rattle.std.specs.Prelude.{nat_le}
 use Rattle.std.specs.List.{AllByRecursion}
-use Rattle.std.proofs.lemmas.List.Sums.{sum_by-cons}
-use Rattle.std.proofs.lemmas.Bool.{eq-eqb, and_parts, and_left, and_right, false_from_ne_true, not_from_true, cond-false, cond-true}
-use Rattle.stream_importance.specs.declared.entry.Entry.{Entry}
-use Rattle.stream_importance.specs.declared.slope.Caps.{Caps}
-use Rattle.stream_importance.specs.Bandwidth.{cap_of}
-use Rattle.stream_importance.specs.Importance.{is_more_important, IsImportanceOrder}
-use Rattle.port_ledger.specs.Decision.{stream_of, entry_slope, comes_after, above}
+use Rattle.std.proofs.lemmas.{List.Sums.sum_by-cons, Bool.eq-eqb, Bool.and_parts, Bool.and_left, Bool.and_right, Bool.false_from_ne_true, Bool.not_from_true, Bool.cond-false, Bool.cond-true}
+use Rattle.stream_importance.specs.declared.{entry.Entry.Entry, slope.Caps.Caps}
+use Rattle.stream_importance.specs.{Bandwidth.cap_of, Importance.is_more_important, Importance.IsImportanceOrder}
+use Rattle.port_ledger.specs.{stream_of, entry_slope, comes_after, above}
 pub use Rattle.port_ledger.specs.Front.{IsRanked, Runs}
 
 -- what the chosen entries of one kind take, as a sum over all entries

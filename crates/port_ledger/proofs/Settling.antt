@@ -1,27 +1,15 @@
 -- A front of the order of importance: what it is, that it stays as time passes, and how it grows.
 use Rattle.std.proofs.Common.{◌≡◌, ℕ, zero, suc, ◌+◌, ◌<◌, ◌≤◌, Bool, true, false, not, ◌&&◌, ◌||◌, cond, get_or, List, [], ◌∷◌, ◌++◌, length, take, drop, Option, Some, refl, sym, ◌∙◌, ap, subst, arith, append_assoc, inl, inr}
 use Rattle.std.specs.Prelude.{nat_le}
-use Rattle.std.specs.List.{AllByRecursion}
-use Rattle.std.specs.List.Sorted.{IsPartitionedBy}
-use Rattle.std.proofs.lemmas.Bool.{and_cases, and_from, and_left, and_parts, and_right, cases_Bool, cases_lt, not_from_false, or_left, or_right}
-use Rattle.std.proofs.lemmas.List.{drop_at, length-append, length-take-le, take_at, take-append-drop}
-use Rattle.std.proofs.lemmas.List.Elements.{All-from_recursion}
-use Rattle.stream_importance.specs.declared.entry.Entry.{Entry}
-use Rattle.stream_importance.specs.declared.slope.Caps.{Caps}
-use Rattle.stream_importance.specs.Bandwidth.{cap_of}
-use Rattle.stream_importance.specs.Importance.{IsImportanceOrder}
-use Rattle.port_ledger.specs.Decision.{entry_slope, comes_after, is_booked}
-use Rattle.port_ledger.specs.Front.{AreLasting, first_booked, first_level, has_level, is_of_level, is_prior_to, level_of, IsAhead, IsBehind, IsSettled, same_level, settled_front, settled_levels, stays_after, stays_behind}
-use Rattle.port_ledger.specs.Pass.{place, importance_order}
-use Rattle.port_ledger.proofs.Levels.{after_behind, after_later, after_parts, behind_later, behind_parts, below_from, comes_level, differ, level, not_same, prior_back, prior_beyond, same_is}
-use Rattle.port_ledger.proofs.Marking.{all_of}
-use Rattle.port_ledger.proofs.Running.{all_with, Holds, IsRanked, Runs, total, total-head, total-tail}
+use Rattle.std.specs.{List.AllByRecursion, List.Sorted.IsPartitionedBy}
+use Rattle.std.proofs.lemmas.{Bool.and_cases, Bool.and_from, Bool.and_left, Bool.and_parts, Bool.and_right, Bool.cases_Bool, Bool.cases_lt, Bool.not_from_false, Bool.or_left, Bool.or_right, List.drop_at, List.length-append, List.length-take-le, List.take_at, List.take-append-drop, List.Elements.All-from_recursion}
+use Rattle.srp_base.proofs.Lists.{each_append as all_join, all_taken}
+use Rattle.stream_importance.specs.declared.{entry.Entry.Entry, slope.Caps.Caps}
+use Rattle.stream_importance.specs.{Bandwidth.cap_of, Importance.IsImportanceOrder}
+use Rattle.port_ledger.specs.{entry_slope, comes_after, is_booked, AreLasting, first_booked, first_level, has_level, is_of_level, is_prior_to, level_of, IsAhead, IsBehind, IsSettled, same_level, settled_front, settled_levels, stays_after, stays_behind, place, importance_order}
+use Rattle.port_ledger.proofs.{Levels.after_behind, Levels.after_later, Levels.after_parts, Levels.behind_later, Levels.behind_parts, Levels.below_from, Levels.comes_level, Levels.differ, Levels.level, Levels.not_same, Levels.prior_back, Levels.prior_beyond, Levels.same_is, Marking.all_of, Running.all_with, Running.Holds, Running.IsRanked, Running.Runs, Running.total, Running.total-head, Running.total-tail}
 
 -- ---- lists of facts
-
-pub all_join : {X : Type 0} (P : X → Type 0) (xs ys : List X) → AllByRecursion P xs → AllByRecursion P ys → AllByRecursion P (xs ++ ys)
-all_join P [] ys p q = q
-all_join P (x ∷ xs) ys p q = (p.0, all_join P xs ys p.1 q)
 
 pub all_left : {X : Type 0} (P : X → Type 0) (xs ys : List X) → AllByRecursion P (xs ++ ys) → AllByRecursion P xs
 all_left P [] ys p = tt
@@ -30,12 +18,6 @@ all_left P (x ∷ xs) ys p = (p.0, all_left P xs ys p.1)
 pub all_right : {X : Type 0} (P : X → Type 0) (xs ys : List X) → AllByRecursion P (xs ++ ys) → AllByRecursion P ys
 all_right P [] ys p = p
 all_right P (x ∷ xs) ys p = all_right P xs ys p.1
-
-all_taken : {X : Type 0} (P : X → Type 0) (n : ℕ) (xs : List X) → AllByRecursion P xs → AllByRecursion P (take n xs)
-all_taken P zero [] p = tt
-all_taken P zero (x ∷ xs) p = tt
-all_taken P (suc n) [] p = tt
-all_taken P (suc n) (x ∷ xs) p = (p.0, all_taken P n xs p.1)
 
 all_dropped : {X : Type 0} (P : X → Type 0) (n : ℕ) (xs : List X) → AllByRecursion P xs → AllByRecursion P (drop n xs)
 all_dropped P zero [] p = tt

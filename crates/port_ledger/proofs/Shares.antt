@@ -1,25 +1,14 @@
 -- The booked slopes stay within the caps.
 use Rattle.std.proofs.Common.{◌≡◌, ◌⊎◌, ℕ, ◌+◌, ◌≤◌, Bool, true, false, not, ◌==◌, cond, List, [], ◌∷◌, filter, sum_by, refl, sym, ◌∙◌, ap, subst, arith, inl, inr}
 use Rattle.std.specs.Prelude.{nat_le}
-use Rattle.std.specs.declared.cmp.Ordering.{Ordering}
-use Rattle.std.specs.declared.cmp.Ordering.TheVariants.{Less, Equal, Greater}
-use Rattle.std.specs.Ordering.{nat_cmp, is_lt, ordering_then}
-use Rattle.std.specs.List.{AllByRecursion}
+use Rattle.std.specs.{declared.cmp.Ordering.Ordering, declared.cmp.Ordering.TheVariants.Less, declared.cmp.Ordering.TheVariants.Equal, declared.cmp.Ordering.TheVariants.Greater, Ordering.nat_cmp, Ordering.is_lt, Ordering.ordering_then, List.AllByRecursion}
 use Rattle.std.proofs.lemmas.Bool.{and_parts, leb-true}
-use Rattle.srp_base.specs.declared.bandwidth.Class.{Class}
-use Rattle.srp_base.specs.declared.bandwidth.Class.TheVariants.{A, B}
-use Rattle.stream_importance.specs.declared.entry.Entry.{Entry}
-use Rattle.stream_importance.specs.declared.entry.Fit.{Fit}
-use Rattle.stream_importance.specs.declared.entry.Fit.TheVariants.{Fits, TooLittle}
-use Rattle.stream_importance.specs.declared.slope.Caps.{Caps}
-use Rattle.stream_importance.specs.Bandwidth.{cap_of}
-use Rattle.stream_importance.specs.Importance.{class_number, rank_number, moment_or, is_more_important, IsImportanceOrder}
-use Rattle.port_ledger.specs.Decision.{stream_of, entry_slope, above, does_fit, comes_after, is_booked, booked_of, marks_of, IsDecision, AreOfDifferentStreams}
-use Rattle.port_ledger.specs.Book.{Book, IsKept, IsFitWithin, booked_slope, code_of, fit_in}
-use Rattle.port_ledger.proofs.Running.{part, sum-filter, weight-no, weight-yes, IsRanked, Runs, all_with}
-use Rattle.port_ledger.specs.Pass.{importance_order}
-use Rattle.port_ledger.proofs.Ranking.{ranked_is_ranked, IsPermutation-ranked, part-IsPermutation}
-use Rattle.port_ledger.proofs.Marking.{choice, different_from_ascending, marked-map, marked-choice, holds_from_decision, ranked_runs}
+use Rattle.srp_base.specs.declared.{bandwidth.Class.Class, bandwidth.Class.TheVariants.A, bandwidth.Class.TheVariants.B}
+use Rattle.stream_importance.specs.declared.{entry.Entry.Entry, entry.Fit.Fit, entry.Fit.TheVariants.Fits, entry.Fit.TheVariants.TooLittle, slope.Caps.Caps}
+use Rattle.stream_importance.specs.{Bandwidth.cap_of, Importance.class_number, Importance.rank_number, Importance.moment_or, Importance.is_more_important, Importance.IsImportanceOrder}
+use Rattle.port_ledger.specs.{stream_of, entry_slope, above, does_fit, comes_after, is_booked, booked_of, marks_of, IsDecision, AreOfDifferentStreams, IsKept, IsFitWithin, booked_slope, code_of, fit_in, importance_order}
+use Rattle.port_ledger.specs.Book.{Book}
+use Rattle.port_ledger.proofs.{Running.part, Running.sum-filter, Running.weight-no, Running.weight-yes, Running.IsRanked, Running.Runs, Running.all_with, Ranking.ranked_is_ranked, Ranking.IsPermutation-ranked, Ranking.part-IsPermutation, Marking.choice, Marking.different_from_ascending, Marking.marked-map, Marking.marked-choice, Marking.holds_from_decision, Marking.ranked_runs}
 
 -- the entries of a class
 abbrev pub is_of : Class → Entry → Bool

@@ -4,8 +4,7 @@ use Rattle.std.specs.List.{swap}
 use Rattle.std.proofs.lemmas.List.{drop_all, get_or_default}
 use borrow.Rule.Slice.PartMut.{mid_of, put_mid}
 use Rattle.stream_importance.specs.declared.entry.Entry.{Entry}
-use Rattle.port_ledger.specs.Decision.{comes_after}
-use Rattle.port_ledger.specs.Pass.{place, place_first, importance_order}
+use Rattle.port_ledger.specs.{comes_after, place, place_first, importance_order}
 
 -- an exchange behind the first entry
 swap_cons : (e : Entry) (xs : List Entry) (i j : ℕ) → i < length xs → j < length xs

@@ -1,20 +1,10 @@
 -- What changed between two lists is what changed between those of their entries that they don't share.
 use Rattle.std.proofs.Common.{◌≡◌, ◌≢◌, ◌<◌, Bool, true, false, not, ◌&&◌, ◌||◌, cond, List, [], ◌∷◌, ◌++◌, filter, refl, sym, ◌∙◌, ap, subst}
-use Rattle.std.specs.List.{AllByRecursion, list_any}
-use Rattle.std.specs.List.Sorted.{IsPermutation}
-use Rattle.std.proofs.lemmas.Bool.{or_from, or_left}
-use Rattle.std.proofs.lemmas.List.Sorted.{list_any-IsPermutation}
+use Rattle.std.specs.{List.AllByRecursion, List.list_any, List.Sorted.IsPermutation}
+use Rattle.std.proofs.lemmas.{Bool.or_from, Bool.or_left, List.Sorted.list_any-IsPermutation}
 use Rattle.stream_importance.specs.declared.entry.Entry.{Entry}
-use Rattle.port_ledger.specs.Decision.{stream_of, is_booked, AreOfDifferentStreams, IsAscending}
-use Rattle.port_ledger.specs.Book.{same_entry}
-use Rattle.port_ledger.specs.Front.{AreBehind}
-use Rattle.port_ledger.proofs.Comparing.{in_own, only_in}
-use Rattle.port_ledger.proofs.Finding.{differ}
-use Rattle.port_ledger.proofs.Marking.{different_from_ascending}
-use Rattle.port_ledger.proofs.Moving.{filter_permuted}
-use Rattle.port_ledger.proofs.Ranking.{different_permuted}
-use Rattle.port_ledger.proofs.Rounds.{filter_agree}
-use Rattle.port_ledger.proofs.Running.{all_with}
+use Rattle.port_ledger.specs.{stream_of, is_booked, AreOfDifferentStreams, IsAscending, same_entry, AreBehind}
+use Rattle.port_ledger.proofs.{Comparing.in_own, Comparing.only_in, Finding.differ, Marking.different_from_ascending, Moving.filter_permuted, Ranking.different_permuted, Rounds.filter_agree, Running.all_with}
 
 all_filtered : (P : Entry → Type 0) (p : Entry → Bool) (xs : List Entry) → AllByRecursion P xs → AllByRecursion P (filter p xs)
 all_filtered P p [] h = tt

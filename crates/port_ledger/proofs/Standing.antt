@@ -1,27 +1,15 @@
 -- A decision stands when moments are set and time passes.
 use Rattle.std.proofs.Common.{◌≡◌, ℕ, ◌+◌, ◌<◌, ◌≤◌, Bool, true, false, not, ◌==◌, cond, List, [], ◌∷◌, map, Option, Some, None, is_some, refl, sym, ◌∙◌, ap, subst, arith, inl, inr}
 use Rattle.std.specs.Prelude.{nat_le}
-use Rattle.std.specs.declared.cmp.Ordering.{Ordering}
-use Rattle.std.specs.declared.cmp.Ordering.TheVariants.{Less, Equal, Greater}
-use Rattle.std.specs.Ordering.{nat_cmp, is_lt, ordering_then}
-use Rattle.std.specs.List.{AllByRecursion}
-use Rattle.std.proofs.lemmas.Bool.{and_parts, and_from, cases_order, leb-false, lt-leb}
-use Rattle.std.proofs.lemmas.Bool.Decides.{nat_tests}
+use Rattle.std.specs.{declared.cmp.Ordering.Ordering, declared.cmp.Ordering.TheVariants.Less, declared.cmp.Ordering.TheVariants.Equal, declared.cmp.Ordering.TheVariants.Greater, Ordering.nat_cmp, Ordering.is_lt, Ordering.ordering_then, List.AllByRecursion}
+use Rattle.std.proofs.lemmas.{Bool.and_parts, Bool.and_from, Bool.cases_order, Bool.leb-false, Bool.lt-leb, Bool.Decides.nat_tests}
+use Rattle.srp_base.proofs.Arithmetic.{less_is_below, same_is_equal}
 use Rattle.srp_base.specs.declared.numbers.Cs.{Cs}
-use Rattle.stream_importance.specs.declared.entry.Entry.{Entry}
-use Rattle.stream_importance.specs.declared.slope.Caps.{Caps}
-use Rattle.stream_importance.specs.Bandwidth.{cap_of}
-use Rattle.stream_importance.specs.Importance.{class_number, rank_number, moment_or, is_more_important}
-use Rattle.port_ledger.specs.Decision.{stream_of, entry_slope, comes_after, above, does_fit, marked_set, IsDecision, marks_of, since_after, with_moments, Decides}
-use Rattle.port_ledger.specs.Book.{Book, IsKept}
+use Rattle.stream_importance.specs.declared.{entry.Entry.Entry, slope.Caps.Caps}
+use Rattle.stream_importance.specs.{Bandwidth.cap_of, Importance.class_number, Importance.rank_number, Importance.moment_or, Importance.is_more_important}
+use Rattle.port_ledger.specs.{stream_of, entry_slope, comes_after, above, does_fit, marked_set, IsDecision, marks_of, since_after, with_moments, Decides, IsKept}
+use Rattle.port_ledger.specs.Book.{Book}
 use Rattle.port_ledger.proofs.Running.{sum-filter-cons}
-
--- a later moment of the other entry makes nothing less important than it was
-pub less_is_below : (p q : ℕ) → p < q → nat_cmp p q ≡ Less
-less_is_below p q h = grind (arith, nat_tests)
-
-pub same_is_equal : (p q : ℕ) → p ≡ q → nat_cmp p q ≡ Equal
-same_is_equal p q h = grind (arith, nat_tests)
 
 pub above_is_greater : (p q : ℕ) → q < p → nat_cmp p q ≡ Greater
 above_is_greater p q h = grind (arith, nat_tests)

@@ -1,24 +1,15 @@
 -- The totals of a ledger's entries: one entry more, and a later moment.
 use Rattle.std.proofs.Common.{◌≡◌, ℕ, suc, ◌+◌, ◌<◌, ◌≤◌, ◌^◌, Bool, true, false, ◌&&◌, ◌||◌, ◌==◌, if◌then◌else◌, List, [], ◌∷◌, ◌++◌, filter, sum_by, take, drop, drop-cons, get_or, length, zero-add, Option, Some, None, refl, sym, ap, ◌∙◌, arith}
 use Rattle.std.specs.Prelude.{nat_lt}
-use Rattle.std.specs.List.{AllByRecursion, list_any}
-use Rattle.std.specs.List.Sorted.{IsPermutation}
-use Rattle.std.proofs.lemmas.Bool.{lt-ltb}
-use Rattle.std.proofs.lemmas.Bool.Decides.{nat_tests}
-use Rattle.std.proofs.lemmas.List.Sorted.{sum_by-IsPermutation}
-use Rattle.std.proofs.lemmas.List.{drop_all, take-append-drop}
-use Rattle.std.proofs.lemmas.List.Sums.{sum_by-cons}
-use Rattle.srp_base.specs.declared.numbers.Cs.{Cs}
-use Rattle.srp_base.specs.declared.bandwidth.Class.{Class}
-use Rattle.srp_base.specs.declared.bandwidth.Class.TheVariants.{A, B}
+use Rattle.std.specs.{List.AllByRecursion, List.list_any, List.Sorted.IsPermutation}
+use Rattle.std.proofs.lemmas.{Bool.lt-ltb, Bool.Decides.nat_tests, List.Sorted.sum_by-IsPermutation, List.drop_all, List.take-append-drop, List.Sums.sum_by-cons}
+use Rattle.srp_base.specs.declared.{numbers.Cs.Cs, bandwidth.Class.Class, bandwidth.Class.TheVariants.A, bandwidth.Class.TheVariants.B}
 use Rattle.stream_importance.specs.declared.entry.Entry.{Entry}
 use Rattle.stream_importance.specs.Importance.{class_number, moment_or, IsImportanceOrder}
 use Rattle.port_ledger.specs.declared.totals.Totals.{Totals}
-use Rattle.port_ledger.specs.Decision.{entry_slope, is_booked}
-use Rattle.port_ledger.specs.Book.{Book, IsKept, booked_slope, is_since}
-use Rattle.port_ledger.specs.Totals.{later_totals, new_within, slope_within, together, totals_of}
-use Rattle.port_ledger.proofs.Moving.{filter_permuted}
-use Rattle.port_ledger.proofs.Shares.{book_within, is_of}
+use Rattle.port_ledger.specs.{entry_slope, is_booked, IsKept, booked_slope, is_since, later_totals, new_within, slope_within, together, totals_of}
+use Rattle.port_ledger.specs.Book.{Book}
+use Rattle.port_ledger.proofs.{Moving.filter_permuted, Shares.book_within, Shares.is_of}
 
 abbrev totals : ℕ → ℕ → ℕ → Totals
 totals a b c = record { class_a = a; class_b = b; new_count = c }
@@ -98,10 +89,6 @@ totals_fit book o kept range = let both = (book_within book o kept).both in omeg
 none_new : (now : ℕ) (since : Option Cs) (moment : ℕ) → moment_or moment since ≤ moment → moment < now → is_since now since ≡ false
 none_new now None moment h up = refl
 none_new now (Some c) moment h up = grind (arith, nat_tests)
-
-or-neither : (a b : Bool) → a ≡ false → b ≡ false → (a || b) ≡ false
-or-neither true b g h = cc
-or-neither false b g h = h
 
 -- no booking is of a moment after the ledger's
 none_later : (moment now : ℕ) (xs : List Entry) → AllByRecursion (λ x. moment_or moment x.since ≤ moment) xs → moment < now → sum_by (new_within now) xs ≡ 0

@@ -2,12 +2,10 @@
 use Rattle.std.proofs.Common.{◌≡◌, Bool, true, false, not, ◌&&◌, ◌==◌, if◌then◌else◌, List, [], ◌∷◌, map, refl, ap, arith}
 use Rattle.std.specs.Prelude.{filter, is_some}
 use Rattle.std.specs.List.{list_any}
-use Rattle.std.proofs.lemmas.Bool.{or_parts}
-use Rattle.std.proofs.lemmas.Bool.Decides.{nat_tests}
+use Rattle.std.proofs.lemmas.{Bool.or_parts, Bool.Decides.nat_tests}
 use Rattle.srp_base.specs.declared.numbers.StreamId.{StreamId}
 use Rattle.stream_importance.specs.declared.entry.Entry.{Entry}
-use Rattle.port_ledger.specs.Decision.{is_booked, stream_of, IsAscending}
-use Rattle.port_ledger.specs.Book.{booked_only_in, same_entry, since_of}
+use Rattle.port_ledger.specs.{is_booked, stream_of, IsAscending, booked_only_in, same_entry, since_of}
 use Rattle.port_ledger.proofs.Among.{found_in}
 
 -- whether a stream is among streams

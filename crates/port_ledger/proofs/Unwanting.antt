@@ -2,20 +2,12 @@
 use Rattle.std.proofs.Common.{◌≡◌, ◌≢◌, ◌↔◌, ℕ, ◌<◌, ◌≤◌, Bool, true, false, not, ◌==◌, ◌||◌, cond, List, [], ◌∷◌, map, Option, Some, None, option_map, option_and_then, is_some, IsTrue, refl, sym, ◌∙◌, ap, subst, arith, inl, inr, true≢false}
 use Rattle.std.specs.List.{AllByRecursion, list_any}
 use Rattle.std.proofs.lemmas.Bool.{eq-eqb, ne_eqb, eqb-true, cases_Bool, or_from, or_parts}
-use Rattle.srp_base.specs.declared.numbers.Cs.{Cs}
-use Rattle.srp_base.specs.declared.numbers.StreamId.{StreamId}
-use Rattle.stream_importance.specs.declared.entry.Entry.{Entry}
-use Rattle.stream_importance.specs.declared.entry.Want.{Want}
-use Rattle.stream_importance.specs.declared.slope.Caps.{Caps}
+use Rattle.srp_base.specs.declared.{numbers.Cs.Cs, numbers.StreamId.StreamId}
+use Rattle.stream_importance.specs.declared.{entry.Entry.Entry, entry.Want.Want, slope.Caps.Caps}
 use Rattle.stream_importance.specs.Importance.{IsImportanceOrder}
-use Rattle.port_ledger.specs.Decision.{stream_of, does_fit, decided_entries, decided_set, is_booked, booked_of, marks_of, with_moments, IsAscending, IsDecision}
-use Rattle.port_ledger.specs.Book.{Book, IsKept, clocked_book, entry_of, since_of, unwanted_book, want_of, wanted_book, without}
-use Rattle.port_ledger.specs.Pass.{has_same, has_want}
-use Rattle.port_ledger.proofs.Keeping.{ascending-without}
-use Rattle.port_ledger.proofs.Marking.{marked-map, different_from_ascending}
-use Rattle.port_ledger.proofs.PerStream.{decided_again, same_want-is, want_of-settled, want_of-here, want_of-past, with_want-again}
-use Rattle.port_ledger.proofs.Rounds.{decided_decides, decided_only}
-use Rattle.port_ledger.proofs.Standing.{book_stands, settled-own}
+use Rattle.port_ledger.specs.{stream_of, does_fit, decided_entries, decided_set, is_booked, booked_of, marks_of, with_moments, IsAscending, IsDecision, IsKept, clocked_book, entry_of, since_of, unwanted_book, want_of, wanted_book, without, has_same, has_want}
+use Rattle.port_ledger.specs.Book.{Book}
+use Rattle.port_ledger.proofs.{Keeping.ascending-without, Marking.marked-map, Marking.different_from_ascending, PerStream.decided_again, PerStream.same_want-is, PerStream.want_of-settled, PerStream.want_of-here, PerStream.want_of-past, PerStream.with_want-again, Rounds.decided_decides, Rounds.decided_only, Standing.book_stands, Standing.settled-own}
 
 -- a stream below all of the entries has none of them
 without-below : (s : StreamId) (xs : List Entry) → AllByRecursion (λ y. s.0 < stream_of y) xs → without xs s ≡ xs

@@ -1,12 +1,9 @@
 -- Walks along entries: one entry more, of what is still to come.
 use Rattle.std.proofs.Common.{◌≡◌, ℕ, ◌+◌, ◌<◌, ◌≤◌, Bool, true, false, if◌then◌else◌, List, [], ◌∷◌, ◌++◌, length, get_or, drop, refl, sym, ap, ◌∙◌, append_assoc}
-use Rattle.std.proofs.lemmas.Bool.{lt-ltb, le-ltb}
-use Rattle.std.proofs.lemmas.List.{append-nil, at_drop_more, drop_all}
+use Rattle.std.proofs.lemmas.{Bool.lt-ltb, Bool.le-ltb, List.append-nil, List.at_drop_more, List.drop_all}
 use Rattle.srp_base.specs.declared.numbers.StreamId.{StreamId}
 use Rattle.stream_importance.specs.declared.entry.Entry.{Entry}
-use Rattle.port_ledger.specs.Decision.{stream_of, is_booked, booked_of}
-use Rattle.port_ledger.specs.Book.{booked_only_in}
-use Rattle.port_ledger.specs.Pass.{booked_stream, booked_streams_below}
+use Rattle.port_ledger.specs.{stream_of, is_booked, booked_of, booked_only_in, booked_stream, booked_streams_below}
 
 module _ (entries : List Entry) (i : ℕ) (d : Entry) (below : i < length entries) where
   abbrev rest : List Entry

@@ -2,17 +2,10 @@
 -- place, the front, stay as they are, and what they take is known. No public contract names it.
 use Rattle.std.specs.Prelude.{ℕ, suc, ◌+◌, ◌≡◌, ◌≤◌, ◌<◌, ◌^◌, ◌++◌, Bool, true, false, not, ◌&&◌, ◌||◌, ◌==◌, nat_le, List, [], ◌∷◌, Option, Some, None, IsPermutation, length, take, drop, if◌then◌else◌}
 use Rattle.std.specs.List.{AllByRecursion}
-use Rattle.stream_importance.specs.declared.entry.Entry.{Entry}
-use Rattle.stream_importance.specs.declared.slope.Caps.{Caps}
-use Rattle.stream_importance.specs.Bandwidth.{cap_of}
-use Rattle.stream_importance.specs.Importance.{class_number, rank_number, is_more_important, moment_or}
-use Rattle.port_ledger.specs.declared.front.Level.{Level}
-use Rattle.port_ledger.specs.declared.front.Standing.{Standing}
-use Rattle.port_ledger.specs.declared.totals.Totals.{Totals}
-use Rattle.port_ledger.specs.Decision.{comes_after, entry_slope, is_booked, IsAscending}
-use Rattle.port_ledger.specs.Book.{IsKept}
-use Rattle.port_ledger.specs.Pass.{entries_passed, importance_order}
-use Rattle.port_ledger.specs.Totals.{later_totals, totals_of}
+use Rattle.stream_importance.specs.declared.{entry.Entry.Entry, slope.Caps.Caps}
+use Rattle.stream_importance.specs.{Bandwidth.cap_of, Importance.class_number, Importance.rank_number, Importance.is_more_important, Importance.moment_or}
+use Rattle.port_ledger.specs.declared.{front.Level.Level, front.Standing.Standing, totals.Totals.Totals}
+use Rattle.port_ledger.specs.{Decision.comes_after, Decision.entry_slope, Decision.is_booked, Decision.IsAscending, Book.IsKept, Pass.entries_passed, Pass.importance_order, Totals.later_totals, Totals.totals_of}
 
 -- each entry goes before all later ones
 abbrev pub IsRanked : ℕ → List Entry → Type 0

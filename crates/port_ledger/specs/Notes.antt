@@ -2,10 +2,8 @@
 use Rattle.std.specs.Prelude.{ℕ, ◌≤◌, Bool, false, not, ◌&&◌, ◌||◌, nat_lt, List, [], ◌∷◌, ◌++◌, length, Option, Some, None, if◌then◌else◌}
 use Rattle.std.specs.List.{AllByRecursion}
 use Rattle.srp_base.specs.declared.numbers.StreamId.{StreamId}
-use Rattle.stream_importance.specs.declared.entry.Entry.{Entry}
-use Rattle.stream_importance.specs.declared.slope.Caps.{Caps}
-use Rattle.port_ledger.specs.Decision.{is_booked}
-use Rattle.port_ledger.specs.Pass.{booked_stream, has_room, sum_with}
+use Rattle.stream_importance.specs.declared.{entry.Entry.Entry, slope.Caps.Caps}
+use Rattle.port_ledger.specs.{Decision.is_booked, Pass.booked_stream, Pass.has_room, Pass.sum_with}
 
 -- whether an entry is booked anew where it is let in or not
 abbrev pub gains : Entry → Bool → Bool

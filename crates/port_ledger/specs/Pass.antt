@@ -4,14 +4,10 @@
 -- on a set in `Decision`.
 use Rattle.std.specs.Prelude.{◌≡◌, ℕ, ◌+◌, Bool, false, nat_le, nat_lt, List, [], ◌∷◌, ◌++◌, map, Option, Some, None, if◌then◌else◌, ◌==◌}
 use Rattle.std.specs.List.{AllByRecursion}
-use Rattle.srp_base.specs.declared.numbers.Cs.{Cs}
-use Rattle.srp_base.specs.declared.numbers.StreamId.{StreamId}
-use Rattle.stream_importance.specs.declared.entry.Entry.{Entry}
-use Rattle.stream_importance.specs.declared.entry.Want.{Want}
-use Rattle.stream_importance.specs.declared.slope.Caps.{Caps}
+use Rattle.srp_base.specs.declared.{numbers.Cs.Cs, numbers.StreamId.StreamId}
+use Rattle.stream_importance.specs.declared.{entry.Entry.Entry, entry.Want.Want, slope.Caps.Caps}
 use Rattle.stream_importance.specs.Bandwidth.{cap_of}
-use Rattle.port_ledger.specs.Decision.{stream_of, entry_slope, is_booked, comes_after, since_after}
-use Rattle.port_ledger.specs.Book.{entry_of, is_normal, same_entry, same_want, unbooked_entry, without}
+use Rattle.port_ledger.specs.{Decision.stream_of, Decision.entry_slope, Decision.is_booked, Decision.comes_after, Decision.since_after, Book.entry_of, Book.is_normal, Book.same_entry, Book.same_want, Book.unbooked_entry, Book.without}
 
 -- an entry among entries in the order of importance: before the first that it precedes
 abbrev pub place : ℕ → Entry → List Entry → List Entry

@@ -1,12 +1,10 @@
 -- What a walk over the entries of a ledger finds, which the ledger keeps. No public contract names it.
 use Rattle.std.specs.Prelude.{ℕ, ◌+◌, Bool, ◌&&◌, ◌==◌, List, sum_by, if◌then◌else◌}
-use Rattle.srp_base.specs.declared.bandwidth.Class.{Class}
-use Rattle.srp_base.specs.declared.bandwidth.Class.TheVariants.{A, B}
+use Rattle.srp_base.specs.declared.{bandwidth.Class.Class, bandwidth.Class.TheVariants.A, bandwidth.Class.TheVariants.B}
 use Rattle.stream_importance.specs.declared.entry.Entry.{Entry}
 use Rattle.stream_importance.specs.Importance.{class_number}
 use Rattle.port_ledger.specs.declared.totals.Totals.{Totals}
-use Rattle.port_ledger.specs.Decision.{is_booked}
-use Rattle.port_ledger.specs.Book.{booked_slope, is_since}
+use Rattle.port_ledger.specs.{Decision.is_booked, Book.booked_slope, Book.is_since}
 
 -- the slope of an entry that is booked in a class, else 0
 abbrev pub slope_within : Entry → Class → ℕ

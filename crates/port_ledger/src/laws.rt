@@ -4,12 +4,8 @@
 
 ghost use Rattle.std.specs.List.{list_any};
 ghost use Rattle.std.specs.Prelude.{◌≡◌, is_some, ◌↔◌, ◌≤◌, ◌+◌, ◌==◌, ◌&&◌, ℕ, Bool, false, nat_lt, List, [], Some, None, IfSome, IsSome, if◌then◌else◌};
-ghost use Rattle.srp_base.specs.declared.bandwidth.Class.TheVariants.{A, B};
-ghost use Rattle.srp_base.specs.declared.numbers.StreamId.{StreamId};
-ghost use Rattle.stream_importance.specs.declared.entry.Entry.{Entry};
-ghost use Rattle.stream_importance.specs.declared.entry.Fit.TheVariants.{Fits};
-ghost use Rattle.stream_importance.specs.declared.entry.Want.{Want};
-ghost use Rattle.stream_importance.specs.declared.slope.Caps.{Caps};
+ghost use Rattle.srp_base.specs.declared.{bandwidth.Class.TheVariants.A, bandwidth.Class.TheVariants.B, numbers.StreamId.StreamId};
+ghost use Rattle.stream_importance.specs.declared.{entry.Entry.Entry, entry.Fit.TheVariants.Fits, entry.Want.Want, slope.Caps.Caps};
 ghost use Rattle.port_ledger.specs.Book.{Book, booked_only_in, booked_slope, clocked_book, empty_book, entry_of, fit_for, has_new_booking, IsFitWithin, IsKept, since_of, unwanted_book, want_of, wanted_book};
 ghost use Rattle.port_ledger.specs.Decision.{AreOfDifferentStreams, booked_of, decided_entries, Decides, does_fit, is_booked, IsAscending, IsDecision, marks_of};
 

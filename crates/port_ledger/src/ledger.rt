@@ -1,10 +1,8 @@
 //! The ledger of one egress port.
 
 ghost use Rattle.std.specs.Prelude.{◌≡◌, ◌≢◌, ◌↔◌, ◌+◌, ◌≤◌, ◌<◌, ◌^◌, ◌++◌, ◌==◌, ◌&&◌, nat_lt, ℕ, [], length, slice_get, vec_capacity, vec_len, Some, None, IsTrue, if◌then◌else◌, IfOk, IfSome, IsSome, OnOk, OnErr, is_some};
-ghost use Rattle.srp_base.specs.declared.bandwidth.Class.TheVariants.{A, B};
-ghost use Rattle.srp_base.specs.declared.numbers.StreamId.{StreamId};
-ghost use Rattle.stream_importance.specs.declared.entry.Fit.TheVariants.{Fits};
-ghost use Rattle.stream_importance.specs.declared.entry.Want.{Want};
+ghost use Rattle.srp_base.specs.declared.{bandwidth.Class.TheVariants.A, bandwidth.Class.TheVariants.B, numbers.StreamId.StreamId};
+ghost use Rattle.stream_importance.specs.declared.{entry.Fit.TheVariants.Fits, entry.Want.Want};
 ghost use Rattle.stream_importance.specs.Bandwidth.{caps_of};
 ghost use Rattle.port_ledger.specs.Book.{booked_only_in, booked_slope, clocked_book, entry_of, fit_for, has_new_booking, IsFitWithin, IsKept, since_of, unwanted_book, want_of, wanted_book, with_want};
 ghost use Rattle.port_ledger.specs.Pass.{has_want};

@@ -4,7 +4,3 @@ use Rattle.std.proofs.Common.{◌≡◌, ℕ, List, ◌++◌, ap, ◌∙◌, app
 pub two_pieces : (out one all m n : List ℕ) → one ≡ out ++ m → all ≡ one ++ n → all ≡ out ++ (m ++ n)
 two_pieces out one all m n first second =
     second ∙ (ap (λ (xs : List ℕ). xs ++ n) first ∙ append_assoc out m n)
-
-pub three_pieces : (out one two all m n p : List ℕ) → one ≡ out ++ m → two ≡ one ++ n → all ≡ two ++ p → all ≡ out ++ (m ++ (n ++ p))
-three_pieces out one two all m n p first second third =
-    two_pieces out one all m (n ++ p) first (two_pieces one two all n p second third)

@@ -1,8 +1,7 @@
 -- The lines of a port's margins, each by what it tells. A line ends with a line feed.
 use Rattle.std.specs.Prelude.{ℕ, ◌-◌, Bool, List, [], ◌∷◌, ◌++◌, codes}
 use Rattle.std.specs.Fmt.{decimal}
-use Rattle.srp_base.specs.Hexadecimal.{hex16_text}
-use Rattle.srp_base.specs.Text.{whole_of}
+use Rattle.srp_base.specs.{Hexadecimal.hex16_text, Text.whole_of}
 use Rattle.stream_importance.specs.declared.entry.Want.{Want}
 use Rattle.report_words.specs.Words.{class_name, yes_or_no}
 use Rattle.port_margins.specs.declared.cbs.Cbs.{Cbs}

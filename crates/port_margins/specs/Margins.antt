@@ -1,30 +1,21 @@
 -- What each port of a network has booked and has left, which streams it refuses, and the shapers of its classes.
 use Rattle.std.specs.Prelude.{ℕ, ◌+◌, ◌==◌, Bool, if◌then◌else◌, List, [], ◌++◌, codes, flat_map, Option, Some, option_and_then, is_some}
 use Rattle.std.specs.Option.{option_map_or}
-use Rattle.srp_base.specs.declared.bandwidth.Class.TheVariants.{A, B}
-use Rattle.srp_base.specs.declared.bandwidth.Rate.{Rate}
-use Rattle.srp_base.specs.declared.numbers.EgressPort.{EgressPort}
-use Rattle.srp_base.specs.declared.numbers.StreamId.{StreamId}
-use Rattle.stream_importance.specs.declared.entry.Fit.{Fit}
-use Rattle.stream_importance.specs.declared.entry.Fit.TheVariants.{TooLittle}
-use Rattle.stream_importance.specs.declared.entry.Want.{Want}
-use Rattle.stream_importance.specs.declared.slope.Caps.{Caps}
+use Rattle.srp_base.specs.declared.{bandwidth.Class.TheVariants.A, bandwidth.Class.TheVariants.B, bandwidth.Rate.Rate, numbers.EgressPort.EgressPort, numbers.StreamId.StreamId}
+use Rattle.stream_importance.specs.declared.{entry.Fit.Fit, entry.Fit.TheVariants.TooLittle, entry.Want.Want, slope.Caps.Caps}
 use Rattle.class_b_bound.specs.Bound.{tight_bound_of}
 use Rattle.msrp_talker.specs.TalkerOut.{talker_in}
 use Rattle.msrp_codec.specs.declared.pdu.MsrpKey.TheVariants.{Listener}
-use Rattle.msrp.specs.Stream.{want_of_talker}
-use Rattle.msrp.specs.Side.{talker_of}
+use Rattle.msrp.specs.{Stream.want_of_talker, Side.talker_of}
 use Rattle.topology_file.specs.Plan.{Plan}
-use Rattle.topology_file.specs.declared.entries.LinkEntry.{LinkEntry}
-use Rattle.topology_file.specs.declared.entries.StreamEntry.{StreamEntry}
+use Rattle.topology_file.specs.declared.{entries.LinkEntry.LinkEntry, entries.StreamEntry.StreamEntry}
 use Rattle.attribute_propagation.specs.Ports.{place_of}
 use Rattle.node_core.specs.State.{NodeState, content_at, fit_of, slope_at}
 use Rattle.scenario_bounds.specs.Caps.{caps_of_link, link_at}
 use Rattle.world_core.specs.World.{WorldState, node_at}
 use Rattle.report_words.specs.Names.{port_name}
 use Rattle.tree_topology.specs.Topology.{link_ports}
-use Rattle.port_margins.specs.Cbs.{cbs_of}
-use Rattle.port_margins.specs.Lines.{margin_line, refused_line, cbs_line}
+use Rattle.port_margins.specs.{Cbs.cbs_of, Lines.margin_line, Lines.refused_line, Lines.cbs_line}
 
 -- ---- what is booked, and what is left
 

@@ -1,36 +1,20 @@
 -- The nodes of a network have made their steps of a tick apart: one node after the other, this is what the network makes of them.
-use Rattle.std.proofs.Common.{◌≡◌, ◌≢◌, ℕ, zero, suc, ◌+◌, ◌-◌, ◌*◌, ◌<◌, ◌≤◌, Bool, true, false, if◌then◌else◌, List, [], ◌∷◌, ◌++◌, length, length-append, map, refl, sym, ap, subst, ◌∙◌, append_assoc, arith}
+use Rattle.std.proofs.Common.{◌≡◌, ◌≢◌, ℕ, suc, ◌+◌, ◌-◌, ◌*◌, ◌<◌, ◌≤◌, Bool, true, false, if◌then◌else◌, List, [], ◌∷◌, ◌++◌, length, length-append, map, refl, sym, ap, subst, ◌∙◌, append_assoc, arith}
 use Rattle.std.specs.Prelude.{slice_get, slice_set, Option, Some, ◌==◌, ◌^◌}
-use Rattle.std.specs.Option.{option_map_or}
-use Rattle.std.specs.List.{AllByRecursion}
+use Rattle.std.specs.{Option.option_map_or, List.AllByRecursion}
 use Rattle.std.proofs.lemmas.List.{append-nil, length-map}
-use Rattle.srp_base.specs.declared.numbers.NodeNo.{NodeNo}
-use Rattle.srp_base.specs.declared.numbers.EgressPort.{EgressPort}
-use Rattle.tree_topology.specs.Topology.{Topology, HasPort}
-use Rattle.tree_topology.specs.Ports.{neighbours}
+use Rattle.srp_base.proofs.{Lists.get_set_other, Arithmetic.is_same, Arithmetic.is_other, Arithmetic.same_where_equal as same_number, Lists.each_more}
+use Rattle.srp_base.specs.declared.{numbers.NodeNo.NodeNo, numbers.EgressPort.EgressPort}
+use Rattle.tree_topology.specs.{Topology.Topology, Topology.HasPort, Ports.neighbours}
 use Rattle.attribute_propagation.specs.Ports.{IsLinkPort, place_of}
-use Rattle.node_core.specs.declared.types.NodeStep.{NodeStep}
-use Rattle.node_core.specs.declared.types.PortStep.{PortStep}
-use Rattle.node_core.specs.Holding.{NodeHolding, states_in}
-use Rattle.node_core.specs.State.{NodeState, ports_of, job_list}
+use Rattle.node_core.specs.declared.{types.NodeStep.NodeStep, types.PortStep.PortStep}
+use Rattle.node_core.specs.{Holding.NodeHolding, Holding.states_in, State.NodeState, State.ports_of, State.job_list}
 use Rattle.bridge_book.specs.declared.notice.Notice.{Notice}
-use Rattle.world_core.specs.declared.events.WorldEvent.{WorldEvent}
-use Rattle.world_core.specs.declared.events.WorldReply.{WorldReply}
-use Rattle.world_core.specs.declared.journal.NodeSteps.{NodeSteps}
-use Rattle.world_core.specs.Apart.{events_of, replies_of, HavePorts, node_after, after_own}
-use Rattle.world_core.specs.Kept.{IsKeptWorld}
-use Rattle.world_core.specs.Marks.{MarksState}
-use Rattle.world_core.specs.OneByOne.{steps_before}
-use Rattle.world_core.specs.Ticks.{step_events, step_replies, steps_at_port, steps_of, jobs_of, AscendByNode}
-use Rattle.world_core.specs.World.{WorldState, node_at, world_step, world_after, replies_to}
-use Rattle.port_worker.specs.declared.node.Task.{Task}
+use Rattle.world_core.specs.declared.{events.WorldEvent.WorldEvent, events.WorldReply.WorldReply, journal.NodeSteps.NodeSteps}
+use Rattle.world_core.specs.{Apart.events_of, Apart.replies_of, Apart.HavePorts, Apart.node_after, Apart.after_own, Kept.IsKeptWorld, Marks.MarksState, OneByOne.steps_before, Ticks.step_events, Ticks.step_replies, Ticks.steps_at_port, Ticks.steps_of, Ticks.jobs_of, Ticks.AscendByNode, World.WorldState, World.node_at, World.world_step, World.world_after, World.replies_to}
+use Rattle.port_worker.specs.{Task, IsWorked, marks_by, CanMarkAll, AreFew, AreNumbered, AreWorked, steps_made, marks_made, CanFollow, nodes_of, StepLaws, AreSteps}
 use Rattle.port_worker.specs.declared.node.Worked.{Worked}
-use Rattle.port_worker.specs.Worked.{IsWorked}
-use Rattle.port_worker.specs.Marked.{marks_by, CanMarkAll, AreFew}
-use Rattle.port_worker.specs.Gathered.{AreNumbered, AreWorked, steps_made, marks_made, CanFollow, nodes_of}
-use Rattle.port_worker.specs.Tick.{StepLaws, AreSteps}
-use Rattle.port_worker.proofs.Lists.{is_same, is_other, same_number, get_middle, each_more}
-use Rattle.port_worker.proofs.MarkLemmas.{CanGoOn, can_all, marks_of_all}
+use Rattle.port_worker.proofs.{Lists.get_middle, MarkLemmas.CanGoOn, MarkLemmas.can_all, MarkLemmas.marks_of_all}
 
 pub after_append : (es fs : List WorldEvent) (w : WorldState) → world_after (es ++ fs) w ≡ world_after fs (world_after es w)
 after_append [] fs w = refl
@@ -43,13 +27,6 @@ replies_append (e ∷ es) fs w = ap (λ (rs : List WorldReply). (world_step e w)
 set_middle : {X : Type 0} (xs ys : List X) (x y : X) → slice_set (xs ++ x ∷ ys) (length xs) y ≡ xs ++ y ∷ ys
 set_middle [] ys x y = refl
 set_middle (z ∷ xs) ys x y = ap (λ r. z ∷ r) (set_middle xs ys x y)
-
-get_set_other : {X : Type 0} (xs : List X) (i j : ℕ) (y : X) → i ≢ j → slice_get (slice_set xs i y) j ≡ slice_get xs j
-get_set_other [] i j y ne = refl
-get_set_other (x ∷ xs) zero zero y ne = absurd (ne refl)
-get_set_other (x ∷ xs) zero (suc j) y ne = refl
-get_set_other (x ∷ xs) (suc i) zero y ne = refl
-get_set_other (x ∷ xs) (suc i) (suc j) y ne = get_set_other xs i j y (λ e. ne (ap suc e))
 
 -- ---- the steps of a node before those of later nodes
 

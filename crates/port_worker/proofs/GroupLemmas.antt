@@ -2,22 +2,15 @@
 use Rattle.std.proofs.Common.{◌≡◌, ℕ, zero, suc, ◌+◌, ◌<◌, ◌≤◌, List, [], ◌∷◌, ◌++◌, length, map, drop, get_or, refl, sym, ap, subst, ◌∙◌, append_assoc, arith}
 use Rattle.std.specs.Prelude.{slice_get, Some, Result, Ok, IfOk}
 use Rattle.std.proofs.Math.Seq.{drop-cons}
-use Rattle.std.proofs.lemmas.List.{append-nil, map-append}
-use Rattle.std.proofs.lemmas.Grind.{flat_map-append}
-use Rattle.std.proofs.lemmas.Option.{slice_get-get_or}
-use Rattle.srp_base.specs.declared.memory.NoMemory.{NoMemory}
-use Rattle.srp_base.specs.declared.numbers.NodeNo.{NodeNo}
+use Rattle.std.proofs.lemmas.{List.append-nil, List.map-append, Grind.flat_map-append, Option.slice_get-get_or}
+use Rattle.srp_base.proofs.{Lists.drop_none as drop_all, Options.one_some}
+use Rattle.srp_base.specs.declared.{memory.NoMemory.NoMemory, numbers.NodeNo.NodeNo}
 use Rattle.node_core.specs.declared.types.NodeStep.{NodeStep}
 use Rattle.bridge_book.specs.declared.notice.Notice.{Notice}
 use Rattle.world_core.specs.declared.journal.NodeSteps.{NodeSteps}
-use Rattle.world_core.specs.Marks.{MarksState}
-use Rattle.world_core.specs.OneByOne.{steps_before}
-use Rattle.port_worker.specs.declared.node.Task.{Task}
+use Rattle.world_core.specs.{Marks.MarksState, OneByOne.steps_before}
+use Rattle.port_worker.specs.{Task, IsWorked, mark_by, CanMark, marks_by, CanMarkAll, AreNumbered, AreWorked, AreParts, joined, steps_made, marks_made}
 use Rattle.port_worker.specs.declared.node.Worked.{Worked}
-use Rattle.port_worker.specs.Worked.{IsWorked}
-use Rattle.port_worker.specs.Marked.{mark_by, CanMark, marks_by, CanMarkAll}
-use Rattle.port_worker.specs.Gathered.{AreNumbered, AreWorked, AreParts, joined, steps_made, marks_made}
-use Rattle.port_worker.proofs.Lists.{one_some}
 
 -- ---- groups
 
@@ -152,12 +145,6 @@ pub followed_at : (n : NodeNo) (steps : List NodeStep) (notices : List Notice) (
 followed_at n steps notices i d e m lt few can =
     followed n steps notices i (get_or steps i d) (get_or notices i e) m lt few
     (get_same steps i d (get_or steps i d) lt) (get_same notices i e (get_or notices i e) few) can
-
-drop_all : {X : Type 0} (xs : List X) (i : ℕ) → length xs ≤ i → drop i xs ≡ []
-drop_all [] zero le = refl
-drop_all [] (suc i) le = refl
-drop_all (x ∷ xs) zero le = absurd (omega (arith, le))
-drop_all (x ∷ xs) (suc i) le = drop_all xs i (omega (arith, le))
 
 pub none_followed : (n : NodeNo) (steps : List NodeStep) (notices : List Notice) (i : ℕ) (st : NodeStep) (m : MarksState) → i < length steps → length notices ≤ i
     → CanMarkAll n (drop i steps) (drop i notices) m → ⊥

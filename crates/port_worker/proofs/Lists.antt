@@ -1,21 +1,9 @@
 -- Lists by places, and what holds of each of their elements.
-use Rattle.std.proofs.Common.{◌≡◌, ◌≢◌, ◌⊎◌, inl, inr, ℕ, zero, suc, ◌+◌, ◌-◌, ◌<◌, ◌≤◌, true, false, List, [], ◌∷◌, ◌++◌, length, map, refl, sym, ap, ◌∙◌, append_assoc, arith}
-use Rattle.std.specs.Prelude.{slice_get, Option, Some, ◌==◌}
-use Rattle.std.specs.List.{AllByRecursion, range_with_len}
-use Rattle.std.proofs.lemmas.List.{append-nil, length-append}
-use Rattle.std.proofs.lemmas.Bool.Decides.{nat_tests}
-
-pub is_same : (x y : ℕ) → x ≡ y → (x == y) ≡ true
-is_same x y e = grind (arith, nat_tests, e)
-
-pub is_other : (x y : ℕ) → x ≢ y → (x == y) ≡ false
-is_other x y ne = grind (arith, nat_tests, ne)
-
-pub same_number : (x y : ℕ) → (x == y) ≡ true → x ≡ y
-same_number x y h = grind (arith, nat_tests, h)
-
-pub one_some : {X : Type 0} (o : Option X) (x y : X) → o ≡ Some x → o ≡ Some y → x ≡ y
-one_some o x y e f = cc
+use Rattle.std.proofs.Common.{◌≡◌, ◌⊎◌, inl, inr, ℕ, zero, suc, ◌+◌, ◌-◌, ◌<◌, ◌≤◌, List, [], ◌∷◌, ◌++◌, length, map, refl, sym, ap, ◌∙◌, append_assoc, arith}
+use Rattle.std.specs.Prelude.{slice_get, Some}
+use Rattle.std.specs.List.{range_with_len}
+use Rattle.std.proofs.lemmas.{List.append-nil, List.length-append}
+use Rattle.srp_base.proofs.Lists.{range_more}
 
 pub up_to : (k x : ℕ) → k ≤ x + 1 → (k ≤ x) ⊎ (k ≡ x + 1)
 up_to zero x le = inl (omega arith)
@@ -39,11 +27,6 @@ get_push (z ∷ xs) x y (suc k) e = by (get_push xs x y k e)
     by (inl h) = inl h
     by (inr h) = inr (ap suc h.0, h.1)
 
-pub get_within : {X : Type 0} (xs : List X) (i : ℕ) → i < length xs → (x : X) × (slice_get xs i ≡ Some x)
-get_within [] i h = absurd (omega (arith, h))
-get_within (x ∷ xs) zero h = (x, refl)
-get_within (x ∷ xs) (suc i) h = get_within xs i (omega (arith, h))
-
 -- what a function makes of a number of a range
 pub get_range : {X : Type 0} (f : ℕ → X) (a n k : ℕ) → k < n → slice_get (map f (range_with_len a n)) k ≡ Some (f (a + k))
 get_range f a zero k lt = absurd (omega (arith, lt))
@@ -51,10 +34,6 @@ get_range f a (suc n) zero lt = let e : a ≡ a + 0 = omega arith in ap (λ (i :
 get_range f a (suc n) (suc k) lt =
     let e : a + 1 + k ≡ a + suc k = omega arith in
     get_range f (a + 1) n k (omega (arith, lt)) ∙ ap (λ (i : ℕ). Some (f i)) e
-
-range_more : {X : Type 0} (f : ℕ → X) (a c : ℕ) → 0 < c → map f (range_with_len a c) ≡ f a ∷ map f (range_with_len (a + 1) (c - 1))
-range_more f a zero lt = absurd (omega (arith, lt))
-range_more f a (suc c) lt = let less : c ≡ suc c - 1 = omega arith in ap (λ (k : ℕ). f a ∷ map f (range_with_len (a + 1) k)) less
 
 -- one number of a range more
 pub one_more : {X : Type 0} (f : ℕ → X) (a n : ℕ) (xs next : List X) (x : X) (all : List X) → a < n → x ≡ f a
@@ -82,24 +61,8 @@ rest_first ys rest next all x is so_far = ap (λ xs. slice_get xs (length ys)) (
 pub rest_none : {X : Type 0} (ys rest all : List X) → rest ≡ [] → ys ++ rest ≡ all → ys ≡ all
 rest_none ys rest all is so_far = sym (append-nil ys) ∙ (ap (λ r. ys ++ r) (sym is) ∙ so_far)
 
-pub no_items : {X : Type 0} (xs : List X) → length xs ≡ 0 → xs ≡ []
-no_items [] none = refl
-no_items (x ∷ xs) none = absurd (omega (arith, none))
-
 pub count_more : {X Y : Type 0} (xs next : List X) (x : X) (ys : List Y) (y : Y) → next ≡ xs ++ x ∷ [] → length xs ≡ length ys → length next ≡ length (ys ++ y ∷ [])
 count_more xs next x ys y push count =
     ap length push ∙ (length-append xs (x ∷ []) ∙ (ap (λ (k : ℕ). k + 1) count ∙ sym (length-append ys (y ∷ []))))
 
 -- ---- each element
-
-pub each_append : {X : Type 0} (P : X → Type 0) (xs ys : List X) → AllByRecursion P xs → AllByRecursion P ys → AllByRecursion P (xs ++ ys)
-each_append P [] ys h k = k
-each_append P (x ∷ xs) ys h k = (h.0, each_append P xs ys h.1 k)
-
-pub each_more : {X : Type 0} (P Q : X → Type 0) (xs : List X) → ((x : X) → P x → Q x) → AllByRecursion P xs → AllByRecursion Q xs
-each_more P Q [] f h = tt
-each_more P Q (x ∷ xs) f h = (f x h.0, each_more P Q xs f h.1)
-
-pub each_map : {X Y : Type 0} (P : Y → Type 0) (f : X → Y) (xs : List X) → AllByRecursion (λ x. P (f x)) xs → AllByRecursion P (map f xs)
-each_map P f [] h = tt
-each_map P f (x ∷ xs) h = (h.0, each_map P f xs h.1)

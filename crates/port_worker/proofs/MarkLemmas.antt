@@ -2,40 +2,21 @@
 use Rattle.std.proofs.Common.{◌≡◌, ℕ, zero, suc, ◌+◌, ◌-◌, ◌<◌, ◌≤◌, Bool, true, false, ◌&&◌, ◌||◌, if◌then◌else◌, List, [], ◌∷◌, ◌++◌, length, length-append, refl, sym, ap, subst, ◌∙◌, arith}
 use Rattle.std.specs.Prelude.{slice_get, slice_set, Option, Some, None, ◌^◌}
 use Rattle.std.specs.Option.{option_map_or, option_map, option_and_then}
-use Rattle.srp_base.specs.declared.numbers.NodeNo.{NodeNo}
-use Rattle.srp_base.specs.declared.numbers.EgressPort.{EgressPort}
-use Rattle.srp_base.specs.declared.mrp.App.{App}
-use Rattle.srp_base.specs.declared.mrp.App.TheVariants.{Mvrp, Msrp}
-use Rattle.tree_topology.specs.Topology.{Topology, HasPort}
-use Rattle.tree_topology.specs.Ports.{peer_of, neighbours}
-use Rattle.tree_topology.specs.PortLaws.{HasPortLaws}
+use Rattle.srp_base.proofs.{Lists.get_set, Options.one_some, Lists.within as get_within}
+use Rattle.srp_base.specs.declared.{numbers.NodeNo.NodeNo, numbers.EgressPort.EgressPort, mrp.App.App, mrp.App.TheVariants.Mvrp, mrp.App.TheVariants.Msrp}
+use Rattle.tree_topology.specs.{Topology.Topology, Topology.HasPort, Ports.peer_of, Ports.neighbours, PortLaws.HasPortLaws}
 use Rattle.attribute_propagation.specs.Ports.{IsLinkPort, place_of}
 use Rattle.msrp.specs.PortState.{PortState}
-use Rattle.node_core.specs.declared.types.Wire.{Wire}
-use Rattle.node_core.specs.declared.types.NodeStep.{NodeStep}
-use Rattle.node_core.specs.declared.types.PortStep.{PortStep}
+use Rattle.node_core.specs.declared.{types.Wire.Wire, types.NodeStep.NodeStep, types.PortStep.PortStep, types.StepReply.StepReply}
 use Rattle.node_core.specs.declared.types.PortStep.TheVariants.{Work, LeaveNow, LeaveAllNow, PeriodicNow, Due, Settle, Send}
-use Rattle.node_core.specs.declared.types.StepReply.{StepReply}
 use Rattle.node_core.specs.declared.types.StepReply.TheVariants.{Nothing, Discarded, Received, Fired, Settled, Silent, Sent, Taken}
-use Rattle.node_core.specs.Leaving.{has_leave_all, is_leave_all_at}
-use Rattle.node_core.specs.State.{NodeState, ports_of, box_at}
+use Rattle.node_core.specs.{Leaving.has_leave_all, Leaving.is_leave_all_at, State.NodeState, State.ports_of, State.box_at}
 use Rattle.bridge_book.specs.declared.notice.Notice.{Notice}
 use Rattle.bridge_book.specs.declared.notice.Notice.TheVariants.{Quiet, Took, Said}
 use Rattle.bridge_book.specs.Steps.{notice_of, notice_of_first, notice_of_saying}
-use Rattle.world_core.specs.declared.events.WorldEvent.{WorldEvent}
-use Rattle.world_core.specs.declared.events.WorldEvent.TheVariants.{Port}
-use Rattle.world_core.specs.declared.events.WorldReply.TheVariants.{Step}
-use Rattle.world_core.specs.declared.marks.EndMark.{EndMark}
-use Rattle.world_core.specs.declared.marks.EndMarks.{EndMarks}
-use Rattle.world_core.specs.Apart.{events_of, HavePorts, stepped_node, HaveOwnReplies, marks_of_step, marks_of_steps, after_own}
-use Rattle.world_core.specs.Duty.{vlan_place, stream_place}
-use Rattle.world_core.specs.Kept.{IsKeptWorld}
-use Rattle.world_core.specs.Marks.{MarksState, BothMarks, of_app, with_app, no_mark, mark_at, row_with, with_mark, with_two, both_at, both_took, both_sent, with_fewer, is_same_app, count_of}
-use Rattle.world_core.specs.World.{WorldState, node_at, inbox, outbox, marks_taking, marks_sending, world_step, world_after}
-use Rattle.port_worker.specs.Tick.{StepLaws}
-use Rattle.port_worker.specs.Worked.{notices_of}
-use Rattle.port_worker.specs.Marked.{mark_by, CanMark, marks_by, CanMarkAll, AreFew}
-use Rattle.port_worker.proofs.Lists.{one_some, get_within}
+use Rattle.world_core.specs.declared.{events.WorldEvent.WorldEvent, events.WorldEvent.TheVariants.Port, events.WorldReply.TheVariants.Step, marks.EndMark.EndMark, marks.EndMarks.EndMarks}
+use Rattle.world_core.specs.{Apart.events_of, Apart.HavePorts, Apart.stepped_node, Apart.HaveOwnReplies, Apart.marks_of_step, Apart.marks_of_steps, Apart.after_own, Duty.vlan_place, Duty.stream_place, Kept.IsKeptWorld, Marks.MarksState, Marks.BothMarks, Marks.of_app, Marks.with_app, Marks.no_mark, Marks.mark_at, Marks.row_with, Marks.with_mark, Marks.with_two, Marks.both_at, Marks.both_took, Marks.both_sent, Marks.with_fewer, Marks.is_same_app, Marks.count_of, World.WorldState, World.node_at, World.inbox, World.outbox, World.marks_taking, World.marks_sending, World.world_step, World.world_after}
+use Rattle.port_worker.specs.{StepLaws, notices_of, mark_by, CanMark, marks_by, CanMarkAll, AreFew}
 
 -- ---- the marks follow
 
@@ -241,11 +222,6 @@ few_counted w kept laws app p has ins outs =
     omega (arith, all, less, parts, ins, outs)
 
 -- ---- the steps of one node
-
-get_set : {X : Type 0} (xs : List X) (i : ℕ) (x y : X) → slice_get xs i ≡ Some x → slice_get (slice_set xs i y) i ≡ Some y
-get_set [] i x y e = cc
-get_set (z ∷ xs) zero x y e = refl
-get_set (z ∷ xs) (suc i) x y e = get_set xs i x y e
 
 -- the marks can follow a step from a network that keeps what every network keeps
 can_one : (laws : StepLaws) (u : WorldState) (p : EgressPort) (step : PortStep) (reply : StepReply) (s : NodeState) (b : ℕ) → IsKeptWorld u → HasPort u.tree p

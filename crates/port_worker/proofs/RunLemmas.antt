@@ -2,16 +2,10 @@
 use Rattle.std.proofs.Common.{◌≡◌, ℕ, suc, ◌+◌, ◌<◌, List, [], ◌∷◌, ◌++◌, sym, subst, arith}
 use Rattle.srp_base.specs.declared.ports.PortChange.{PortChange}
 use Rattle.topology_file.specs.declared.entries.EventEntry.{EventEntry}
-use Rattle.topology_file.specs.Plan.{Plan}
-use Rattle.topology_file.specs.Scenario.{KeepsRules}
+use Rattle.topology_file.specs.{Plan.Plan, Scenario.KeepsRules}
 use Rattle.world_core.specs.declared.journal.Tick.{Tick}
-use Rattle.world_core.specs.World.{WorldState, world_after}
-use Rattle.world_core.specs.Ticks.{IsLegalTick, tick_events, after_steps}
-use Rattle.world_core.specs.Carrying.{NothingWaits}
-use Rattle.world_core.specs.Cursor.{IsCursor}
-use Rattle.world_core.specs.History.{HistoryState, acts_noted}
-use Rattle.world_core.specs.NotedRuns.{IsNotedRun}
-use Rattle.port_worker.specs.Tick.{IsTickMade}
+use Rattle.world_core.specs.{World.WorldState, World.world_after, Ticks.IsLegalTick, Ticks.tick_events, Ticks.after_steps, Carrying.NothingWaits, Cursor.IsCursor, History.HistoryState, History.acts_noted, NotedRuns.IsNotedRun}
+use Rattle.port_worker.specs.{IsTickMade}
 
 -- before the first tick nothing has happened
 pub first_cursor : (events : List EventEntry) → IsCursor events 0 0

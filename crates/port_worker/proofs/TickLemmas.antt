@@ -1,24 +1,15 @@
 -- One tick from its parts: what its script, its steps, its carrying and its clock have made is a legal tick.
 use Rattle.std.proofs.Common.{◌≡◌, ℕ, suc, ◌<◌, false, List, [], ◌∷◌, ◌++◌, map, sym, ap, subst, ◌∙◌, arith}
 use Rattle.std.specs.List.{AllByRecursion}
+use Rattle.srp_base.proofs.Lists.{each_append}
 use Rattle.srp_base.specs.declared.numbers.NodeNo.{NodeNo}
 use Rattle.tree_topology.specs.Topology.{Topology, HasPort, link_ports}
-use Rattle.topology_file.specs.Plan.{Plan}
-use Rattle.topology_file.specs.Scenario.{KeepsRules}
+use Rattle.topology_file.specs.{Plan.Plan, Scenario.KeepsRules}
 use Rattle.node_core.specs.declared.types.NodeStep.{NodeStep}
-use Rattle.world_core.specs.declared.events.WorldEvent.{WorldEvent}
+use Rattle.world_core.specs.declared.{events.WorldEvent.WorldEvent, events.WorldReply.WorldReply, journal.NodeSteps.NodeSteps, journal.Tick.Tick}
 use Rattle.world_core.specs.declared.events.WorldEvent.TheVariants.{Port, Carry, Clock}
-use Rattle.world_core.specs.declared.events.WorldReply.{WorldReply}
-use Rattle.world_core.specs.declared.journal.NodeSteps.{NodeSteps}
-use Rattle.world_core.specs.declared.journal.Tick.{Tick}
-use Rattle.world_core.specs.World.{WorldState, CanHappen, world_step, world_after, replies_to}
-use Rattle.world_core.specs.Ticks.{script_at, after_script, after_steps, step_events, tick_events, IsLegalTick}
-use Rattle.world_core.specs.During.{IsDuring, IsAllowed}
-use Rattle.world_core.specs.Carrying.{NothingWaits, has_send}
-use Rattle.world_core.specs.Cursor.{IsCursor}
-use Rattle.world_core.specs.History.{HistoryState, HasPortsOf, acts_noted}
-use Rattle.port_worker.specs.Tick.{DuringLaws, AreSteps, IsTickMade}
-use Rattle.port_worker.proofs.Lists.{each_append}
+use Rattle.world_core.specs.{World.WorldState, World.CanHappen, World.world_step, World.world_after, World.replies_to, Ticks.script_at, Ticks.after_script, Ticks.after_steps, Ticks.step_events, Ticks.tick_events, Ticks.IsLegalTick, During.IsDuring, During.IsAllowed, Carrying.NothingWaits, Carrying.has_send, Cursor.IsCursor, History.HistoryState, History.HasPortsOf, History.acts_noted}
+use Rattle.port_worker.specs.{DuringLaws, AreSteps, IsTickMade}
 use Rattle.port_worker.proofs.GatherLemmas.{after_append}
 
 -- nothing is carried where the steps sent nothing

@@ -6,9 +6,8 @@ use Rattle.std.proofs.lemmas.List.{map-append, length-append}
 use Rattle.node_core.specs.declared.types.PortStep.{PortStep}
 use Rattle.turn_lock.specs.Passes.{Lock, first_passes}
 use Rattle.bridge_book.specs.declared.shared.PortAsk.{PortAsk}
-use Rattle.bridge_book.specs.Steps.{Shared}
-use Rattle.bridge_book.specs.Hub.{Hub, PortPass}
-use Rattle.port_worker.specs.Turns.{asks_of, IsDone, AreDone}
+use Rattle.bridge_book.specs.{Steps.Shared, Hub.Hub, Hub.PortPass}
+use Rattle.port_worker.specs.{asks_of, IsDone, AreDone}
 use Rattle.port_worker.proofs.Lists.{get_push}
 
 -- a pass that has asked for one job more has asked for the first jobs up to there

@@ -1,32 +1,19 @@
 -- What a closed hub says of its node: the ports have made their jobs, each its own in order, with the node's own answers.
 use Rattle.std.proofs.Common.{◌≡◌, ◌⊎◌, inl, inr, ℕ, zero, suc, ◌+◌, ◌-◌, ◌<◌, ◌≤◌, Bool, true, false, cond, ◌||◌, ◌&&◌, List, [], ◌∷◌, length, map, refl, sym, ap, subst, ◌∙◌, arith}
 use Rattle.std.specs.Prelude.{slice_get, slice_index_or, Option, Some, ◌==◌, if◌then◌else◌, filter, nat_lt, nat_le}
-use Rattle.std.specs.Option.{option_map_or}
-use Rattle.std.specs.List.{AllByRecursion, range_with_len, list_any}
-use Rattle.std.proofs.lemmas.Bool.Decides.{nat_tests}
-use Rattle.std.proofs.lemmas.Option.{slice_get-get_or}
+use Rattle.std.specs.{Option.option_map_or, List.AllByRecursion, List.range_with_len, List.list_any}
+use Rattle.std.proofs.lemmas.{Bool.Decides.nat_tests, Option.slice_get-get_or}
+use Rattle.srp_base.proofs.{Arithmetic.is_same, Arithmetic.same_where_equal as same_number, Options.one_some, Lists.within as get_within, Lists.each_more, Lists.each_of_map as each_map}
 use Rattle.srp_base.specs.declared.numbers.PortNo.{PortNo}
 use Rattle.attribute_propagation.specs.Ports.{IsLinkPort, place_of}
-use Rattle.node_core.specs.declared.types.NodeEvent.{NodeEvent}
-use Rattle.node_core.specs.declared.types.NodeEvent.TheVariants.{Port}
-use Rattle.node_core.specs.declared.types.NodeStep.{NodeStep}
-use Rattle.node_core.specs.declared.types.PortStep.{PortStep}
-use Rattle.node_core.specs.declared.types.StepReply.{StepReply}
-use Rattle.node_core.specs.State.{NodeState, ports_of, job_list, is_busy_node, is_sending_time}
-use Rattle.node_core.specs.Step.{node_step}
-use Rattle.turn_lock.specs.History.{Entry, number_of, ask_of, answer_of, calls_of, last_state, IsHistory}
-use Rattle.turn_lock.specs.Closing.{HasCallsOf}
-use Rattle.turn_lock.specs.Passes.{is_given}
-use Rattle.bridge_book.specs.declared.notice.Notice.{Notice}
-use Rattle.bridge_book.specs.declared.notice.Told.{Told}
-use Rattle.bridge_book.specs.declared.shared.PortAsk.{PortAsk}
-use Rattle.bridge_book.specs.Steps.{is_port, notice_of, told_nothing, port_does, node_does}
-use Rattle.bridge_book.specs.Hub.{Hub, Steps, PortPass, first_node, step_of, notice_in, HasClosedHub}
-use Rattle.world_core.specs.Apart.{stepped_node, node_after, HaveOwnReplies}
-use Rattle.world_core.specs.Ticks.{steps_at_port}
-use Rattle.port_worker.specs.Turns.{asks_of, own_jobs, AreDone}
-use Rattle.port_worker.specs.Worked.{has_jobs, notices_of, IsNodeWorked}
-use Rattle.port_worker.proofs.Lists.{is_same, same_number, one_some, get_within, get_range, each_more, each_map}
+use Rattle.node_core.specs.declared.{types.NodeEvent.NodeEvent, types.NodeEvent.TheVariants.Port, types.NodeStep.NodeStep, types.PortStep.PortStep, types.StepReply.StepReply}
+use Rattle.node_core.specs.{State.NodeState, State.ports_of, State.job_list, State.is_busy_node, State.is_sending_time, Step.node_step}
+use Rattle.turn_lock.specs.{History.Entry, History.number_of, History.ask_of, History.answer_of, History.calls_of, History.last_state, History.IsHistory, Closing.HasCallsOf, Passes.is_given}
+use Rattle.bridge_book.specs.declared.{notice.Notice.Notice, notice.Told.Told, shared.PortAsk.PortAsk}
+use Rattle.bridge_book.specs.{Steps.is_port, Steps.notice_of, Steps.told_nothing, Steps.port_does, Steps.node_does, Hub.Hub, Hub.Steps, Hub.PortPass, Hub.first_node, Hub.step_of, Hub.notice_in, Hub.HasClosedHub}
+use Rattle.world_core.specs.{Apart.stepped_node, Apart.node_after, Apart.HaveOwnReplies, Ticks.steps_at_port}
+use Rattle.port_worker.specs.{asks_of, own_jobs, AreDone, has_jobs, notices_of, IsNodeWorked}
+use Rattle.port_worker.proofs.Lists.{get_range}
 
 -- an entry of a history
 abbrev One : Type 0

@@ -3,12 +3,9 @@ use Rattle.std.specs.Prelude.{◌≡◌, ℕ, ◌+◌, List, [], ◌∷◌, map,
 use Rattle.node_core.specs.Holding.{NodeHolding}
 use Rattle.srp_base.specs.declared.memory.NoMemory.{NoMemory}
 use Rattle.world_core.specs.declared.journal.NodeSteps.{NodeSteps}
-use Rattle.world_core.specs.OneByOne.{steps_before}
-use Rattle.world_core.specs.Marks.{MarksState}
-use Rattle.port_worker.specs.declared.node.Task.{Task}
-use Rattle.port_worker.specs.declared.node.Worked.{Worked}
-use Rattle.port_worker.specs.Worked.{IsWorked}
-use Rattle.port_worker.specs.Marked.{marks_by, CanMarkAll}
+use Rattle.world_core.specs.{OneByOne.steps_before, Marks.MarksState}
+use Rattle.port_worker.specs.declared.{node.Task.Task, node.Worked.Worked}
+use Rattle.port_worker.specs.{Worked.IsWorked, Marked.marks_by, Marked.CanMarkAll}
 
 -- the nodes behind node x have these numbers
 abbrev pub AreNumbered : ℕ → List Task → Type 0

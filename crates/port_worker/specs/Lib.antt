@@ -3,3 +3,10 @@ pub mod Worked
 pub mod Marked
 pub mod Gathered
 pub mod Tick
+pub use Turns.*
+pub use Worked.*
+pub use Marked.*
+pub use Gathered.*
+pub use Tick.*
+pub use Rattle.port_worker.specs.declared.node.Task.{Task}
+pub use Rattle.port_worker.specs.declared.turn.Turn.{Turn}

@@ -1,10 +1,7 @@
 -- How the marks of a network follow the steps of its nodes, by what each step did to the PDUs on its port's link.
 use Rattle.std.specs.Prelude.{◌<◌, ◌≤◌, ◌^◌, ℕ, List, [], ◌∷◌}
-use Rattle.srp_base.specs.declared.numbers.NodeNo.{NodeNo}
-use Rattle.srp_base.specs.declared.numbers.EgressPort.{EgressPort}
-use Rattle.srp_base.specs.declared.mrp.App.{App}
-use Rattle.tree_topology.specs.Topology.{HasPort}
-use Rattle.tree_topology.specs.Ports.{peer_of}
+use Rattle.srp_base.specs.declared.{numbers.NodeNo.NodeNo, numbers.EgressPort.EgressPort, mrp.App.App}
+use Rattle.tree_topology.specs.{Topology.HasPort, Ports.peer_of}
 use Rattle.node_core.specs.declared.types.NodeStep.{NodeStep}
 use Rattle.bridge_book.specs.declared.notice.Notice.{Notice}
 use Rattle.bridge_book.specs.declared.notice.Notice.TheVariants.{Quiet, Took, Said}

@@ -1,26 +1,13 @@
 -- One tick of a run with a thread for each port, and what it rests on.
 use Rattle.std.specs.Prelude.{◌≡◌, ◌≢◌, ◌<◌, ◌^◌, ℕ, suc, List, [], map, Some}
 use Rattle.std.specs.List.{AllByRecursion}
-use Rattle.srp_base.specs.declared.numbers.NodeNo.{NodeNo}
-use Rattle.srp_base.specs.declared.numbers.EgressPort.{EgressPort}
-use Rattle.tree_topology.specs.Topology.{Topology, IsSound, HasPort, link_ports}
-use Rattle.tree_topology.specs.PortLaws.{HasPortLaws}
-use Rattle.topology_file.specs.Plan.{Plan}
-use Rattle.topology_file.specs.Scenario.{KeepsRules}
+use Rattle.srp_base.specs.declared.{numbers.NodeNo.NodeNo, numbers.EgressPort.EgressPort}
+use Rattle.tree_topology.specs.{Topology.Topology, Topology.IsSound, Topology.HasPort, Topology.link_ports, PortLaws.HasPortLaws}
+use Rattle.topology_file.specs.{Plan.Plan, Scenario.KeepsRules}
 use Rattle.node_core.specs.declared.types.NodeStep.{NodeStep}
 use Rattle.node_core.specs.State.{NodeState}
-use Rattle.world_core.specs.declared.events.WorldEvent.{WorldEvent}
-use Rattle.world_core.specs.declared.events.WorldEvent.TheVariants.{Carry, Clock}
-use Rattle.world_core.specs.declared.journal.NodeSteps.{NodeSteps}
-use Rattle.world_core.specs.declared.journal.Tick.{Tick}
-use Rattle.world_core.specs.World.{WorldState, CanHappen, IsEventInRange, node_at, world_step, world_after, replies_to}
-use Rattle.world_core.specs.Apart.{events_of, replies_of, HavePorts, HaveOwnReplies, after_own}
-use Rattle.world_core.specs.Kept.{IsKeptWorld}
-use Rattle.world_core.specs.Ticks.{script_at, step_events, step_replies, steps_of, jobs_of, AscendByNode, tick_events, after_steps, IsLegalTick}
-use Rattle.world_core.specs.During.{IsDuring, IsAllowed}
-use Rattle.world_core.specs.Carrying.{NothingWaits}
-use Rattle.world_core.specs.History.{HistoryState, acts_noted}
-use Rattle.world_core.specs.Cursor.{IsCursor}
+use Rattle.world_core.specs.declared.{events.WorldEvent.WorldEvent, events.WorldEvent.TheVariants.Carry, events.WorldEvent.TheVariants.Clock, journal.NodeSteps.NodeSteps, journal.Tick.Tick}
+use Rattle.world_core.specs.{World.WorldState, World.CanHappen, World.IsEventInRange, World.node_at, World.world_step, World.world_after, World.replies_to, Apart.events_of, Apart.replies_of, Apart.HavePorts, Apart.HaveOwnReplies, Apart.after_own, Kept.IsKeptWorld, Ticks.script_at, Ticks.step_events, Ticks.step_replies, Ticks.steps_of, Ticks.jobs_of, Ticks.AscendByNode, Ticks.tick_events, Ticks.after_steps, Ticks.IsLegalTick, During.IsDuring, During.IsAllowed, Carrying.NothingWaits, History.HistoryState, History.acts_noted, Cursor.IsCursor}
 
 -- what the steps of nodes rest on: ports have peers, each event keeps what every network keeps, and a node makes its steps by itself
 pub record StepLaws : Type 0 where

@@ -7,10 +7,8 @@ use Rattle.node_core.specs.declared.types.NodeStep.{NodeStep}
 use Rattle.node_core.specs.State.{NodeState, ports_of, job_list, is_busy_node, is_sending_time}
 use Rattle.bridge_book.specs.declared.notice.Notice.{Notice}
 use Rattle.bridge_book.specs.Steps.{notice_of}
-use Rattle.world_core.specs.Apart.{stepped_node, node_after, HaveOwnReplies}
-use Rattle.world_core.specs.Ticks.{steps_at_port}
-use Rattle.port_worker.specs.declared.node.Task.{Task}
-use Rattle.port_worker.specs.declared.node.Worked.{Worked}
+use Rattle.world_core.specs.{Apart.stepped_node, Apart.node_after, Apart.HaveOwnReplies, Ticks.steps_at_port}
+use Rattle.port_worker.specs.declared.{node.Task.Task, node.Worked.Worked}
 
 -- whether a port of a node has something to do: it has one, and is busy, or it is time to send
 abbrev pub has_jobs : NodeState → Bool

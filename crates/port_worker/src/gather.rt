@@ -3,8 +3,7 @@
 ghost use Rattle.std.specs.Prelude.{◌≡◌, ◌<◌, ◌+◌, ◌++◌, ◌∷◌, [], ◌^◌, length, drop, map, IfOk, OnOk};
 ghost use Rattle.srp_base.specs.declared.mrp.App.{App as app_type};
 ghost use Rattle.tree_topology.specs.Topology.{HasNode, HasPort};
-ghost use Rattle.world_core.specs.Marks.{mark_at};
-ghost use Rattle.world_core.specs.OneByOne.{steps_before};
+ghost use Rattle.world_core.specs.{Marks.mark_at, OneByOne.steps_before};
 ghost use Rattle.port_worker.specs.Marked.{mark_by, CanMark, marks_by, CanMarkAll, AreFew};
 ghost use Rattle.port_worker.specs.Gathered.{AreNumbered, CanFollow, marks_made, nodes_of, steps_made};
 

@@ -1,8 +1,7 @@
 //! The run of a scenario with a thread for each port.
 
 ghost use Rattle.std.specs.Prelude.{IfOk};
-ghost use Rattle.world_core.specs.Ticks.{AreLegalTicks};
-ghost use Rattle.world_core.specs.Timeline.{IsTimelineOf};
+ghost use Rattle.world_core.specs.{Ticks.AreLegalTicks, Timeline.IsTimelineOf};
 
 use crate::tick::make_tick;
 use bridge_book::Gate;

@@ -1,11 +1,7 @@
 //! One tick of a run with a thread for each port.
 
 ghost use Rattle.std.specs.Prelude.{◌≡◌, ◌<◌, IfOk, OnOk};
-ghost use Rattle.world_core.specs.World.{CanHappen, world_step};
-ghost use Rattle.world_core.specs.During.{IsDuring};
-ghost use Rattle.world_core.specs.Carrying.{NothingWaits};
-ghost use Rattle.world_core.specs.Cursor.{IsCursor};
-ghost use Rattle.world_core.specs.Timeline.{AreChanges};
+ghost use Rattle.world_core.specs.{World.CanHappen, World.world_step, During.IsDuring, Carrying.NothingWaits, Cursor.IsCursor, Timeline.AreChanges};
 ghost use Rattle.port_worker.specs.Tick.{AreSteps, DuringLaws, IsTickMade, StepLaws};
 
 use crate::gather::{few_are_on_their_way, gather, numbered};

@@ -1,10 +1,6 @@
 -- What events leave of a registration.
 use Rattle.std.proofs.Common.{◌≡◌, true, refl, ◌∙◌}
-use Rattle.registrar.specs.declared.Registrar.{Registrar}
-use Rattle.registrar.specs.declared.Registrar.TheVariants.{Held, Leaving, Empty}
-use Rattle.registrar.specs.declared.RegEvent.{RegEvent}
-use Rattle.registrar.specs.declared.RegEvent.TheVariants.{RxNew, RxJoin, RxLv, RxLeaveAll, TxLeaveAll}
-use Rattle.registrar.specs.Table.{next, is_registered_in}
+use Rattle.registrar.specs.{Registrar, Held, Leaving, Empty, RegEvent, RxNew, RxJoin, RxLv, RxLeaveAll, TxLeaveAll, next, is_registered_in}
 
 -- a received LeaveAll leaves a registrar as registered as it was
 pub leave_all-registered : (g : Registrar) → is_registered_in (next RxLeaveAll g) ≡ is_registered_in g

@@ -1,10 +1,8 @@
 -- The Registrar's table, after IEEE Std 802.1Q-2018, 10.7.8 (Table 10-4).
 use Rattle.std.specs.Prelude.{Bool, true, false}
-use Rattle.registrar.specs.declared.Registrar.{Registrar}
+use Rattle.registrar.specs.declared.{Registrar.Registrar, RegEvent.RegEvent, Tell.Tell}
 use Rattle.registrar.specs.declared.Registrar.TheVariants.{Held, Leaving, Empty}
-use Rattle.registrar.specs.declared.RegEvent.{RegEvent}
 use Rattle.registrar.specs.declared.RegEvent.TheVariants.{RxNew, RxJoin, RxLv, RxLeaveAll, TxLeaveAll, LeaveTimer}
-use Rattle.registrar.specs.declared.Tell.{Tell}
 use Rattle.registrar.specs.declared.Tell.TheVariants.{Nothing, Joined, Left}
 
 -- what stands in a cell: from the state of its column to the new state and what the user is told

@@ -1,11 +1,9 @@
 -- What is counted, answer by answer or list by list, is the count over all answers.
 use Rattle.std.proofs.Common.{◌≡◌, ℕ, suc, ◌+◌, Bool, true, false, List, [], ◌∷◌, ◌++◌, length, refl, sym, ap, ◌∙◌, arith}
 use Rattle.std.specs.Prelude.{◌-◌, ◌^◌, min, fold, filter, filter_map, sum, Option, Some, None}
-use Rattle.std.proofs.lemmas.List.{length-append}
-use Rattle.std.proofs.lemmas.List.Elements.{filter-append, filter_map-append}
-use Rattle.std.proofs.lemmas.List.Sums.{sum_by-append, sum_by-cons}
+use Rattle.std.proofs.lemmas.{List.length-append, List.Elements.filter-append, List.Elements.filter_map-append, List.Sums.sum_by-append, List.Sums.sum_by-cons}
 use Rattle.report_words.specs.declared.tally.Tally.{Tally}
-use Rattle.report_words.specs.Tally.{count_of, tally_by, with_answer, with_discarded, with_sent, with_tally, zero_tally}
+use Rattle.report_words.specs.{count_of, tally_by, with_answer, with_discarded, with_sent, with_tally, zero_tally}
 
 abbrev tally_with : ℕ → ℕ → ℕ → Tally
 tally_with sent octets discarded = record { sent = sent; octets = octets; discarded = discarded }

@@ -5,8 +5,7 @@ use Rattle.std.specs.List.{AllByRecursion}
 use Rattle.std.proofs.lemmas.List.{at_drop_more}
 use Rattle.srp_base.specs.declared.numbers.EgressPort.{EgressPort}
 use Rattle.tree_topology.specs.declared.graph.Link.{Link}
-use Rattle.tree_topology.specs.Topology.{Topology}
-use Rattle.tree_topology.specs.Ports.{port_to, ends_of, link_at}
+use Rattle.tree_topology.specs.{Topology.Topology, Ports.port_to, Ports.ends_of, Ports.link_at}
 
 -- the ports of a link's ends, `a` first
 abbrev pub both_ends : Topology → Link → List EgressPort

@@ -1,14 +1,10 @@
 -- What has no peer: a port that a tree hasn't.
 use Rattle.std.proofs.Common.{◌≡◌, ℕ, ◌-◌, ◌≤◌, inl, inr, List, [], ◌∷◌, length, refl, ap, subst, arith}
 use Rattle.std.specs.Prelude.{slice_index}
-use Rattle.std.proofs.lemmas.Bool.{cases_lt, ne_eqb}
-use Rattle.std.proofs.lemmas.List.{get_or_past}
-use Rattle.std.proofs.lemmas.List.Elements.{All-head, All-tail}
+use Rattle.std.proofs.lemmas.{Bool.cases_lt, Bool.ne_eqb, List.get_or_past, List.Elements.All-head, List.Elements.All-tail}
 use Rattle.srp_base.specs.declared.numbers.EgressPort.{EgressPort}
 use Rattle.tree_topology.specs.declared.graph.Link.{Link}
-use Rattle.tree_topology.specs.Graph.{IsNode, HasKnownEnds}
-use Rattle.tree_topology.specs.Topology.{Topology, HasPort, IsSound}
-use Rattle.tree_topology.specs.Ports.{far_node, neighbours}
+use Rattle.tree_topology.specs.{Graph.IsNode, Graph.HasKnownEnds, Topology.Topology, Topology.HasPort, Topology.IsSound, Ports.far_node, Ports.neighbours}
 
 -- what is no node has no neighbours
 no-neighbours : (count : ℕ) (links : List Link) (x : ℕ) → HasKnownEnds count links → (IsNode count x → ⊥) → neighbours links x ≡ []

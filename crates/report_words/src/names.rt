@@ -1,8 +1,7 @@
 //! The names of nodes and ports.
 
 ghost use Rattle.std.specs.Prelude.{◌≡◌, ◌++◌, ◌↔◌, IfOk, OnOk, IsTrue};
-ghost use Rattle.tree_topology.specs.Topology.{HasPort};
-ghost use Rattle.tree_topology.specs.Ports.{peer_of};
+ghost use Rattle.tree_topology.specs.{Topology.HasPort, Ports.peer_of};
 ghost use Rattle.report_words.specs.Names.{name_of, port_name as port_name_spec};
 
 use srp_base::{EgressPort, NodeNo, PortNo};

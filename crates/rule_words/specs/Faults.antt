@@ -1,15 +1,10 @@
 -- What is wrong at a table: a key that it may not have, or one whose value isn't what it has to be.
 use Rattle.std.specs.Prelude.{ℕ, Bool, not, nat_eq, ◌&&◌, if◌then◌else◌, List, find, Option, Some, None}
-use Rattle.std.specs.Cmp.Lexicographic.{pointwise}
-use Rattle.std.specs.List.{list_any}
-use Rattle.std.specs.Option.{is_none}
+use Rattle.std.specs.{Cmp.Lexicographic.pointwise, List.list_any, Option.is_none}
 use Rattle.toml.specs.Data.{Data, Members, get_member}
 use Rattle.toml_rules.specs.Fields.{member_keys}
-use Rattle.rule_words.specs.declared.keys.Key.{Key}
-use Rattle.rule_words.specs.Forms.{has_form}
-use Rattle.rule_words.specs.Keys.{word_of, form_of, is_needed}
-use Rattle.rule_words.specs.declared.tables.TableForm.{TableForm}
-use Rattle.rule_words.specs.Tables.{keys_of, is_closed}
+use Rattle.rule_words.specs.declared.{keys.Key.Key, tables.TableForm.TableForm}
+use Rattle.rule_words.specs.{Forms.has_form, Keys.word_of, Keys.form_of, Keys.is_needed, Tables.keys_of, Tables.is_closed}
 
 -- the word is that of one of these keys
 abbrev pub is_key_of : List Key → List ℕ → Bool

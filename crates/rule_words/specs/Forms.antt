@@ -1,17 +1,11 @@
 -- What the value at a key has to be: whether a value has a form, and the words of a form. Where a file's definition reads a
 -- value, its reading is cited.
 use Rattle.std.specs.Prelude.{ℕ, Bool, true, false, nat_eq, ◌||◌, List, [], ◌∷◌, codes, Option, Some, None, option_and_then}
-use Rattle.std.specs.Cmp.Lexicographic.{pointwise}
-use Rattle.std.specs.Fmt.{decimal}
-use Rattle.std.specs.List.{list_any}
-use Rattle.std.specs.Option.{is_some}
-use Rattle.srp_base.specs.Bandwidth.{rate_of_mbit}
-use Rattle.srp_base.specs.Hexadecimal.{hex12, hex16}
-use Rattle.srp_base.specs.Text.{whole_of}
+use Rattle.std.specs.{Cmp.Lexicographic.pointwise, Fmt.decimal, List.list_any, Option.is_some}
+use Rattle.srp_base.specs.{Bandwidth.rate_of_mbit, Hexadecimal.hex12, Hexadecimal.hex16, Text.whole_of}
 use Rattle.toml.specs.Data.{Members}
 use Rattle.toml_rules.specs.Fields.{number, truth_or, within, text, tables}
-use Rattle.topology_file.specs.Entries.{name_at, kind_of_text, domain_of_text}
-use Rattle.topology_file.specs.Kinds.{app_of_text, octets_of_text}
+use Rattle.topology_file.specs.{Entries.name_at, Entries.kind_of_text, Entries.domain_of_text, Kinds.app_of_text, Kinds.octets_of_text}
 use Rattle.rule_words.specs.declared.forms.ValueForm.{ValueForm}
 use Rattle.rule_words.specs.declared.forms.ValueForm.TheVariants.{Name, Digits16, Digits12, PduDigits, Number, Within, Rate, Truth, NodeKind, Domain, EventKind, App, Class, Tables}
 

@@ -1,8 +1,7 @@
 -- The keys of the files: the word of each, what its value has to be, and whether it has to be there.
 use Rattle.std.specs.Prelude.{ℕ, Bool, true, false, List, codes}
-use Rattle.rule_words.specs.declared.forms.ValueForm.{ValueForm}
+use Rattle.rule_words.specs.declared.{forms.ValueForm.ValueForm, keys.Key.Key}
 use Rattle.rule_words.specs.declared.forms.ValueForm.TheVariants as forms
-use Rattle.rule_words.specs.declared.keys.Key.{Key}
 use Rattle.rule_words.specs.declared.keys.Key.TheVariants.{Ticks, LeaveTime, Periodic, Domains, Nodes, Links, Streams, Events, Frames, Wants, Name, NodeKind, NodeId, NodeDomain, A, B, LinkRate, PortRate, DeltaA, DeltaB, Latency, StreamId, Talker, Dest, StreamOctets, IntervalFrames, StreamVid, Priority, Rank, Tick, EventKind, Station, EventVid, StreamName, From, To, Index, App, PduOctets, FrameOctets, At, Count, Every, WantStream, WantClass, WantTick}
 
 -- the word of a key, as it stands in a file

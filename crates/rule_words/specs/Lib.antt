@@ -6,3 +6,11 @@ pub mod Matters
 pub mod Refusal
 pub mod Tables
 pub mod Values
+pub use Asked.*
+pub use Faults.*
+pub use Forms.*
+pub use Keys.*
+pub use Matters.*
+pub use Refusal.*
+pub use Tables.*
+pub use Values.*

@@ -1,12 +1,10 @@
 -- What a rule is about in its table: the form of the table, or the values at some keys.
 use Rattle.std.specs.Prelude.{ℕ, Bool, true, false, nat_eq, ◌==◌, ◌&&◌, ◌||◌, nat_le, if◌then◌else◌, List, [], ◌∷◌, codes, Option, Some, None}
-use Rattle.std.specs.Cmp.Lexicographic.{pointwise}
-use Rattle.std.specs.Option.{is_some}
+use Rattle.std.specs.{Cmp.Lexicographic.pointwise, Option.is_some}
 use Rattle.toml.specs.Data.{Members, get_member}
 use Rattle.toml_rules.specs.Fields.{text, truth_or}
-use Rattle.rule_words.specs.declared.keys.Key.{Key}
+use Rattle.rule_words.specs.declared.{keys.Key.Key, tables.TableForm.TableForm}
 use Rattle.rule_words.specs.declared.keys.Key.TheVariants.{Name, NodeId, A, B, StreamId, Talker, Tick, Station, StreamName, From, To, Nodes, Ticks, WantTick, WantStream}
-use Rattle.rule_words.specs.declared.tables.TableForm.{TableForm}
 use Rattle.rule_words.specs.declared.tables.TableForm.TheVariants as tables
 
 -- the form of an event, by the word of its kind

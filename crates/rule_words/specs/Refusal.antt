@@ -5,16 +5,9 @@ use Rattle.std.specs.Fmt.{decimal}
 use Rattle.srp_base.specs.Text.{whole_of}
 use Rattle.toml.specs.Data.{Data, Members, get_member, at, as_table}
 use Rattle.toml_rules.specs.Fields.{◌>>=◌, text}
-use Rattle.rule_words.specs.declared.keys.Key.{Key}
+use Rattle.rule_words.specs.declared.{keys.Key.Key, tables.TableForm.TableForm}
 use Rattle.rule_words.specs.declared.keys.Key.TheVariants as keys
-use Rattle.rule_words.specs.declared.tables.TableForm.{TableForm}
-use Rattle.rule_words.specs.Asked.{what_rule_asks, array_of}
-use Rattle.rule_words.specs.Faults.{stray_key, wrong_key}
-use Rattle.rule_words.specs.Forms.{form_words}
-use Rattle.rule_words.specs.Keys.{word_of, form_of}
-use Rattle.rule_words.specs.Matters.{has_domains, form_asked, keys_asked}
-use Rattle.rule_words.specs.Tables.{keys_of, keys_together}
-use Rattle.rule_words.specs.Values.{quoted, value_words}
+use Rattle.rule_words.specs.{Asked.what_rule_asks, Asked.array_of, Faults.stray_key, Faults.wrong_key, Forms.form_words, Keys.word_of, Keys.form_of, Matters.has_domains, Matters.form_asked, Matters.keys_asked, Tables.keys_of, Tables.keys_together, Values.quoted, Values.value_words}
 
 -- ---- lines
 

@@ -1,8 +1,7 @@
 -- The tables of the files: which keys each may have.
 use Rattle.std.specs.Prelude.{Bool, true, false, List, [], ◌∷◌}
-use Rattle.rule_words.specs.declared.keys.Key.{Key}
+use Rattle.rule_words.specs.declared.{keys.Key.Key, tables.TableForm.TableForm}
 use Rattle.rule_words.specs.declared.keys.Key.TheVariants.{Ticks, LeaveTime, Periodic, Domains, Nodes, Links, Streams, Events, Frames, Wants, Name, NodeKind, NodeId, NodeDomain, A, B, LinkRate, PortRate, DeltaA, DeltaB, Latency, StreamId, Talker, Dest, StreamOctets, IntervalFrames, StreamVid, Priority, Rank, Tick, EventKind, Station, EventVid, StreamName, From, To, Index, App, PduOctets, FrameOctets, At, Count, Every, WantStream, WantClass, WantTick}
-use Rattle.rule_words.specs.declared.tables.TableForm.{TableForm}
 use Rattle.rule_words.specs.declared.tables.TableForm.TheVariants as tables
 
 -- the keys that a table of this form may have, in the order in which they are read

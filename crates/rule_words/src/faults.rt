@@ -1,8 +1,7 @@
 //! What is wrong at a table: a key that it may not have, or one whose value isn't what it has to be.
 
 ghost use Rattle.std.specs.Prelude.{◌≡◌, not, option_map, string_bytes, find, IfOk};
-ghost use Rattle.std.specs.Option.{option_copied};
-ghost use Rattle.std.specs.BTreeMap.{keys};
+ghost use Rattle.std.specs.{Option.option_copied, BTreeMap.keys};
 ghost use Rattle.toml.specs.View.{table_view};
 ghost use Rattle.rule_words.specs.Faults.{is_key_of as is_key_of_spec, is_right as is_right_spec, unknown_key as unknown_key_spec, wrong_key as wrong_key_spec};
 

@@ -3,8 +3,7 @@
 ghost use Rattle.std.specs.Prelude.{◌≡◌, ◌++◌, IfOk, OnOk};
 ghost use Rattle.std.specs.Option.{is_some};
 ghost use Rattle.toml.specs.View.{table_view};
-ghost use Rattle.topology_file.specs.Entries.{kind_of_text, domain_of_text};
-ghost use Rattle.topology_file.specs.Kinds.{app_of_text, octets_of_text};
+ghost use Rattle.topology_file.specs.{Entries.kind_of_text, Entries.domain_of_text, Kinds.app_of_text, Kinds.octets_of_text};
 ghost use Rattle.rule_words.specs.Forms.{class_is_known as class_is_known_spec, event_kind_is_known as event_kind_is_known_spec, passes as passes_spec, has_form as has_form_spec, fixed_words as fixed_words_spec, form_words as form_words_spec, range_words};
 
 use crate::pieces::put;

@@ -1,34 +1,23 @@
 -- What each port may give away is below the rate of its link.
 use Rattle.std.proofs.Common.{◌≡◌, ◌≢◌, ℕ, zero, suc, ◌+◌, ◌-◌, ◌*◌, ◌/◌, ◌^◌, ◌<◌, ◌≤◌, ◌⊎◌, inl, inr, true, false, cond, List, [], ◌∷◌, length, get_or, map, take, Option, Some, None, refl, sym, ap, subst, ◌∙◌, arith}
-use Rattle.std.specs.Prelude.{All, filter, flat_map, slice_get, not, ◌==◌, IfSome}
-use Rattle.std.specs.Option.{option_map_or}
-use Rattle.std.specs.List.{cons_option, range_with_len, position_or_len}
+use Rattle.std.specs.Prelude.{All, filter, slice_get, not, ◌==◌, IfSome}
+use Rattle.std.specs.{Option.option_map_or, List.cons_option, List.range_with_len}
 use Rattle.std.proofs.Math.Nat.{mul-le-mul_right}
-use Rattle.std.proofs.lemmas.Bool.{cond-true, cond-false, cases_Bool, eqb-true, eq-eqb, ne_eqb, or_left, or_right, or_from, not_from_true, not_from_false}
-use Rattle.std.proofs.lemmas.Option.{get_or_from_slice_get, none-some, same_Some, slice_get_within}
-use Rattle.std.proofs.lemmas.List.{length-map}
-use Rattle.std.proofs.lemmas.List.Elements.{All-nil, All-cons, All-head, All-tail, All-append, All-filter, All-get_or, All-map}
-use Rattle.std.proofs.lemmas.List.FromFn.{get_or-range_with_len, length-range_with_len}
-use Rattle.srp_base.specs.declared.numbers.EgressPort.{EgressPort}
-use Rattle.srp_base.specs.declared.bandwidth.Rate.{Rate}
+use Rattle.std.proofs.lemmas.{Bool.cond-true, Bool.cond-false, Bool.cases_Bool, Bool.eqb-true, Bool.eq-eqb, Bool.ne_eqb, Bool.or_left, Bool.or_right, Bool.or_from, Bool.not_from_false, Option.get_or_from_slice_get, Option.none-some, Option.same_Some, Option.slice_get_within, List.length-map, List.Elements.All-nil, List.Elements.All-cons, List.Elements.All-filter, List.Elements.All-get_or, List.Elements.All-map, List.FromFn.get_or-range_with_len, List.FromFn.length-range_with_len}
+use Rattle.srp_base.proofs.Lists.{All-flat_map, at_place}
+use Rattle.srp_base.specs.declared.{numbers.EgressPort.EgressPort, bandwidth.Rate.Rate, ports.PortChange.PortChange}
 use Rattle.srp_base.specs.declared.bandwidth.Rate.TheVariants.{M100, G1, G10}
-use Rattle.srp_base.specs.declared.ports.PortChange.{PortChange}
 use Rattle.stream_importance.specs.declared.slope.Caps.{Caps}
 use Rattle.srp_base.specs.Bandwidth.{bits_of}
 use Rattle.tree_topology.specs.declared.graph.Link.{Link}
-use Rattle.tree_topology.specs.Topology.{Topology}
-use Rattle.tree_topology.specs.Graph.{Joins, Joined}
-use Rattle.tree_topology.specs.Ports.{far_end, neighbours, index_in, port_to, link_at}
+use Rattle.tree_topology.specs.{Topology.Topology, Graph.Joins, Graph.Joined, Ports.far_end, Ports.neighbours, Ports.index_in, Ports.port_to, Ports.link_at}
 use Rattle.topology_file.specs.declared.entries.LinkEntry.{LinkEntry}
-use Rattle.topology_file.specs.Plan.{Plan}
-use Rattle.topology_file.specs.Scenario.{KeepsRules, ends_of_entry, tree_links}
-use Rattle.frame_flow.specs.declared.place.Place.{Place}
-use Rattle.frame_flow.specs.declared.result.PortFlow.{PortFlow}
-use Rattle.frame_flow.specs.Copies.{places_of_link, all_places}
-use Rattle.frame_flow.specs.Flow.{IsFlow, port_flow}
+use Rattle.topology_file.specs.{Plan.Plan, Scenario.KeepsRules, Scenario.ends_of_entry, Scenario.tree_links}
+use Rattle.frame_flow.specs.declared.{place.Place.Place, result.PortFlow.PortFlow}
+use Rattle.frame_flow.specs.{Copies.places_of_link, Copies.all_places, Flow.IsFlow, Flow.port_flow}
 use Rattle.scenario_frames.specs.Setting.{plan_rates, setting_of}
 use Rattle.class_b_bound.specs.Bound.{AreCaps}
-use Rattle.scenario_bounds.specs.Caps.{is_link_of, links_of, link_at as link_of_port, caps_of_link, no_caps, caps_at}
+use Rattle.scenario_bounds.specs.{is_link_of, links_of, link_at as link_of_port, caps_of_link, no_caps, caps_at}
 
 -- ---- a link among those of its end
 
@@ -44,11 +33,6 @@ joined_back [] x y h = absurd h
 joined_back (l ∷ links) x y (inl (inl h)) = inl (inr h)
 joined_back (l ∷ links) x y (inl (inr h)) = inl (inl h)
 joined_back (l ∷ links) x y (inr h) = inr (joined_back links x y h)
-
--- what stands in front of a link's place among those of its end
-at_place : (o : Option ℕ) (us : List ℕ) (v : ℕ) → o ≡ Some v → position_or_len (λ u. u == v) (cons_option o us) ≡ 0
-at_place None us v is = absurd (none-some v is)
-at_place (Some u) us v is = cond-false (not (u == v)) (1 + position_or_len (λ w. w == v) us) 0 (not_from_true (u == v) (eq-eqb u v (same_Some u v is)))
 
 far_of_a : (l : LinkEntry) → far_end l.a.0 (ends_of_entry l) ≡ Some l.b.0
 far_of_a l = cond-true (l.a.0 == l.a.0) (Some l.b.0) (cond (l.b.0 == l.a.0) (Some l.a.0) None) (eq-eqb l.a.0 l.a.0 refl)
@@ -137,12 +121,6 @@ within : (ls : List LinkEntry) (i : ℕ) → i < length ls → (l : LinkEntry) �
 within [] i lt = absurd (omega (arith, lt))
 within (l ∷ ls) zero lt = (l, refl)
 within (l ∷ ls) (suc i) lt = within ls i (omega (arith, lt))
-
-All-flat_map : {X Y : Type 0} (P : X → Type 0) (Q : Y → Type 0) (f : X → List Y) → ((x : X) → P x → All Q (f x)) → (xs : List X) → All P xs
-    → All Q (flat_map f xs)
-All-flat_map P Q f each [] all = All-nil Q
-All-flat_map P Q f each (x ∷ xs) all =
-    All-append Q (f x) (flat_map f xs) (each x (All-head P x xs all)) (All-flat_map P Q f each xs (All-tail P x xs all))
 
 -- class A's cap is a part of that of both
 shares_ordered : (a b r : ℕ) → a * r / 100 ≤ (a + b) * r / 100

@@ -1,2 +1,4 @@
 pub mod Caps
 pub mod PortBounds
+pub use Caps.*
+pub use PortBounds.*

@@ -1,9 +1,7 @@
 -- What holds of class B at a port of a scenario's flow.
 use Rattle.std.specs.Prelude.{ℕ, ◌≤◌}
 use Rattle.class_b_bound.specs.declared.bound.BoundB.{BoundB}
-use Rattle.class_b_bound.specs.Bound.{HasCaps, bound_of}
-use Rattle.class_b_bound.specs.Waits.{IsLongestWait, IsWorstWait, worst_wait_of}
-use Rattle.class_b_bound.specs.Window.{IsWindowBWithin}
+use Rattle.class_b_bound.specs.{Bound.HasCaps, Bound.bound_of, Waits.IsLongestWait, Waits.IsWorstWait, Waits.worst_wait_of, Window.IsWindowBWithin}
 use Rattle.frame_flow.specs.declared.result.PortFlow.{PortFlow}
 use Rattle.topology_file.specs.Plan.{Plan}
 use Rattle.scenario_bounds.specs.Caps.{caps_at}

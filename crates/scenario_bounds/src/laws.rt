@@ -1,15 +1,11 @@
 //! What is true of class B in every scenario's flow. Each is a function that does nothing; calling it brings the law to a proof.
 
 ghost use Rattle.std.specs.Prelude.{ℕ, List, All, AllPairs};
-ghost use Rattle.srp_base.specs.declared.numbers.EgressPort.{EgressPort};
-ghost use Rattle.srp_base.specs.declared.ports.PortChange.{PortChange};
+ghost use Rattle.srp_base.specs.declared.{numbers.EgressPort.EgressPort, ports.PortChange.PortChange};
 ghost use Rattle.class_b_bound.specs.Bound.{AreCaps};
 ghost use Rattle.frame_flow.specs.declared.result.PortFlow.{PortFlow};
-ghost use Rattle.frame_flow.specs.Flow.{IsFlow};
-ghost use Rattle.frame_flow.specs.Given.{IsEarlier};
-ghost use Rattle.frame_flow.specs.Laws.{KeepsCaps};
-ghost use Rattle.topology_file.specs.Plan.{Plan};
-ghost use Rattle.topology_file.specs.Scenario.{KeepsRules};
+ghost use Rattle.frame_flow.specs.{Flow.IsFlow, Given.IsEarlier, Laws.KeepsCaps};
+ghost use Rattle.topology_file.specs.{Plan.Plan, Scenario.KeepsRules};
 ghost use Rattle.scenario_frames.specs.Setting.{AreBelowRates, setting_of};
 ghost use Rattle.scenario_bounds.specs.Caps.{caps_at};
 ghost use Rattle.scenario_bounds.specs.PortBounds.{IsWithinBoundB};

@@ -4,8 +4,7 @@ use Rattle.std.specs.List.{range_with_len}
 use Rattle.std.proofs.lemmas.List.FromFn.{map-range_with_len_more}
 use Rattle.frame_flow.specs.declared.frame.Frame.{Frame}
 use Rattle.topology_file.specs.declared.entries.FrameEntry.{FrameEntry}
-use Rattle.scenario_frames.specs.declared.way.Way.{Way}
-use Rattle.scenario_frames.specs.PlanFrames.{copy_of}
+use Rattle.scenario_frames.specs.{Way, copy_of}
 
 -- one copy more
 pub copies-more : (e : FrameEntry) (way : Way) (first i : ℕ) (old : List Frame)

@@ -3,28 +3,15 @@ use Rattle.std.proofs.Common.{◌≡◌, ℕ, zero, suc, ◌+◌, ◌-◌, ◌*�
 use Rattle.std.specs.List.{range_with_len, All, AllPairs}
 use Rattle.std.specs.Prelude.{slice_get}
 use Rattle.std.proofs.Math.Nat.{mul-le-mul_right}
-use Rattle.std.proofs.lemmas.List.{map-append, length-map, get_or-map}
-use Rattle.std.proofs.lemmas.List.Elements.{All-nil, All-head, All-tail, All-append, All-map, All-weaker}
-use Rattle.std.proofs.lemmas.List.FromFn.{length-range_with_len, get_or-range_with_len}
-use Rattle.std.proofs.lemmas.List.Sums.{sum_by-cons}
-use Rattle.std.proofs.lemmas.Option.{slice_get-get_or}
+use Rattle.std.proofs.lemmas.{List.map-append, List.length-map, List.get_or-map, List.Elements.All-nil, List.Elements.All-head, List.Elements.All-tail, List.Elements.All-append, List.Elements.All-map, List.Elements.All-weaker, List.FromFn.length-range_with_len, List.FromFn.get_or-range_with_len, List.Sums.sum_by-cons, Option.slice_get-get_or}
 use Rattle.srp_base.specs.declared.ports.PortChange.{PortChange}
 use Rattle.tree_topology.specs.Topology.{Topology, HasNode}
 use Rattle.frame_flow.specs.declared.frame.Frame.{Frame}
 use Rattle.frame_flow.specs.Given.{IsFrame, IsRoute, IsEarlier, IsSetting}
-use Rattle.topology_file.specs.declared.entries.NodeEntry.{NodeEntry}
-use Rattle.topology_file.specs.declared.entries.LinkEntry.{LinkEntry}
-use Rattle.topology_file.specs.declared.entries.StreamEntry.{StreamEntry}
-use Rattle.topology_file.specs.declared.entries.FrameEntry.{FrameEntry}
-use Rattle.topology_file.specs.declared.entries.FrameRoute.{FrameRoute}
+use Rattle.topology_file.specs.declared.{entries.NodeEntry.NodeEntry, entries.LinkEntry.LinkEntry, entries.StreamEntry.StreamEntry, entries.FrameEntry.FrameEntry, entries.FrameRoute.FrameRoute}
 use Rattle.topology_file.specs.declared.entries.FrameRoute.TheVariants as routes
-use Rattle.topology_file.specs.Frames.{HasFrameForm, IsKnownRoute, frame_copies}
-use Rattle.topology_file.specs.Kinds.{IsStationNumber}
-use Rattle.topology_file.specs.Plan.{Plan}
-use Rattle.topology_file.specs.Scenario.{KeepsRules, ends_of_entry}
-use Rattle.scenario_frames.specs.declared.way.Way.{Way}
-use Rattle.scenario_frames.specs.PlanFrames.{stream_way, way_of, copy_of, copies_of, frames_from, plan_frames}
-use Rattle.scenario_frames.specs.Setting.{AreBelowRates, setting_of}
+use Rattle.topology_file.specs.{Frames.HasFrameForm, Frames.IsKnownRoute, Frames.frame_copies, Kinds.IsStationNumber, Plan.Plan, Scenario.KeepsRules, Scenario.ends_of_entry}
+use Rattle.scenario_frames.specs.{Way, stream_way, way_of, copy_of, copies_of, frames_from, plan_frames, AreBelowRates, setting_of}
 
 -- ---- ways
 

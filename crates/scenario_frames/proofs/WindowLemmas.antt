@@ -1,14 +1,12 @@
 -- Windows with the hiCredit of a cap on the slopes.
 use Rattle.std.proofs.Common.{ℕ, ◌≤◌, List, [], ◌∷◌, get_or, arith}
 use Rattle.std.specs.Prelude.{All}
-use Rattle.std.proofs.lemmas.Int.{ints}
-use Rattle.std.proofs.lemmas.List.Elements.{All-head, All-tail}
+use Rattle.std.proofs.lemmas.{Int.ints, List.Elements.All-head, List.Elements.All-tail}
 use Rattle.srp_base.specs.declared.numbers.EgressPort.{EgressPort}
-use Rattle.credit_shaper.specs.declared.port.SlopeChange.{SlopeChange}
-use Rattle.credit_shaper.specs.declared.port.PortInput.{PortInput}
+use Rattle.credit_shaper.specs.declared.{port.SlopeChange.SlopeChange, port.PortInput.PortInput}
 use Rattle.credit_shaper.specs.Bounds.{greatest_slope_a, IsWindowAWithin}
 use Rattle.frame_flow.specs.declared.result.PortFlow.{PortFlow}
-use Rattle.scenario_frames.specs.Laws.{HasWindowsOfSlopes, HasWindowsOfCap}
+use Rattle.scenario_frames.specs.{HasWindowsOfSlopes, HasWindowsOfCap}
 
 -- the greatest of slopes that are at most a cap is at most the cap
 greatest-upto : (most : ℕ) (slopes : List SlopeChange) → All (λ s. s.slope_a ≤ most) slopes → greatest_slope_a slopes ≤ most

@@ -2,3 +2,8 @@ pub mod PlanFrames
 pub mod Setting
 pub mod Laws
 pub mod Times
+pub use PlanFrames.*
+pub use Setting.*
+pub use Laws.*
+pub use Times.*
+pub use Rattle.scenario_frames.specs.declared.way.Way.{Way}

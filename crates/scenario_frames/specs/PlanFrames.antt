@@ -9,11 +9,8 @@ use Rattle.srp_base.specs.declared.bandwidth.Class.TheVariants as classes
 use Rattle.msrp_talker.specs.TalkerOut.{class_of_priority}
 use Rattle.credit_shaper.specs.declared.shaper.Traffic.{Traffic}
 use Rattle.credit_shaper.specs.declared.shaper.Traffic.TheVariants as traffics
-use Rattle.frame_flow.specs.declared.frame.Frame.{Frame}
-use Rattle.frame_flow.specs.declared.frame.Route.TheVariants.{Stream, To}
-use Rattle.topology_file.specs.declared.entries.StreamEntry.{StreamEntry}
-use Rattle.topology_file.specs.declared.entries.FrameEntry.{FrameEntry}
-use Rattle.topology_file.specs.declared.entries.FrameRoute.{FrameRoute}
+use Rattle.frame_flow.specs.declared.{frame.Frame.Frame, frame.Route.TheVariants.Stream, frame.Route.TheVariants.To}
+use Rattle.topology_file.specs.declared.{entries.StreamEntry.StreamEntry, entries.FrameEntry.FrameEntry, entries.FrameRoute.FrameRoute}
 use Rattle.topology_file.specs.declared.entries.FrameRoute.TheVariants as routes
 use Rattle.topology_file.specs.Plan.{Plan}
 use Rattle.scenario_frames.specs.declared.way.Way.{Way}

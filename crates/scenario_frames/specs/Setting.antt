@@ -1,10 +1,7 @@
 -- What a scenario asks a flow of, with what was in force at its ports over a run.
 use Rattle.std.specs.Prelude.{List, map, All}
-use Rattle.srp_base.specs.declared.bandwidth.Rate.{Rate}
-use Rattle.srp_base.specs.declared.ports.PortChange.{PortChange}
-use Rattle.frame_flow.specs.Copies.{all_places}
-use Rattle.frame_flow.specs.Flow.{Setting}
-use Rattle.frame_flow.specs.Given.{HasSlopesBelow}
+use Rattle.srp_base.specs.declared.{bandwidth.Rate.Rate, ports.PortChange.PortChange}
+use Rattle.frame_flow.specs.{Copies.all_places, Flow.Setting, Given.HasSlopesBelow}
 use Rattle.topology_file.specs.Plan.{Plan}
 use Rattle.scenario_frames.specs.PlanFrames.{plan_frames}
 

@@ -3,16 +3,11 @@
 
 ghost use Rattle.std.specs.Prelude.{◌≡◌, ℕ, List, map, All, AllPairs};
 ghost use Rattle.std.specs.List.{range_with_len};
-ghost use Rattle.srp_base.specs.declared.numbers.EgressPort.{EgressPort};
-ghost use Rattle.srp_base.specs.declared.ports.PortChange.{PortChange};
+ghost use Rattle.srp_base.specs.declared.{numbers.EgressPort.EgressPort, ports.PortChange.PortChange};
 ghost use Rattle.frame_flow.specs.declared.result.PortFlow.{PortFlow};
 ghost use Rattle.credit_shaper.specs.Port.{IsPortInput};
-ghost use Rattle.frame_flow.specs.Flow.{IsFlow};
-ghost use Rattle.frame_flow.specs.Given.{IsEarlier, IsSetting};
-ghost use Rattle.frame_flow.specs.Laws.{KeepsCapsA, KeepsCaps, HasCaps};
-ghost use Rattle.topology_file.specs.Frames.{frame_copies};
-ghost use Rattle.topology_file.specs.Plan.{Plan};
-ghost use Rattle.topology_file.specs.Scenario.{KeepsRules};
+ghost use Rattle.frame_flow.specs.{Flow.IsFlow, Given.IsEarlier, Given.IsSetting, Laws.KeepsCapsA, Laws.KeepsCaps, Laws.HasCaps};
+ghost use Rattle.topology_file.specs.{Frames.frame_copies, Plan.Plan, Scenario.KeepsRules};
 ghost use Rattle.scenario_frames.specs.PlanFrames.{plan_frames};
 ghost use Rattle.scenario_frames.specs.Setting.{AreBelowRates, setting_of};
 ghost use Rattle.scenario_frames.specs.Laws.{HasWindowsOfSlopes, HasWindowsOfCap};

@@ -1,8 +1,7 @@
 //! What a scenario asks a flow of, and the flow of a run.
 
 ghost use Rattle.std.specs.Prelude.{◌≡◌, AllPairs, IfOk, map};
-ghost use Rattle.frame_flow.specs.Flow.{IsFlow};
-ghost use Rattle.frame_flow.specs.Given.{IsEarlier};
+ghost use Rattle.frame_flow.specs.{Flow.IsFlow, Given.IsEarlier};
 ghost use Rattle.scenario_frames.specs.Setting.{AreBelowRates, plan_rates, setting_of};
 
 use crate::frames::frames_of;

@@ -3,8 +3,7 @@ use Rattle.std.proofs.Common.{◌≡◌, ℕ, suc, ◌+◌, ◌/◌, ◌<◌, �
 use Rattle.std.specs.List.{range_with_len}
 use Rattle.std.proofs.Math.Nat.{mod-lt}
 use Rattle.std.proofs.lemmas.List.FromFn.{get_or-map-range_with_len, map-range_with_len_more}
-use Rattle.scenario_generator.specs.Draws.{next_state, state_after, drawn, draw, most_draws}
-use Rattle.scenario_generator.specs.Network.{bridge_count, station_count, stream_count}
+use Rattle.scenario_generator.specs.{next_state, state_after, drawn, draw, most_draws, bridge_count, station_count, stream_count}
 
 pub draw-below : (number place m : ℕ) → 0 < m → draw number place m < m
 draw-below number place m some = mod-lt (drawn number place) some

@@ -1,26 +1,12 @@
 -- The events of a number: their ticks, that what they name is known, and how many there are.
 use Rattle.std.proofs.Common.{◌≡◌, ◌≢◌, ℕ, zero, suc, ◌+◌, ◌-◌, ◌*◌, ◌≤◌, ◌<◌, inl, inr, List, [], ◌∷◌, ◌++◌, length, get_or, map, refl, sym, ap, ◌∙◌, subst, arith, length-append}
 use Rattle.std.specs.Prelude.{All, ◌==◌}
-use Rattle.std.specs.List.{flat_map, range_with_len}
-use Rattle.std.specs.List.Sorted.{IsPermutation, IsNonDecreasing, IsSortedByKey, IsStableByKey}
-use Rattle.std.specs.Ordering.{nat_cmp}
-use Rattle.std.proofs.lemmas.Bool.{cases_Bool, eqb-true, eqb-false}
-use Rattle.std.proofs.lemmas.List.{get_or-map, length-map}
-use Rattle.std.proofs.lemmas.List.Elements.{All-append, All-map, All-nil}
-use Rattle.std.proofs.lemmas.List.FromFn.{length-map-range_with_len, length-range_with_len, get_or-range_with_len}
-use Rattle.std.proofs.lemmas.List.Sorted.{All-permutation, length_permutation, IsNonDecreasingBy-from_sort}
-use Rattle.topology_file.specs.declared.entries.LinkEntry.{LinkEntry}
-use Rattle.topology_file.specs.declared.entries.StreamEntry.{StreamEntry}
-use Rattle.topology_file.specs.declared.entries.EventEntry.{EventEntry}
-use Rattle.topology_file.specs.Events.{event_ticks}
-use Rattle.topology_file.specs.Kinds.{IsKnownKind, IsNotTalker, AreJoinedNumbers}
-use Rattle.scenario_generator.specs.Network.{bridge_count, station_count, stream_count, link_count, station_node, link_entry, drawn_nodes, drawn_links}
-use Rattle.scenario_generator.specs.Streams.{talker_drawn, drawn_streams}
-use Rattle.scenario_generator.specs.Events.{declaration, event_draw, talk, listening_station, listen, stream_events, loss_draw, lost_on, loss_link, loss, drawn_events, IsSortedByTick}
-use Rattle.scenario_generator.proofs.DrawLemmas.{draw-below, bridges-between, stations-between, streams-between}
-use Rattle.scenario_generator.proofs.NetworkLemmas.{station-number, ends-joined}
-use Rattle.scenario_generator.proofs.PairLemmas.{all-of-range}
-use Rattle.scenario_generator.proofs.StreamLemmas.{talker-below, stream-at, stream-number}
+use Rattle.std.specs.{List.flat_map, List.range_with_len, List.Sorted.IsPermutation, List.Sorted.IsNonDecreasing, List.Sorted.IsSortedByKey, List.Sorted.IsStableByKey, Ordering.nat_cmp}
+use Rattle.std.proofs.lemmas.{Bool.cases_Bool, Bool.eqb-true, Bool.eqb-false, List.get_or-map, List.length-map, List.Elements.All-append, List.Elements.All-map, List.Elements.All-nil, List.FromFn.length-map-range_with_len, List.FromFn.length-range_with_len, List.FromFn.get_or-range_with_len, List.Sorted.All-permutation, List.Sorted.length_permutation, List.Sorted.IsNonDecreasingBy-from_sort}
+use Rattle.topology_file.specs.declared.{entries.LinkEntry.LinkEntry, entries.StreamEntry.StreamEntry, entries.EventEntry.EventEntry}
+use Rattle.topology_file.specs.{Events.event_ticks, Kinds.IsKnownKind, Kinds.IsNotTalker, Kinds.AreJoinedNumbers}
+use Rattle.scenario_generator.specs.{bridge_count, station_count, stream_count, link_count, station_node, link_entry, drawn_nodes, drawn_links, talker_drawn, drawn_streams, declaration, event_draw, talk, listening_station, listen, stream_events, loss_draw, lost_on, loss_link, loss, drawn_events, IsSortedByTick}
+use Rattle.scenario_generator.proofs.{DrawLemmas.draw-below, DrawLemmas.bridges-between, DrawLemmas.stations-between, DrawLemmas.streams-between, NetworkLemmas.station-number, NetworkLemmas.ends-joined, PairLemmas.all-of-range, StreamLemmas.talker-below, StreamLemmas.stream-at, StreamLemmas.stream-number}
 
 -- what the rules ask of an event
 pub record IsGood (number : ℕ) (e : EventEntry) : Type 0 where

@@ -2,12 +2,8 @@
 use Rattle.std.proofs.Common.{◌≡◌, ◌≢◌, ℕ, zero, suc, ◌+◌, ◌-◌, ◌≤◌, ◌<◌, inl, inr, List, [], ◌∷◌, ◌++◌, length, take, get_or, Some, None, refl, sym, ap, ◌∙◌, subst, arith}
 use Rattle.std.specs.Prelude.{◌==◌}
 use Rattle.std.proofs.lemmas.Bool.{cases_Bool, eq-eqb, eqb-true, eqb-false}
-use Rattle.tree_topology.specs.declared.graph.Link.{Link}
-use Rattle.tree_topology.specs.declared.graph.NodeKind.{NodeKind}
-use Rattle.tree_topology.specs.declared.graph.NodeKind.TheVariants.{Station}
-use Rattle.tree_topology.specs.Graph.{IsNode, Joined, IsWalk, Connected, IsGraph, IsTree}
-use Rattle.tree_topology.specs.Ports.{far_end, neighbours}
-use Rattle.tree_topology.specs.Refusal.{IsAccepted, HasNoLoop}
+use Rattle.tree_topology.specs.declared.{graph.Link.Link, graph.NodeKind.NodeKind, graph.NodeKind.TheVariants.Station}
+use Rattle.tree_topology.specs.{Graph.IsNode, Graph.Joined, Graph.IsWalk, Graph.Connected, Graph.IsGraph, Graph.IsTree, Ports.far_end, Ports.neighbours, Refusal.IsAccepted, Refusal.HasNoLoop}
 
 -- the link joins node n with an earlier one, which is one of so many bridges
 pub record IsNext (bridges n : ℕ) (l : Link) : Type 0 where

@@ -1,29 +1,15 @@
 -- The nodes and links of a number: what stands at each place, and that they are an accepted tree.
-use Rattle.std.proofs.Common.{◌≡◌, ◌≢◌, ℕ, zero, suc, ◌+◌, ◌-◌, ◌≤◌, ◌<◌, ◌^◌, ◌⊎◌, inl, inr, Bool, true, false, List, length, get_or, map, refl, sym, ap, ◌∙◌, subst, arith, length-append}
-use Rattle.std.specs.Prelude.{All, AllPairs, ◌==◌, ◌&&◌, ◌||◌}
+use Rattle.std.proofs.Common.{◌≡◌, ◌≢◌, ℕ, zero, suc, ◌+◌, ◌-◌, ◌≤◌, ◌<◌, ◌^◌, ◌⊎◌, inl, inr, true, List, length, get_or, map, refl, sym, ap, ◌∙◌, subst, arith, length-append}
+use Rattle.std.specs.Prelude.{All, AllPairs, ◌==◌, ◌&&◌}
 use Rattle.std.specs.List.{range_with_len}
-use Rattle.std.proofs.lemmas.Bool.{eq-eqb}
-use Rattle.std.proofs.lemmas.List.{get_or-map, get_or_append_left, get_or-append_right, length-map}
-use Rattle.std.proofs.lemmas.List.Elements.{All-append}
-use Rattle.std.proofs.lemmas.List.Folds.{list_any_at}
-use Rattle.std.proofs.lemmas.List.FromFn.{length-map-range_with_len, get_or-map-range_with_len}
-use Rattle.tree_topology.specs.declared.graph.Link.{Link}
-use Rattle.tree_topology.specs.declared.graph.NodeKind.{NodeKind}
-use Rattle.tree_topology.specs.declared.graph.NodeKind.TheVariants.{Station, Bridge}
-use Rattle.tree_topology.specs.Graph.{IsNode, Connected, IsGraph, IsTree}
-use Rattle.tree_topology.specs.Ports.{neighbours}
-use Rattle.tree_topology.specs.Refusal.{IsAccepted, HasNoLoop, is_station}
-use Rattle.tree_topology.specs.Topology.{Topology}
-use Rattle.topology_file.specs.declared.entries.DomainWord.TheVariants.{Both}
-use Rattle.topology_file.specs.declared.entries.NodeEntry.{NodeEntry}
-use Rattle.topology_file.specs.declared.entries.LinkEntry.{LinkEntry}
-use Rattle.topology_file.specs.Entries.{is_name, joins_both}
-use Rattle.topology_file.specs.Kinds.{IsStationNumber, AreJoinedNumbers}
-use Rattle.topology_file.specs.Scenario.{ends_of_entry, node_kinds, tree_links}
-use Rattle.scenario_generator.specs.Network.{bridge_count, station_count, link_count, bridge_entry, station_entry, station_node, drawn_nodes, bridge_link, station_link, drawn_links}
-use Rattle.scenario_generator.proofs.DrawLemmas.{draw-below, bridges-between, stations-between}
-use Rattle.scenario_generator.proofs.GrownTree.{IsNext, IsGrown, grown-from-each, grown-accepted, few-links}
-use Rattle.scenario_generator.proofs.PairLemmas.{all-of-range, pairs-differ, numbered-is-name, same-number, same-letter}
+use Rattle.std.proofs.lemmas.{Bool.eq-eqb, List.get_or-map, List.get_or_append_left, List.get_or-append_right, List.length-map, List.Elements.All-append, List.Folds.list_any_at, List.FromFn.length-map-range_with_len, List.FromFn.get_or-map-range_with_len}
+use Rattle.srp_base.proofs.Bools.{or-true}
+use Rattle.tree_topology.specs.declared.{graph.Link.Link, graph.NodeKind.NodeKind, graph.NodeKind.TheVariants.Station, graph.NodeKind.TheVariants.Bridge}
+use Rattle.tree_topology.specs.{Graph.IsNode, Graph.Connected, Graph.IsGraph, Graph.IsTree, Ports.neighbours, Refusal.IsAccepted, Refusal.HasNoLoop, Refusal.is_station, Topology.Topology}
+use Rattle.topology_file.specs.declared.{entries.DomainWord.TheVariants.Both, entries.NodeEntry.NodeEntry, entries.LinkEntry.LinkEntry}
+use Rattle.topology_file.specs.{Entries.is_name, Entries.joins_both, Kinds.IsStationNumber, Kinds.AreJoinedNumbers, Scenario.ends_of_entry, Scenario.node_kinds, Scenario.tree_links}
+use Rattle.scenario_generator.specs.{bridge_count, station_count, link_count, bridge_entry, station_entry, station_node, drawn_nodes, bridge_link, station_link, drawn_links}
+use Rattle.scenario_generator.proofs.{DrawLemmas.draw-below, DrawLemmas.bridges-between, DrawLemmas.stations-between, GrownTree.IsNext, GrownTree.IsGrown, GrownTree.grown-from-each, GrownTree.grown-accepted, GrownTree.few-links, PairLemmas.all-of-range, PairLemmas.pairs-differ, PairLemmas.numbered-is-name, PairLemmas.same-number, PairLemmas.same-letter}
 
 -- ---- nodes
 
@@ -270,10 +256,6 @@ uncrowded number x =
 
 joined-so : (l : LinkEntry) → joins_both l.a.0 l.b.0 l ≡ true
 joined-so l = rw (eq-eqb l.a.0 l.a.0 refl, eq-eqb l.b.0 l.b.0 refl) refl
-
-or-true : (p : Bool) → (p || true) ≡ true
-or-true true = refl
-or-true false = refl
 
 joined-back : (l : LinkEntry) → joins_both l.b.0 l.a.0 l ≡ true
 joined-back l = rw (eq-eqb l.a.0 l.a.0 refl, eq-eqb l.b.0 l.b.0 refl) (or-true (l.a.0 == l.b.0 && l.b.0 == l.a.0))

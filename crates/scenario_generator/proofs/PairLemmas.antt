@@ -1,14 +1,11 @@
 -- Lists whose elements are known by their places.
-use Rattle.std.proofs.Common.{◌≡◌, ◌≢◌, ℕ, zero, suc, ◌+◌, ◌≤◌, ◌<◌, Bool, true, false, leb, eqb, ◌&&◌, ◌||◌, List, [], ◌∷◌, ◌++◌, length, get_or, drop, map, refl, sym, ap, ◌∙◌, subst, append-nil, append_assoc, arith}
+use Rattle.std.proofs.Common.{◌≡◌, ◌≢◌, ℕ, suc, ◌+◌, ◌≤◌, ◌<◌, Bool, true, false, leb, eqb, ◌&&◌, ◌||◌, List, [], ◌∷◌, ◌++◌, length, get_or, drop, map, refl, sym, ap, ◌∙◌, subst, append_assoc, arith}
 use Rattle.std.specs.Prelude.{All, AllPairs, slice_index}
-use Rattle.std.specs.List.{flat_map, list_all, range_with_len}
-use Rattle.std.specs.Fmt.{decimal}
-use Rattle.std.proofs.lemmas.Bool.{and_from, le-leb}
-use Rattle.std.proofs.lemmas.Fmt.{decimal_injective, decimal_is_IsNumeral, length-decimal-le}
-use Rattle.std.proofs.lemmas.Str.Parse.{digit_at}
-use Rattle.std.proofs.lemmas.List.FromFn.{length-map-range_with_len, get_or-map-range_with_len, map-range_with_len_more}
+use Rattle.std.specs.{List.flat_map, List.list_all, List.range_with_len, Fmt.decimal}
+use Rattle.std.proofs.lemmas.{Bool.and_from, Bool.le-leb, Fmt.decimal_injective, Fmt.decimal_is_IsNumeral, Fmt.length-decimal-le, Str.Parse.digit_at, List.FromFn.length-map-range_with_len, List.FromFn.get_or-map-range_with_len, List.FromFn.map-range_with_len_more}
+use Rattle.srp_base.proofs.Lists.{flat-range-more}
 use Rattle.topology_file.specs.Entries.{is_name, is_name_char}
-use Rattle.scenario_generator.specs.Network.{numbered_name}
+use Rattle.scenario_generator.specs.{numbered_name}
 
 -- what is true of f of each number of a range is true of each element of its list
 pub all-of-range : {X : Type 0} (P : X → Type 0) (f : ℕ → X) (a n : ℕ) → ((k : ℕ) → k < n → P (f (a + k))) → All P (map f (range_with_len a n))
@@ -22,15 +19,6 @@ pub push-more : {X : Type 0} (f : ℕ → X) (a n j : ℕ) (front before after :
 push-more {X} f a n j front before after x place all pushed is =
     pushed ∙ ap (λ (xs : List X). xs ++ (x ∷ [])) all ∙ ap (λ (y : X). (front ++ map f (range_with_len a n)) ++ (y ∷ [])) is
     ∙ append_assoc front (map f (range_with_len a n)) (f j ∷ []) ∙ ap (λ (xs : List X). front ++ xs) (sym (map-range_with_len_more f a n j place))
-
--- the same of lists one after the other
-flat-range-more : {X : Type 0} (f : ℕ → List X) (n a j : ℕ) → a + n ≡ j → flat_map f (range_with_len a (suc n)) ≡ flat_map f (range_with_len a n) ++ f j
-flat-range-more f zero a j place =
-    let e : a ≡ j = omega (arith, place) in
-    append-nil (f a) ∙ ap f e
-flat-range-more {X} f (suc n) a j place =
-    ap (λ (xs : List X). f a ++ xs) (flat-range-more f n (a + 1) j (omega (arith, place)))
-    ∙ sym (append_assoc (f a) (flat_map f (range_with_len (a + 1) n)) (f j))
 
 pub extend-more : {X : Type 0} (f : ℕ → List X) (a n j : ℕ) (front before after : List X) → a + n ≡ j → before ≡ front ++ flat_map f (range_with_len a n) → after ≡ before ++ f j
     → after ≡ front ++ flat_map f (range_with_len a (n + 1))

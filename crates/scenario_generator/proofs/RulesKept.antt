@@ -3,26 +3,12 @@ use Rattle.std.proofs.Common.{◌≡◌, ℕ, Bool, false, List, [], refl, sym, 
 use Rattle.std.proofs.lemmas.List.Sorted.{IsNonDecreasingBy-from_sort}
 use Rattle.srp_base.specs.declared.numbers.Cs.{Cs}
 use Rattle.tree_topology.specs.declared.graph.Link.{Link}
-use Rattle.tree_topology.specs.Graph.{IsNode, Connected, IsGraph, IsTree}
-use Rattle.tree_topology.specs.Refusal.{HasNoLoop}
-use Rattle.tree_topology.specs.Topology.{Topology}
-use Rattle.topology_file.specs.declared.entries.NodeEntry.{NodeEntry}
-use Rattle.topology_file.specs.declared.entries.LinkEntry.{LinkEntry}
-use Rattle.topology_file.specs.declared.entries.StreamEntry.{StreamEntry}
-use Rattle.topology_file.specs.declared.entries.EventEntry.{EventEntry}
-use Rattle.topology_file.specs.declared.entries.EventKind.TheVariants.{Talk}
-use Rattle.topology_file.specs.declared.entries.FrameEntry.{FrameEntry}
-use Rattle.topology_file.specs.Plan.{Plan}
-use Rattle.topology_file.specs.Scenario.{KeepsRules, topology_of}
-use Rattle.scenario_generator.specs.Network.{drawn_nodes, drawn_links}
-use Rattle.scenario_generator.specs.Streams.{drawn_streams}
-use Rattle.scenario_generator.specs.Events.{drawn_events, IsSortedByTick}
-use Rattle.scenario_generator.specs.Generated.{IsDrawn}
-use Rattle.scenario_generator.proofs.DrawLemmas.{bridges-between, stations-between, streams-between}
-use Rattle.scenario_generator.proofs.NetworkLemmas.{node-count, ids-small, words-drawn, ids-differ, names-formed, names-differ, links-formed, network-accepted, uncrowded}
-use Rattle.scenario_generator.proofs.StreamLemmas.{streams-counted, streams-formed, stream-names-differ, stream-ids-differ, talkers-known}
+use Rattle.tree_topology.specs.{Graph.IsNode, Graph.Connected, Graph.IsGraph, Graph.IsTree, Refusal.HasNoLoop, Topology.Topology}
+use Rattle.topology_file.specs.declared.{entries.NodeEntry.NodeEntry, entries.LinkEntry.LinkEntry, entries.StreamEntry.StreamEntry, entries.EventEntry.EventEntry, entries.EventKind.TheVariants.Talk, entries.FrameEntry.FrameEntry}
+use Rattle.topology_file.specs.{Plan.Plan, Scenario.KeepsRules, Scenario.topology_of}
+use Rattle.scenario_generator.specs.{drawn_nodes, drawn_links, drawn_streams, drawn_events, IsSortedByTick, IsDrawn}
+use Rattle.scenario_generator.proofs.{DrawLemmas.bridges-between, DrawLemmas.stations-between, DrawLemmas.streams-between, NetworkLemmas.node-count, NetworkLemmas.ids-small, NetworkLemmas.words-drawn, NetworkLemmas.ids-differ, NetworkLemmas.names-formed, NetworkLemmas.names-differ, NetworkLemmas.links-formed, NetworkLemmas.network-accepted, NetworkLemmas.uncrowded, StreamLemmas.streams-counted, StreamLemmas.streams-formed, StreamLemmas.stream-names-differ, StreamLemmas.stream-ids-differ, StreamLemmas.talkers-known, EventLemmas.sorted-many, EventLemmas.sorted-within, EventLemmas.sorted-known, EventLemmas.sorted-order}
 use Rattle.srp_base.proofs.SortLemmas.{one-order}
-use Rattle.scenario_generator.proofs.EventLemmas.{sorted-many, sorted-within, sorted-known, sorted-order}
 
 -- a plan of these values
 plan : ℕ → Cs → Bool → Bool → Topology → List NodeEntry → List LinkEntry → List StreamEntry → List EventEntry → List FrameEntry → Plan

@@ -3,13 +3,9 @@ use Rattle.std.proofs.Common.{◌≡◌, ◌≢◌, ℕ, ◌+◌, ◌-◌, ◌*�
 use Rattle.std.specs.Prelude.{All, AllPairs}
 use Rattle.std.proofs.lemmas.List.FromFn.{length-map-range_with_len, get_or-map-range_with_len}
 use Rattle.topology_file.specs.declared.entries.StreamEntry.{StreamEntry}
-use Rattle.topology_file.specs.Kinds.{IsStationNumber, IsStreamNumber}
-use Rattle.topology_file.specs.Scenario.{HasStreamForm}
-use Rattle.scenario_generator.specs.Network.{station_count, stream_count, link_count, numbered_name, drawn_nodes}
-use Rattle.scenario_generator.specs.Streams.{talker_drawn, stream_entry, drawn_streams}
-use Rattle.scenario_generator.proofs.DrawLemmas.{draw-below, stations-between, streams-between}
-use Rattle.scenario_generator.proofs.NetworkLemmas.{station-number}
-use Rattle.scenario_generator.proofs.PairLemmas.{all-of-range, pairs-differ, numbered-is-name, same-number}
+use Rattle.topology_file.specs.{Kinds.IsStationNumber, Kinds.IsStreamNumber, Scenario.HasStreamForm}
+use Rattle.scenario_generator.specs.{station_count, stream_count, link_count, numbered_name, drawn_nodes, talker_drawn, stream_entry, drawn_streams}
+use Rattle.scenario_generator.proofs.{DrawLemmas.draw-below, DrawLemmas.stations-between, DrawLemmas.streams-between, NetworkLemmas.station-number, PairLemmas.all-of-range, PairLemmas.pairs-differ, PairLemmas.numbered-is-name, PairLemmas.same-number}
 
 pub streams-counted : (number : ℕ) → length (drawn_streams number) ≡ stream_count number
 streams-counted number = length-map-range_with_len (stream_entry number) 1 (stream_count number)

@@ -1,15 +1,9 @@
 -- The events of a number: five draws for each stream, behind those of the streams, and three for each of twenty losses.
 use Rattle.std.specs.Prelude.{ℕ, ◌+◌, ◌-◌, ◌*◌, ◌==◌, if◌then◌else◌, List, [], ◌∷◌, ◌++◌, map, slice_index_or}
-use Rattle.std.specs.List.{flat_map, range_with_len}
-use Rattle.std.specs.List.Sorted.{IsPermutation, IsSortedByKey, IsStableByKey}
-use Rattle.std.specs.Ordering.{nat_cmp}
-use Rattle.topology_file.specs.declared.entries.LinkEntry.{LinkEntry}
-use Rattle.topology_file.specs.declared.entries.EventEntry.{EventEntry}
-use Rattle.topology_file.specs.declared.entries.EventKind.{EventKind}
+use Rattle.std.specs.{List.flat_map, List.range_with_len, List.Sorted.IsPermutation, List.Sorted.IsSortedByKey, List.Sorted.IsStableByKey, Ordering.nat_cmp}
+use Rattle.topology_file.specs.declared.{entries.LinkEntry.LinkEntry, entries.EventEntry.EventEntry, entries.EventKind.EventKind}
 use Rattle.topology_file.specs.declared.entries.EventKind.TheVariants as kinds
-use Rattle.scenario_generator.specs.Draws.{draw}
-use Rattle.scenario_generator.specs.Network.{bridge_count, station_count, stream_count, link_count, station_node, link_entry, drawn_links}
-use Rattle.scenario_generator.specs.Streams.{talker_drawn}
+use Rattle.scenario_generator.specs.{Draws.draw, Network.bridge_count, Network.station_count, Network.stream_count, Network.link_count, Network.station_node, Network.link_entry, Network.drawn_links, Streams.talker_drawn}
 
 -- ---- every station declares VID 2 at the start
 

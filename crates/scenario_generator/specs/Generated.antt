@@ -1,10 +1,7 @@
 -- The scenario of a number.
 use Rattle.std.specs.Prelude.{◌≡◌, ℕ, false, []}
-use Rattle.topology_file.specs.Plan.{Plan}
-use Rattle.topology_file.specs.Scenario.{topology_of}
-use Rattle.scenario_generator.specs.Network.{drawn_nodes, drawn_links}
-use Rattle.scenario_generator.specs.Streams.{drawn_streams}
-use Rattle.scenario_generator.specs.Events.{drawn_events, IsSortedByTick}
+use Rattle.topology_file.specs.{Plan.Plan, Scenario.topology_of}
+use Rattle.scenario_generator.specs.{Network.drawn_nodes, Network.drawn_links, Streams.drawn_streams, Events.drawn_events, Events.IsSortedByTick}
 
 -- 4,000 ticks of its nodes, links, streams and events, by the draws of the number; LeaveTime is 60 cs, nothing is
 -- transmitted periodically, and there are no SRP domains and no frames

@@ -1,12 +1,9 @@
 -- The network of a number: how large it is, its nodes and its links.
 use Rattle.std.specs.Prelude.{ℕ, ◌+◌, ◌-◌, List, ◌++◌, map, codes}
-use Rattle.std.specs.List.{range_with_len}
-use Rattle.std.specs.Fmt.{decimal}
+use Rattle.std.specs.{List.range_with_len, Fmt.decimal}
 use Rattle.srp_base.specs.declared.bandwidth.Rate.TheVariants.{M100}
 use Rattle.tree_topology.specs.declared.graph.NodeKind.TheVariants.{Station, Bridge}
-use Rattle.topology_file.specs.declared.entries.DomainWord.TheVariants.{Both}
-use Rattle.topology_file.specs.declared.entries.NodeEntry.{NodeEntry}
-use Rattle.topology_file.specs.declared.entries.LinkEntry.{LinkEntry}
+use Rattle.topology_file.specs.declared.{entries.DomainWord.TheVariants.Both, entries.NodeEntry.NodeEntry, entries.LinkEntry.LinkEntry}
 use Rattle.scenario_generator.specs.Draws.{draw}
 
 -- ---- sizes: the first three draws

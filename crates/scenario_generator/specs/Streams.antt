@@ -1,11 +1,9 @@
 -- The streams of a number: three draws each, behind those of the links.
 use Rattle.std.specs.Prelude.{ℕ, ◌+◌, ◌-◌, ◌*◌, ◌==◌, if◌then◌else◌, List, map, codes}
 use Rattle.std.specs.List.{range_with_len}
-use Rattle.srp_base.specs.declared.bandwidth.Rank.{Rank}
-use Rattle.srp_base.specs.declared.bandwidth.Rank.TheVariants.{Emergency, Normal}
+use Rattle.srp_base.specs.declared.{bandwidth.Rank.Rank, bandwidth.Rank.TheVariants.Emergency, bandwidth.Rank.TheVariants.Normal}
 use Rattle.topology_file.specs.declared.entries.StreamEntry.{StreamEntry}
-use Rattle.scenario_generator.specs.Draws.{draw}
-use Rattle.scenario_generator.specs.Network.{bridge_count, station_count, stream_count, link_count, numbered_name, station_node}
+use Rattle.scenario_generator.specs.{Draws.draw, Network.bridge_count, Network.station_count, Network.stream_count, Network.link_count, Network.numbered_name, Network.station_node}
 
 -- the draw for stream k, from 1: its first, second or third, counted from 0
 abbrev pub stream_draw : ℕ → ℕ → ℕ → ℕ → ℕ

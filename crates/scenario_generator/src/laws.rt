@@ -1,8 +1,7 @@
 //! The laws of what is drawn.
 
 ghost use Rattle.std.specs.Prelude.{◌≡◌, ℕ};
-ghost use Rattle.topology_file.specs.Plan.{Plan};
-ghost use Rattle.topology_file.specs.Scenario.{KeepsRules};
+ghost use Rattle.topology_file.specs.{Plan.Plan, Scenario.KeepsRules};
 ghost use Rattle.scenario_generator.specs.Generated.{IsDrawn};
 
 /// The scenario of every number keeps the rules of a scenario's file.

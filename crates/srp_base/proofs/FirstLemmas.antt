@@ -1,7 +1,7 @@
 -- What the first element that a test passes tells of the elements, one after the other.
 use Rattle.std.proofs.Common.{◌≡◌, ℕ, suc, zero, ◌+◌, ◌<◌, ◌≤◌, Bool, true, false, cond, if◌then◌else◌, List, [], ◌∷◌, ◌++◌, Option, Some, None, refl, sym, ap, ◌∙◌, length, get_or, take, drop, append-nil, append_assoc, arith}
 use Rattle.std.proofs.lemmas.List.{take_more, drop_more, drop_all, length-take-le, length_push}
-use Rattle.srp_base.specs.Firsts.{first_where}
+use Rattle.srp_base.specs.{first_where}
 
 -- ---- a search at its places
 

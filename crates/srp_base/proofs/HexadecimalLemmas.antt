@@ -2,12 +2,11 @@
 use Rattle.std.proofs.Common.{◌≡◌, ℕ, ◌+◌, ◌-◌, ◌^◌, List, [], ◌++◌, length, false, refl, append-nil, ap, ◌↔◌, Option, Result, Ok, Err}
 use Rattle.std.proofs.Math.Nat.{sub-zero}
 use Rattle.std.specs.Prelude.{replicate, IsOk, IsSome, IfSome, Some, None}
-use Rattle.std.specs.List.{AllPass}
-use Rattle.std.specs.Fmt.{padded_integral, format_spec, char_count}
+use Rattle.std.specs.{List.AllPass, Fmt.padded_integral, Fmt.format_spec, Fmt.char_count}
 use Rattle.hex.specs.Hex.{decode_sized, is_hex_digit}
 use Rattle.hex.specs.declared.error.FromHexError.{FromHexError}
 use Rattle.hex.proofs.HexLemmas.{IsOk-decode_sized}
-use Rattle.srp_base.specs.Hexadecimal.{hex12, hex16, number_of_decoded, number_of_octets}
+use Rattle.srp_base.specs.{hex12, hex16, number_of_decoded, number_of_octets}
 
 -- what `{:016x}` writes of a number
 pub padded_hex16 : (ds : List ℕ)

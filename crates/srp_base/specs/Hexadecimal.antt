@@ -1,7 +1,6 @@
 -- Identifiers as hexadecimal digits: StreamIDs and BridgeIDs have sixteen, addresses twelve.
 use Rattle.std.specs.Prelude.{ℕ, false, ◌+◌, ◌-◌, ◌*◌, List, ◌++◌, length, fold, Option, Some, None, Result, Ok, Err, replicate}
-use Rattle.std.specs.Fmt.{digits}
-use Rattle.std.specs.Int.{w64, from_be_bytes}
+use Rattle.std.specs.{Fmt.digits, Int.w64, Int.from_be_bytes}
 use Rattle.hex.specs.Hex.{decode_sized}
 use Rattle.hex.specs.declared.error.FromHexError.{FromHexError}
 

@@ -2,3 +2,8 @@ pub mod Faults
 pub mod Memory
 pub mod Standard
 pub mod Whole
+pub use Faults.*
+pub use Memory.*
+pub use Standard.*
+pub use Whole.*
+pub use Rattle.srp_io.specs.declared.sink.SinkErr.TheVariants.{Failed}

@@ -1,8 +1,7 @@
 -- What reading and writing whole say of an error.
 use Rattle.std.specs.Prelude.{◌≡◌, ℕ, ◌+◌, ◌≤◌, List, length, Option}
 use Rattle.std.specs.Io.KnownBytes.{Consumes}
-use Rattle.srp_io.specs.declared.whole.WriteErr.{WriteErr}
-use Rattle.srp_io.specs.declared.whole.WriteErr.TheVariants.{Fault, NoMemory}
+use Rattle.srp_io.specs.declared.{whole.WriteErr.WriteErr, whole.WriteErr.TheVariants.Fault, whole.WriteErr.TheVariants.NoMemory}
 
 -- a source gave octets, at most so many
 pub record TookAtMost (limit : ℕ) (before after : Option (List ℕ)) : Type 0 where

@@ -1,8 +1,7 @@
 //! Sinks of octets.
 
 ghost use Rattle.std.specs.Prelude.{◌≡◌, ◌≤◌, ◌<◌, Option, List, ℕ, Some, [], true, false, min, length, take, ◌++◌, IfOk, IfErr, Err};
-ghost use Rattle.std.specs.Io.{WritesAtMost};
-ghost use Rattle.std.specs.Io.KnownBytes.{WriteAppends};
+ghost use Rattle.std.specs.{Io.WritesAtMost, Io.KnownBytes.WriteAppends};
 ghost use Rattle.srp_io.specs.Faults.{Rose};
 ghost use Rattle.srp_io.specs.Memory.{next_fails, pipe_that_failed, pipe_that_took};
 ghost use Rattle.srp_io.specs.declared.sink.SinkErr.TheVariants.{NoMemory};

@@ -1,8 +1,7 @@
 //! Sources of octets.
 
 ghost use Rattle.std.specs.Prelude.{◌≡◌, ◌≤◌, Option, Some, List, ℕ, length, take, drop, min, true, false, OnErr, OnOk, IfOk, IsOk};
-ghost use Rattle.std.specs.Io.{ReadsAtMost};
-ghost use Rattle.std.specs.Io.KnownBytes.{ReadConsumes};
+ghost use Rattle.std.specs.{Io.ReadsAtMost, Io.KnownBytes.ReadConsumes};
 ghost use Rattle.srp_io.specs.Faults.{Rose};
 ghost use Rattle.srp_io.specs.Memory.{next_fails, pipe_that_failed, pipe_that_gave};
 

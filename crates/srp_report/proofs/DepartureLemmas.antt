@@ -1,13 +1,10 @@
 -- A list that a stable sort by start leaves is the departures ascending by start.
 use Rattle.std.proofs.Common.{◌≡◌, ◌≢◌, ℕ, ◌<◌, ◌≤◌, inl, inr, cond, List, [], ◌∷◌, sym, refl, ◌∙◌, ap, subst, arith}
 use Rattle.std.specs.Prelude.{nat_le, ◌==◌}
-use Rattle.std.specs.List.{AllByRecursion}
-use Rattle.std.specs.List.Sorted.{IsNonDecreasingBy, IsStableByKey}
-use Rattle.std.specs.Ordering.{nat_cmp}
+use Rattle.std.specs.{List.AllByRecursion, List.Sorted.IsNonDecreasingBy, List.Sorted.IsStableByKey, Ordering.nat_cmp}
 use Rattle.std.proofs.lemmas.Bool.{cond-true, cond-false, cases_Bool, cases_lt, eqb-true, eqb-false, le-leb, lt-leb}
 use Rattle.srp_base.proofs.SortLemmas.{of, of-kept, of-head, of-other, Ascends, ascends-from, alike}
-use Rattle.srp_report.specs.declared.departures.SentFrame.{SentFrame}
-use Rattle.srp_report.specs.FrameLines.{with_sent, by_start}
+use Rattle.srp_report.specs.{SentFrame, with_sent, by_start}
 
 abbrev start_of : SentFrame → ℕ
 start_of d = d.start

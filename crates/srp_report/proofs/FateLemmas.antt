@@ -2,15 +2,10 @@
 use Rattle.std.proofs.Common.{◌≡◌, ℕ, ◌+◌, ◌<◌, Bool, cond, List, [], ◌∷◌, ◌++◌, length, get_or, take, refl, sym, ◌∙◌, ap, append_assoc, append-nil, arith}
 use Rattle.std.specs.Prelude.{codes, filter, flat_map}
 use Rattle.std.specs.Fmt.{decimal}
-use Rattle.std.proofs.lemmas.Bool.{cond_both}
-use Rattle.std.proofs.lemmas.List.{length-append, take_more}
-use Rattle.std.proofs.lemmas.List.Elements.{filter-append, filter_map-append}
+use Rattle.std.proofs.lemmas.{Bool.cond_both, List.length-append, List.take_more, List.Elements.filter-append, List.Elements.filter_map-append}
 use Rattle.frame_flow.specs.declared.result.Fate.{Fate}
 use Rattle.frame_flow.specs.declared.result.Fate.TheVariants.{Unbooked, NoVlan, Departed, Left}
-use Rattle.srp_report.specs.declared.departures.FateCounts.{FateCounts}
-use Rattle.srp_report.specs.declared.departures.SentFrame.{SentFrame}
-use Rattle.srp_report.specs.FrameLines.{is_departed, is_unbooked_fate, is_novlan, is_left, fates_count, sent_frame, sent_frames, depart_line}
-use Rattle.srp_report.specs.Fates.{fate_counts, one_more, line_start, line_from}
+use Rattle.srp_report.specs.{FateCounts, SentFrame, is_departed, is_unbooked_fate, is_novlan, is_left, fates_count, sent_frame, sent_frames, depart_line, fate_counts, one_more, line_start, line_from}
 
 -- ---- counts
 

@@ -1,11 +1,10 @@
 -- The lines of the stations: one node more.
 use Rattle.std.proofs.Common.{◌≡◌, ℕ, ◌+◌, ◌<◌, List, ◌++◌, length, drop, get_or, sym, ap, ◌∙◌, append_assoc}
 use Rattle.std.specs.Prelude.{Some, slice_get}
-use Rattle.std.proofs.lemmas.List.{at_drop_more}
-use Rattle.std.proofs.lemmas.Option.{slice_get_within, get_or_from_slice_get}
+use Rattle.std.proofs.lemmas.{List.at_drop_more, Option.slice_get_within, Option.get_or_from_slice_get}
 use Rattle.topology_file.specs.Plan.{Plan}
 use Rattle.node_core.specs.State.{NodeState}
-use Rattle.srp_report.specs.Report.{node_heard, nodes_heard}
+use Rattle.srp_report.specs.{node_heard, nodes_heard}
 
 pub next-heard : (plan : Plan) (n i : ℕ) (out after : List ℕ) (nodes : List NodeState) (s : NodeState) → slice_get nodes i ≡ Some s
     → after ≡ out ++ node_heard plan (record { 0 = n }) s

@@ -2,16 +2,13 @@
 use Rattle.std.proofs.Common.{◌≡◌, ◌+◌, ◌-◌, ◌<◌, ◌≤◌, List, length, ap, ◌∙◌, arith}
 use Rattle.std.specs.Prelude.{Some}
 use Rattle.srp_base.specs.declared.numbers.EgressPort.{EgressPort}
-use Rattle.tree_topology.specs.Topology.{Topology, HasPort, IsSound}
-use Rattle.tree_topology.specs.Ports.{neighbours}
+use Rattle.tree_topology.specs.{Topology.Topology, Topology.HasPort, Topology.IsSound, Ports.neighbours}
 use Rattle.attribute_propagation.specs.Ports.{IsLinkPort}
 use Rattle.node_core.specs.State.{NodeState, ports_of}
 use Rattle.world_core.specs.declared.journal.Tick.{Tick}
-use Rattle.world_core.specs.World.{WorldState, node_at}
-use Rattle.world_core.specs.Kept.{IsKeptWorld}
+use Rattle.world_core.specs.{World.WorldState, World.node_at, Kept.IsKeptWorld}
 use Rattle.report_words.specs.declared.tally.Tally.{Tally}
-use Rattle.srp_report.specs.Counts.{replies_of, tally_of}
-use Rattle.srp_report.specs.Tallies.{tally_at, AreTallies}
+use Rattle.srp_report.specs.{replies_of, tally_of, tally_at, AreTallies}
 
 -- the node of a port has it
 pub link-port : (w : WorldState) → IsKeptWorld w → (p : EgressPort) → HasPort w.tree p → (s : NodeState) → node_at p.node w ≡ Some s

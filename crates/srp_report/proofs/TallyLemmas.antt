@@ -2,36 +2,20 @@
 use Rattle.std.proofs.Common.{◌≡◌, ◌≢◌, ℕ, zero, suc, ◌+◌, ◌<◌, ◌≤◌, Bool, true, false, List, [], ◌∷◌, ◌++◌, refl, sym, ap, subst, ◌∙◌, arith}
 use Rattle.std.specs.Prelude.{◌==◌, if◌then◌else◌, fold, replicate, slice_get, slice_set, Option, Some, None, option_map}
 use Rattle.std.specs.Option.{option_map_or, option_and_then}
-use Rattle.std.proofs.lemmas.Bool.{eqb-true, eqb-false}
-use Rattle.std.proofs.lemmas.List.Sums.{fold-append}
-use Rattle.srp_base.specs.declared.numbers.PortNo.{PortNo}
-use Rattle.srp_base.specs.declared.numbers.EgressPort.{EgressPort}
-use Rattle.node_core.specs.declared.types.NodeStep.{NodeStep}
-use Rattle.node_core.specs.declared.types.StepReply.{StepReply}
-use Rattle.world_core.specs.declared.journal.NodeSteps.{NodeSteps}
-use Rattle.world_core.specs.declared.journal.Tick.{Tick}
+use Rattle.std.proofs.lemmas.{Bool.eqb-true, Bool.eqb-false, List.Sums.fold-append}
+use Rattle.srp_base.proofs.Lists.{get_set_other as get-other, get_set as get-set}
+use Rattle.srp_base.specs.declared.{numbers.PortNo.PortNo, numbers.EgressPort.EgressPort}
+use Rattle.node_core.specs.declared.{types.NodeStep.NodeStep, types.StepReply.StepReply}
+use Rattle.world_core.specs.declared.{journal.NodeSteps.NodeSteps, journal.Tick.Tick}
 use Rattle.report_words.specs.declared.tally.Tally.{Tally}
 use Rattle.report_words.specs.Tally.{zero_tally}
 use Rattle.report_words.proofs.Counting.{all-counted}
-use Rattle.srp_report.specs.Counts.{replies_at, replies_in, replies_of, octets_sent, is_discarded, tally_of}
-use Rattle.srp_report.specs.Tallies.{zero_row, zero_rows, with_reply, step_counted, steps_counted, node_counted, nodes_counted, ticks_counted, tally_at}
+use Rattle.srp_report.specs.{replies_at, replies_in, replies_of, octets_sent, is_discarded, tally_of, zero_row, zero_rows, with_reply, step_counted, steps_counted, node_counted, nodes_counted, ticks_counted, tally_at}
 
 -- ---- one place of a list becomes what is made of it
 
 abbrev pub changed_at : {X : Type 0} → List X → ℕ → (X → X) → List X
 changed_at xs i f = option_map_or (λ x. slice_set xs i (f x)) (slice_get xs i) xs
-
-get-set : {X : Type 0} (xs : List X) (i : ℕ) (x y : X) → slice_get xs i ≡ Some x → slice_get (slice_set xs i y) i ≡ Some y
-get-set [] i x y h = cc
-get-set (z ∷ xs) zero x y h = refl
-get-set (z ∷ xs) (suc i) x y h = get-set xs i x y h
-
-get-other : {X : Type 0} (xs : List X) (i j : ℕ) (y : X) → i ≢ j → slice_get (slice_set xs i y) j ≡ slice_get xs j
-get-other [] i j y ne = refl
-get-other (x ∷ xs) zero zero y ne = absurd (ne refl)
-get-other (x ∷ xs) zero (suc j) y ne = refl
-get-other (x ∷ xs) (suc i) zero y ne = refl
-get-other (x ∷ xs) (suc i) (suc j) y ne = get-other xs i j y (λ e. ne (ap suc e))
 
 -- the place itself, and any other
 same-place : {X : Type 0} (xs : List X) (i : ℕ) (f : X → X) → slice_get (changed_at xs i f) i ≡ option_map f (slice_get xs i)

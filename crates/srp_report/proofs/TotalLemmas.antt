@@ -1,18 +1,14 @@
 -- The sums of a summary: one port or one station more.
 use Rattle.std.proofs.Common.{◌≡◌, ℕ, ◌+◌, ◌<◌, List, [], ◌∷◌, ◌++◌, length, take, get_or, sym, ap, ◌∙◌, append-nil}
 use Rattle.std.specs.Prelude.{◌-◌, ◌^◌, flat_map, sum_by, Some, slice_get}
-use Rattle.std.proofs.lemmas.List.{take_more}
-use Rattle.std.proofs.lemmas.List.Concat.{flat_map-append}
-use Rattle.std.proofs.lemmas.List.Sums.{sum_by_more}
-use Rattle.std.proofs.lemmas.Option.{slice_get_within, get_or_from_slice_get}
+use Rattle.std.proofs.lemmas.{List.take_more, List.Concat.flat_map-append, List.Sums.sum_by_more, Option.slice_get_within, Option.get_or_from_slice_get}
 use Rattle.srp_base.specs.declared.numbers.EgressPort.{EgressPort}
 use Rattle.node_core.specs.declared.types.StepReply.{StepReply}
 use Rattle.world_core.specs.declared.journal.Tick.{Tick}
 use Rattle.report_words.specs.declared.tally.Tally.{Tally}
 use Rattle.report_words.specs.Tally.{count_of, with_tally}
 use Rattle.report_words.proofs.Counting.{both-counted, stands}
-use Rattle.srp_report.specs.Counts.{replies_of, octets_sent, is_discarded, tally_of}
-use Rattle.srp_report.specs.Summary.{replies_of_ports}
+use Rattle.srp_report.specs.{replies_of, octets_sent, is_discarded, tally_of, replies_of_ports}
 
 pub count-more : {X : Type 0} (f : X → ℕ) (xs : List X) (i : ℕ) (d x : X) (before after : ℕ) → i < length xs → x ≡ get_or xs i d
     → before ≡ count_of (sum_by f (take i xs)) → after ≡ count_of (before + f x) → after ≡ count_of (sum_by f (take (i + 1) xs))

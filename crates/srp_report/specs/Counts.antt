@@ -1,12 +1,8 @@
 -- What a port sent and discarded in a run, as its journal tells.
 use Rattle.std.specs.Prelude.{ℕ, ◌==◌, Bool, true, false, if◌then◌else◌, List, [], map, filter, flat_map, Option, Some, None}
-use Rattle.srp_base.specs.declared.numbers.PortNo.{PortNo}
-use Rattle.srp_base.specs.declared.numbers.EgressPort.{EgressPort}
-use Rattle.node_core.specs.declared.types.NodeStep.{NodeStep}
-use Rattle.node_core.specs.declared.types.StepReply.{StepReply}
-use Rattle.node_core.specs.declared.types.StepReply.TheVariants.{Sent, Discarded}
-use Rattle.world_core.specs.declared.journal.NodeSteps.{NodeSteps}
-use Rattle.world_core.specs.declared.journal.Tick.{Tick}
+use Rattle.srp_base.specs.declared.{numbers.PortNo.PortNo, numbers.EgressPort.EgressPort}
+use Rattle.node_core.specs.declared.{types.NodeStep.NodeStep, types.StepReply.StepReply, types.StepReply.TheVariants.Sent, types.StepReply.TheVariants.Discarded}
+use Rattle.world_core.specs.declared.{journal.NodeSteps.NodeSteps, journal.Tick.Tick}
 use Rattle.report_words.specs.declared.tally.Tally.{Tally}
 use Rattle.report_words.specs.Tally.{tally_by}
 

@@ -3,8 +3,7 @@ use Rattle.std.specs.Prelude.{ℕ, ◌+◌, List, [], ◌∷◌, codes, if◌the
 use Rattle.std.specs.Fmt.{decimal}
 use Rattle.srp_base.specs.Text.{whole_of}
 use Rattle.frame_flow.specs.declared.result.Fate.{Fate}
-use Rattle.srp_report.specs.declared.departures.FateCounts.{FateCounts}
-use Rattle.srp_report.specs.declared.departures.SentFrame.{SentFrame}
+use Rattle.srp_report.specs.declared.{departures.FateCounts.FateCounts, departures.SentFrame.SentFrame}
 use Rattle.srp_report.specs.FrameLines.{is_departed, is_unbooked_fate, is_novlan, is_left, fates_count}
 
 -- how many copies came to each fate

@@ -4,9 +4,8 @@ use Rattle.std.specs.Fmt.{decimal}
 use Rattle.srp_base.specs.Text.{whole_of}
 use Rattle.tree_topology.specs.declared.graph.Link.{Link}
 use Rattle.topology_file.specs.Plan.{Plan}
-use Rattle.frame_flow.specs.declared.result.Fate.{Fate}
+use Rattle.frame_flow.specs.declared.{result.Fate.Fate, result.PortFlow.PortFlow}
 use Rattle.frame_flow.specs.declared.result.Fate.TheVariants.{Unbooked, NoVlan, Departed, Left}
-use Rattle.frame_flow.specs.declared.result.PortFlow.{PortFlow}
 use Rattle.report_words.specs.Names.{port_name}
 use Rattle.srp_report.specs.declared.departures.SentFrame.{SentFrame}
 

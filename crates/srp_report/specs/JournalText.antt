@@ -2,9 +2,7 @@
 -- in the journal's order. A tick in which nothing happened prints nothing.
 use Rattle.std.specs.Prelude.{ℕ, ◌+◌, List, [], ◌∷◌, ◌++◌, codes, flat_map}
 use Rattle.topology_file.specs.Plan.{Plan}
-use Rattle.world_core.specs.declared.events.WorldReply.{WorldReply}
-use Rattle.world_core.specs.declared.journal.NodeSteps.{NodeSteps}
-use Rattle.world_core.specs.declared.journal.Tick.{Tick}
+use Rattle.world_core.specs.declared.{events.WorldReply.WorldReply, journal.NodeSteps.NodeSteps, journal.Tick.Tick}
 use Rattle.world_core.specs.Missed.{is_missed}
 use Rattle.journal_lines.specs.Lines.{event_line, line_at}
 

@@ -7,3 +7,14 @@ pub mod Printout
 pub mod Report
 pub mod Summary
 pub mod Tallies
+pub use Counts.*
+pub use Fates.*
+pub use FrameLines.*
+pub use JournalText.*
+pub use Lines.*
+pub use Printout.*
+pub use Report.*
+pub use Summary.*
+pub use Tallies.*
+pub use Rattle.srp_report.specs.declared.departures.FateCounts.{FateCounts}
+pub use Rattle.srp_report.specs.declared.departures.SentFrame.{SentFrame}

@@ -3,10 +3,8 @@
 use Rattle.std.specs.Prelude.{ℕ, Bool, ◌+◌, if◌then◌else◌, List, [], ◌∷◌, ◌++◌, flat_map}
 use Rattle.std.specs.Option.{option_map_or}
 use Rattle.srp_base.specs.Text.{whole_of}
-use Rattle.srp_base.specs.declared.numbers.EgressPort.{EgressPort}
-use Rattle.srp_base.specs.declared.numbers.NodeNo.{NodeNo}
-use Rattle.tree_topology.specs.declared.graph.NodeKind.{NodeKind}
-use Rattle.tree_topology.specs.declared.graph.NodeKind.TheVariants.{Station, Bridge}
+use Rattle.srp_base.specs.declared.{numbers.EgressPort.EgressPort, numbers.NodeNo.NodeNo}
+use Rattle.tree_topology.specs.declared.{graph.NodeKind.NodeKind, graph.NodeKind.TheVariants.Station, graph.NodeKind.TheVariants.Bridge}
 use Rattle.tree_topology.specs.Topology.{link_ports}
 use Rattle.topology_file.specs.Plan.{Plan}
 use Rattle.topology_file.specs.declared.entries.StreamEntry.{StreamEntry}
@@ -14,15 +12,11 @@ use Rattle.frame_flow.specs.declared.result.PortFlow.{PortFlow}
 use Rattle.attribute_propagation.specs.Ports.{place_of}
 use Rattle.msrp.specs.Side.{has_listen, heard_of}
 use Rattle.node_core.specs.State.{NodeState, registered_keys, registrar_at, content_at, bookings_at}
-use Rattle.node_core.specs.declared.types.NodeKey.{NodeKey}
-use Rattle.node_core.specs.declared.types.NodeKey.TheVariants.{Vlan, Srp}
+use Rattle.node_core.specs.declared.{types.NodeKey.NodeKey, types.NodeKey.TheVariants.Vlan, types.NodeKey.TheVariants.Srp}
 use Rattle.world_core.specs.declared.journal.Tick.{Tick}
 use Rattle.world_core.specs.World.{WorldState, node_at, is_quiet, is_in_step}
-use Rattle.report_words.specs.Lines.{ticks_line, port_line, end_lines}
-use Rattle.report_words.specs.Names.{name_of, port_name}
-use Rattle.srp_report.specs.Counts.{replies_of, tally_of}
-use Rattle.srp_report.specs.FrameLines.{flow_parts}
-use Rattle.srp_report.specs.Lines.{vlan_line, srp_line, booked_line, heard_line}
+use Rattle.report_words.specs.{Lines.ticks_line, Lines.port_line, Lines.end_lines, Names.name_of, Names.port_name}
+use Rattle.srp_report.specs.{Counts.replies_of, Counts.tally_of, FrameLines.flow_parts, Lines.vlan_line, Lines.srp_line, Lines.booked_line, Lines.heard_line}
 
 -- ---- what is registered and booked at a place of a node
 

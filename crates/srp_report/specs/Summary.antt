@@ -1,14 +1,10 @@
 -- What is printed of a run in short: the sizes of its scenario, what all ports sent together, how many bookings there are and how
 -- often Ready is heard at its end, and how the network is then.
 use Rattle.std.specs.Prelude.{ℕ, Bool, true, false, ◌&&◌, List, [], ◌∷◌, codes, length, count_by, sum_by, flat_map, Option, Some}
-use Rattle.std.specs.Option.{option_map_or}
-use Rattle.std.specs.Fmt.{decimal}
+use Rattle.std.specs.{Option.option_map_or, Fmt.decimal}
 use Rattle.srp_base.specs.Text.{whole_of}
-use Rattle.srp_base.specs.declared.numbers.EgressPort.{EgressPort}
-use Rattle.srp_base.specs.declared.streams.ListenerKind.{ListenerKind}
-use Rattle.srp_base.specs.declared.streams.ListenerKind.TheVariants.{Ready}
-use Rattle.tree_topology.specs.declared.graph.NodeKind.{NodeKind}
-use Rattle.tree_topology.specs.declared.graph.NodeKind.TheVariants.{Station, Bridge}
+use Rattle.srp_base.specs.declared.{numbers.EgressPort.EgressPort, streams.ListenerKind.ListenerKind, streams.ListenerKind.TheVariants.Ready}
+use Rattle.tree_topology.specs.declared.{graph.NodeKind.NodeKind, graph.NodeKind.TheVariants.Station, graph.NodeKind.TheVariants.Bridge}
 use Rattle.tree_topology.specs.Topology.{Topology, link_ports}
 use Rattle.topology_file.specs.Plan.{Plan}
 use Rattle.topology_file.specs.declared.entries.StreamEntry.{StreamEntry}
@@ -20,8 +16,7 @@ use Rattle.world_core.specs.declared.journal.Tick.{Tick}
 use Rattle.world_core.specs.World.{WorldState, node_at}
 use Rattle.report_words.specs.declared.tally.Tally.{Tally}
 use Rattle.report_words.specs.Tally.{count_of}
-use Rattle.srp_report.specs.Counts.{replies_of, tally_of}
-use Rattle.srp_report.specs.Report.{behind_frames}
+use Rattle.srp_report.specs.{Counts.replies_of, Counts.tally_of, Report.behind_frames}
 
 -- ---- what the ports sent
 

@@ -4,10 +4,8 @@ use Rattle.std.specs.Prelude.{◌≡◌, ℕ, ◌+◌, List, fold, replicate, Op
 use Rattle.std.specs.Option.{option_map_or, option_and_then}
 use Rattle.srp_base.specs.declared.numbers.EgressPort.{EgressPort}
 use Rattle.tree_topology.specs.Topology.{Topology, HasPort}
-use Rattle.node_core.specs.declared.types.NodeStep.{NodeStep}
-use Rattle.node_core.specs.declared.types.StepReply.{StepReply}
-use Rattle.world_core.specs.declared.journal.NodeSteps.{NodeSteps}
-use Rattle.world_core.specs.declared.journal.Tick.{Tick}
+use Rattle.node_core.specs.declared.{types.NodeStep.NodeStep, types.StepReply.StepReply}
+use Rattle.world_core.specs.declared.{journal.NodeSteps.NodeSteps, journal.Tick.Tick}
 use Rattle.report_words.specs.declared.tally.Tally.{Tally}
 use Rattle.report_words.specs.Tally.{with_answer, zero_tally}
 use Rattle.srp_report.specs.Counts.{octets_sent, is_discarded, replies_of, tally_of}

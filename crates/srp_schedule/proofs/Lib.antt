@@ -1,4 +1,3 @@
-mod Compared
 pub mod OrderLemmas
 pub mod StepLemmas
 pub mod RestLemmas

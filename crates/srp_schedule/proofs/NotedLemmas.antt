@@ -1,22 +1,12 @@
 -- The timeline of the run so far, and one tick more.
 use Rattle.std.proofs.Common.{◌≡◌, ℕ, ◌+◌, false, List, [], ◌∷◌, ◌++◌, length, map, refl, sym, ap, subst, ◌∙◌, arith}
 use Rattle.std.proofs.lemmas.List.{length_push}
-use Rattle.srp_base.specs.declared.numbers.EgressPort.{EgressPort}
-use Rattle.srp_base.specs.declared.ports.PortChange.{PortChange}
+use Rattle.srp_base.specs.declared.{numbers.EgressPort.EgressPort, ports.PortChange.PortChange}
 use Rattle.tree_topology.specs.Topology.{Topology, HasPort}
 use Rattle.topology_file.specs.Plan.{Plan}
-use Rattle.world_core.specs.declared.events.WorldEvent.{WorldEvent}
-use Rattle.world_core.specs.declared.journal.NodeSteps.{NodeSteps}
-use Rattle.world_core.specs.declared.journal.Tick.{Tick}
-use Rattle.world_core.specs.World.{WorldState, world_after}
-use Rattle.world_core.specs.Start.{world_of}
-use Rattle.world_core.specs.Ticks.{script_at, step_events, after_script, after_steps, closing_events, tick_events, IsLegalTick}
-use Rattle.world_core.specs.During.{IsDuring}
-use Rattle.world_core.specs.Carrying.{NothingWaits}
-use Rattle.world_core.specs.Timeline.{force_at, with_notes, AreChanges, Says, SaysFrom, world_after_ticks, IsTimelineOf}
-use Rattle.world_core.specs.History.{has_acted, acts_noted}
-use Rattle.srp_schedule.proofs.StepLemmas.{after_append}
-use Rattle.srp_schedule.proofs.TickLemmas.{IsRunTo, no_tick}
+use Rattle.world_core.specs.declared.{events.WorldEvent.WorldEvent, journal.NodeSteps.NodeSteps, journal.Tick.Tick}
+use Rattle.world_core.specs.{World.WorldState, World.world_after, Start.world_of, Ticks.script_at, Ticks.step_events, Ticks.after_script, Ticks.after_steps, Ticks.closing_events, Ticks.tick_events, Ticks.IsLegalTick, During.IsDuring, Carrying.NothingWaits, Timeline.force_at, Timeline.with_notes, Timeline.AreChanges, Timeline.Says, Timeline.SaysFrom, Timeline.world_after_ticks, Timeline.IsTimelineOf, History.has_acted, History.acts_noted}
+use Rattle.srp_schedule.proofs.{StepLemmas.after_append, TickLemmas.IsRunTo, TickLemmas.no_tick}
 
 -- what this rests on, as the public laws say it
 pub record TimelineLaws : Type 0 where

@@ -1,34 +1,22 @@
 -- The canonical order of a node's jobs is that of its turns, and at each port it is the port's own order.
 use Rattle.std.proofs.Common.{◌≡◌, ◌≢◌, ℕ, zero, suc, ◌+◌, ◌-◌, ◌<◌, ◌≤◌, Bool, true, false, ◌||◌, List, [], ◌∷◌, ◌++◌, length, map, drop, get_or, refl, sym, ap, ◌∙◌, append_assoc, arith}
-use Rattle.std.specs.Prelude.{Result, Ok, Err, IfOk, slice_get, Some, ◌==◌, if◌then◌else◌, filter, replicate}
-use Rattle.std.specs.Option.{option_map_or}
-use Rattle.std.specs.List.{AllByRecursion, flat_map, range_with_len}
+use Rattle.std.specs.Prelude.{slice_get, Some, ◌==◌, if◌then◌else◌, filter, replicate}
+use Rattle.std.specs.{Option.option_map_or, List.AllByRecursion, List.flat_map, List.range_with_len}
 use Rattle.std.proofs.Math.Seq.{drop-cons}
-use Rattle.std.proofs.lemmas.List.{append-nil, map-append, length-append}
-use Rattle.std.proofs.lemmas.List.Elements.{filter-append}
-use Rattle.srp_base.specs.declared.numbers.NodeNo.{NodeNo}
-use Rattle.srp_base.specs.declared.numbers.PortNo.{PortNo}
-use Rattle.srp_base.specs.declared.numbers.EgressPort.{EgressPort}
-use Rattle.srp_base.specs.declared.mrp.App.TheVariants.{Mvrp, Msrp}
+use Rattle.std.proofs.lemmas.{List.append-nil, List.map-append, List.Elements.filter-append}
+use Rattle.std.proofs.lemmas.Bool.{or_parts as neither}
+use Rattle.srp_base.proofs.{Lists.each_append, Arithmetic.is_same as same_is, Arithmetic.is_other as other_is}
+use Rattle.srp_base.specs.declared.{numbers.NodeNo.NodeNo, numbers.PortNo.PortNo, numbers.EgressPort.EgressPort, mrp.App.TheVariants.Mvrp, mrp.App.TheVariants.Msrp}
 use Rattle.attribute_propagation.specs.Ports.{place_of}
 use Rattle.node_core.specs.declared.types.PortStep.{PortStep}
 use Rattle.node_core.specs.declared.types.PortStep.TheVariants.{Work, Due, Settle, Send}
 use Rattle.node_core.specs.State.{NodeState, ports_of, job_list, is_busy_node, is_sending_time}
-use Rattle.world_core.specs.World.{WorldState, node_at}
-use Rattle.world_core.specs.Ticks.{is_work, is_due, is_settle, is_send, jobs_of, node_ports, canonical_order}
-use Rattle.srp_schedule.specs.declared.order.Turn.{Turn}
-use Rattle.srp_schedule.specs.declared.order.Turn.TheVariants.{Works, Dues, Settles, Sends}
-use Rattle.srp_schedule.specs.Order.{is_in_turn, turn_from, order_of}
-use Rattle.srp_schedule.proofs.Compared.{same_is, other_is}
+use Rattle.world_core.specs.{World.WorldState, World.node_at, Ticks.is_work, Ticks.is_due, Ticks.is_settle, Ticks.is_send, Ticks.jobs_of, Ticks.node_ports, Ticks.canonical_order}
+use Rattle.srp_schedule.specs.{Turn, Works, Dues, Settles, Sends, is_in_turn, turn_from, order_of}
 
 -- four lists one after the other
 four : {X : Type 0} (a b c d p q r s : List X) → a ≡ p → b ≡ q → c ≡ r → d ≡ s → a ++ b ++ c ++ d ≡ p ++ q ++ r ++ s
 four a b c d p q r s e f g h = cc
-
--- what holds of each answer that fits holds of the answer, where there is one
-pub if_ok : {A E : Type 0} (r : Result A E) (P Q : A → Type 0) → ((a : A) → P a → Q a) → IfOk r P → IfOk r Q
-if_ok (Ok a) P Q f h = f a h
-if_ok (Err e) P Q f h = h
 
 -- ---- the definition's order is that of the turns
 
@@ -101,11 +89,6 @@ no_order s still time =
     sym (ap order_of (quiet_lists s false time still)
     ∙ four _ _ _ _ [] [] [] [] (no_turn Works [] refl 1 n) (no_turn Dues [] refl 1 n) (no_turn Settles [] refl 1 n) (no_turn Sends [] refl 1 n))
 
-neither : (b c : Bool) → (b || c) ≡ false → (b ≡ false) × (c ≡ false)
-neither false false h = (refl, refl)
-neither false true h = (cc, cc)
-neither true c h = (cc, cc)
-
 -- a node that has nothing to do has no jobs in the order
 pub idle_order : (n : NodeNo) (w : WorldState) (s : NodeState) → node_at n w ≡ Some s → (is_busy_node s || is_sending_time s.clock) ≡ false → [] ≡ canonical_order n w
 idle_order n w s is idle =
@@ -130,10 +113,6 @@ sends_more at n order one both all lt is_one is_both so_far =
     ∙ so_far
 
 -- ---- the ports of the order
-
-each_append : {X : Type 0} (P : X → Type 0) (xs ys : List X) → AllByRecursion P xs → AllByRecursion P ys → AllByRecursion P (xs ++ ys)
-each_append P [] ys h k = k
-each_append P (x ∷ xs) ys h k = (h.0, each_append P xs ys h.1 k)
 
 each_step : (P : PortNo → Type 0) (port : PortNo) (steps : List PortStep) → P port → AllByRecursion (λ (j : PortNo × PortStep). P j.0) (map (λ step. (port, step)) steps)
 each_step P port [] h = tt
@@ -301,9 +280,6 @@ port_more f a n jobs next steps all lt own push so_far =
     ∙ (ap (λ x. x ++ map f (range_with_len (a + 1) (n - a - 1))) (push ∙ ap (λ x. jobs ++ x ∷ []) own)
     ∙ (append_assoc jobs (f a ∷ []) (map f (range_with_len (a + 1) (n - a - 1)))
     ∙ (ap (λ x. jobs ++ x) (sym (range_more f a (n - a) (omega (arith, lt)))) ∙ so_far)))
-
-pub pushed_length : {X : Type 0} (xs ys : List X) (y : X) (a : ℕ) → ys ≡ xs ++ y ∷ [] → length xs ≡ a → length ys ≡ a + 1
-pushed_length xs ys y a e h = ap length e ∙ (length-append xs (y ∷ []) ∙ ap (λ (k : ℕ). k + 1) h)
 
 -- the turn of one port more
 pub turn_more : (turn : Turn) (i : ℕ) (jobs : List (List PortStep)) (own steps : List PortStep) (order next all : List (PortNo × PortStep)) → i < length jobs

@@ -2,30 +2,19 @@
 use Rattle.std.proofs.Common.{◌≡◌, ℕ, zero, suc, ◌+◌, ◌-◌, ◌<◌, Bool, true, false, ◌||◌, List, [], ◌∷◌, length, get_or, replicate, map, Option, Some, None, inl, inr, refl, sym, ap, subst, ◌∙◌, arith}
 use Rattle.std.specs.Prelude.{not, ◌==◌, slice_get, slice_set, option_map}
 use Rattle.std.specs.List.{AllByRecursion}
-use Rattle.std.proofs.lemmas.Bool.{cases_eq, ne_eqb, true≢false}
-use Rattle.std.proofs.lemmas.List.{length-replicate}
-use Rattle.std.proofs.lemmas.Option.{slice_get-map}
-use Rattle.srp_base.specs.declared.numbers.Cs.{Cs}
-use Rattle.srp_base.specs.declared.numbers.NodeNo.{NodeNo}
+use Rattle.std.proofs.lemmas.{Bool.cases_eq, Bool.ne_eqb, Bool.true≢false, List.length-replicate, Option.slice_get-map}
+use Rattle.srp_base.proofs.Lists.{get-place as get_there, get-set_same as set_here, length_set, get_set_other}
+use Rattle.srp_base.specs.declared.{numbers.Cs.Cs, numbers.NodeNo.NodeNo}
 use Rattle.tree_topology.specs.Topology.{Topology}
 use Rattle.node_core.specs.declared.types.NodeEvent.TheVariants as node_events
 use Rattle.node_core.specs.declared.types.NodeStep.{NodeStep}
-use Rattle.node_core.specs.Links.{IsKeptNode}
-use Rattle.node_core.specs.State.{NodeState, is_at_rest, is_busy_node, is_sending_time}
-use Rattle.node_core.specs.Step.{node_step}
+use Rattle.node_core.specs.{Links.IsKeptNode, State.NodeState, State.is_at_rest, State.is_busy_node, State.is_sending_time, Step.node_step}
 use Rattle.topology_file.specs.Plan.{Plan}
-use Rattle.world_core.specs.declared.events.WorldEvent.{WorldEvent}
-use Rattle.world_core.specs.declared.events.WorldEvent.TheVariants.{Clock}
-use Rattle.world_core.specs.declared.events.WorldReply.{WorldReply}
-use Rattle.world_core.specs.Kept.{IsKeptWorld}
-use Rattle.world_core.specs.World.{WorldState, node_at, world_after, world_step}
-use Rattle.world_core.specs.Ticks.{after_script, script_at}
-use Rattle.srp_schedule.specs.Made.{IsNodeMade, events_of}
+use Rattle.world_core.specs.declared.{events.WorldEvent.WorldEvent, events.WorldEvent.TheVariants.Clock, events.WorldReply.WorldReply}
+use Rattle.world_core.specs.{Kept.IsKeptWorld, World.WorldState, World.node_at, World.world_after, World.world_step, Ticks.after_script, Ticks.script_at}
+use Rattle.srp_schedule.specs.{IsNodeMade, events_of, Unknown, Awake, UpTo, AreRests, IsRestAt, IsRestOf, SaysNothing}
 use Rattle.srp_schedule.specs.declared.rest.Rest.{Rest}
-use Rattle.srp_schedule.specs.declared.rest.Rest.TheVariants.{Unknown, Awake, UpTo}
-use Rattle.srp_schedule.specs.Rest.{AreRests, IsRestAt, IsRestOf, SaysNothing}
-use Rattle.srp_schedule.proofs.OrderLemmas.{idle_order}
-use Rattle.srp_schedule.proofs.StepLemmas.{steps_other, get_set_other}
+use Rattle.srp_schedule.proofs.{OrderLemmas.idle_order, StepLemmas.steps_other}
 
 -- ---- nothing is known
 
@@ -62,26 +51,11 @@ still_rests n w v made rest m none is =
     let same : v ≡ w = m.after ∙ ap (λ (steps : List NodeStep). world_after (events_of n steps) w) none in
     subst (λ (u : WorldState). IsRestAt n u rest) (sym same) is
 
-set_here : {X : Type 0} (xs : List X) (i : ℕ) (y z : X) → slice_get (slice_set xs i y) i ≡ Some z → y ≡ z
-set_here [] i y z is = absurd (let nay : None ≡ Some z = is in cc)
-set_here (x ∷ xs) zero y z is = cc
-set_here (x ∷ xs) (suc i) y z is = set_here xs i y z is
-
-length_set : {X : Type 0} (xs : List X) (i : ℕ) (y : X) → length (slice_set xs i y) ≡ length xs
-length_set [] i y = refl
-length_set (x ∷ xs) zero y = refl
-length_set (x ∷ xs) (suc i) y = ap suc (length_set xs i y)
-
 -- what is known of a node in its turn, read from the list
 rest_at : (w : WorldState) (rests : List Rest) (x : ℕ) (rest : Rest) → AreRests w rests → slice_get rests x ≡ Some rest → IsRestAt (record { 0 = x + 1 }) w rest
 rest_at w rests x rest are is s here =
     let number : x + 1 - 1 ≡ x = omega arith in
     are.each x rest s is (ap (λ (k : ℕ). slice_get w.nodes k) (sym number) ∙ here)
-
-get_there : {X : Type 0} (xs : List X) (i : ℕ) (x : X) → i < length xs → x ≡ get_or xs i x → slice_get xs i ≡ Some x
-get_there [] i x lt is = absurd (omega (arith, lt))
-get_there (y ∷ xs) zero x lt is = ap (λ z. Some z) (sym is)
-get_there (y ∷ xs) (suc i) x lt is = get_there xs i x (omega (arith, lt)) is
 
 pub rest_read : (w : WorldState) (rests : List Rest) (x i : ℕ) (rest : Rest) → AreRests w rests → x < length rests → i ≡ x → rest ≡ get_or rests i rest
     → IsRestAt (record { 0 = x + 1 }) w rest

@@ -1,37 +1,19 @@
 -- The steps of one node after another: what has been made so far, and one node more.
 use Rattle.std.proofs.Common.{◌≡◌, ◌≢◌, ℕ, zero, suc, ◌+◌, ◌-◌, ◌<◌, ◌≤◌, Bool, true, false, List, [], ◌∷◌, ◌++◌, length, map, take, get_or, refl, sym, ap, subst, ◌∙◌, arith}
-use Rattle.std.specs.Prelude.{slice_get, slice_set, Option, Some, None, ◌==◌, if◌then◌else◌, filter}
-use Rattle.std.specs.Option.{option_map_or}
-use Rattle.std.specs.List.{AllByRecursion, range_with_len}
-use Rattle.std.proofs.lemmas.List.FromFn.{length-map-range_with_len}
+use Rattle.std.specs.Prelude.{slice_get, Option, Some, None, ◌==◌, if◌then◌else◌, filter}
+use Rattle.std.specs.{Option.option_map_or, List.AllByRecursion, List.range_with_len}
+use Rattle.std.proofs.lemmas.{List.FromFn.length-map-range_with_len, Bool.Decides.nat_tests, List.append-nil, List.map-append, Grind.flat_map-append}
 use Rattle.std.proofs.Math.Seq.{take-suc}
-use Rattle.std.proofs.lemmas.Bool.Decides.{nat_tests}
-use Rattle.std.proofs.lemmas.List.{append-nil, map-append}
-use Rattle.std.proofs.lemmas.Grind.{flat_map-append}
-use Rattle.srp_base.specs.declared.numbers.NodeNo.{NodeNo}
-use Rattle.srp_base.specs.declared.numbers.PortNo.{PortNo}
-use Rattle.srp_base.specs.declared.numbers.EgressPort.{EgressPort}
-use Rattle.tree_topology.specs.Topology.{Topology, HasNode, HasPort}
-use Rattle.tree_topology.specs.Ports.{neighbours}
+use Rattle.srp_base.proofs.{Lists.each_append, Lists.get_set_other, Lists.within, Lists.each_more, Arithmetic.same_where_equal as same_number, Arithmetic.is_same as same_is, Arithmetic.is_other as other_is}
+use Rattle.srp_base.specs.declared.{numbers.NodeNo.NodeNo, numbers.PortNo.PortNo, numbers.EgressPort.EgressPort}
+use Rattle.tree_topology.specs.{Topology.Topology, Topology.HasNode, Topology.HasPort, Ports.neighbours}
 use Rattle.node_core.specs.declared.types.NodeEvent.TheVariants as node_events
-use Rattle.node_core.specs.declared.types.NodeStep.{NodeStep}
-use Rattle.node_core.specs.declared.types.PortStep.{PortStep}
-use Rattle.node_core.specs.State.{NodeState, ports_of, job_list}
-use Rattle.node_core.specs.Step.{node_step}
-use Rattle.world_core.specs.declared.events.WorldEvent.{WorldEvent}
-use Rattle.world_core.specs.declared.events.WorldEvent.TheVariants.{Port}
-use Rattle.world_core.specs.declared.events.WorldReply.{WorldReply}
-use Rattle.world_core.specs.declared.events.WorldReply.TheVariants.{Step, Missed}
-use Rattle.world_core.specs.declared.journal.NodeSteps.{NodeSteps}
-use Rattle.world_core.specs.Kept.{IsKeptWorld}
-use Rattle.world_core.specs.World.{WorldState, Happened, node_at, after_step, world_step, world_after, replies_to}
-use Rattle.world_core.specs.Ticks.{step_events, step_replies, steps_at_port, steps_of, jobs_of, canonical_order, AscendByNode}
-use Rattle.srp_schedule.specs.Made.{AreSteps, IsNodeMade, IsStepReply, events_of, replies_of, with_steps}
-use Rattle.srp_schedule.proofs.Compared.{same_is, other_is}
+use Rattle.node_core.specs.declared.{types.NodeStep.NodeStep, types.PortStep.PortStep}
+use Rattle.node_core.specs.{State.NodeState, State.ports_of, State.job_list, Step.node_step}
+use Rattle.world_core.specs.declared.{events.WorldEvent.WorldEvent, events.WorldEvent.TheVariants.Port, events.WorldReply.WorldReply, events.WorldReply.TheVariants.Step, events.WorldReply.TheVariants.Missed, journal.NodeSteps.NodeSteps}
+use Rattle.world_core.specs.{Kept.IsKeptWorld, World.WorldState, World.Happened, World.node_at, World.after_step, World.world_step, World.world_after, World.replies_to, Ticks.step_events, Ticks.step_replies, Ticks.steps_at_port, Ticks.steps_of, Ticks.jobs_of, Ticks.canonical_order, Ticks.AscendByNode}
+use Rattle.srp_schedule.specs.{AreSteps, IsNodeMade, IsStepReply, events_of, replies_of, with_steps}
 use Rattle.srp_schedule.proofs.OrderLemmas.{at_port, canonical_is, order_of_port, order_ports}
-
-same_number : (x y : ℕ) → (x == y) ≡ true → x ≡ y
-same_number x y h = grind (arith, nat_tests, h)
 
 other_number : (x y : ℕ) → (x == y) ≡ false → x ≢ y
 other_number x y h = λ e. grind (arith, nat_tests, h, e)
@@ -49,20 +31,7 @@ pub replies_append : (es fs : List WorldEvent) (w : WorldState) → replies_to (
 replies_append [] fs w = refl
 replies_append (e ∷ es) fs w = ap (λ rs. (world_step e w).1 ∷ rs) (replies_append es fs (world_step e w).0)
 
-each_append : {X : Type 0} (P : X → Type 0) (xs ys : List X) → AllByRecursion P xs → AllByRecursion P ys → AllByRecursion P (xs ++ ys)
-each_append P [] ys h k = k
-each_append P (x ∷ xs) ys h k = (h.0, each_append P xs ys h.1 k)
-
-each_more : {X : Type 0} (P Q : X → Type 0) (xs : List X) → ((x : X) → P x → Q x) → AllByRecursion P xs → AllByRecursion Q xs
-each_more P Q [] f h = tt
-each_more P Q (x ∷ xs) f h = (f x h.0, each_more P Q xs f h.1)
-
 -- ---- a node of a network
-
-within : {X : Type 0} (xs : List X) (i : ℕ) → i < length xs → (x : X) × (slice_get xs i ≡ Some x)
-within [] i h = absurd (omega (arith, h))
-within (x ∷ xs) zero h = (x, refl)
-within (x ∷ xs) (suc i) h = within xs i (omega (arith, h))
 
 pub node_there : (w : WorldState) → IsKeptWorld w → (n : NodeNo) → HasNode w.tree n.0 → (s : NodeState) × (node_at n w ≡ Some s)
 node_there w kept n has =
@@ -70,13 +39,6 @@ node_there w kept n has =
     let last = has.1 in
     let many = kept.many in
     within w.nodes (n.0 - 1) (omega (arith, first, last, many))
-
-pub get_set_other : {X : Type 0} (xs : List X) (i j : ℕ) (y : X) → i ≢ j → slice_get (slice_set xs i y) j ≡ slice_get xs j
-get_set_other [] i j y ne = refl
-get_set_other (x ∷ xs) zero zero y ne = absurd (ne refl)
-get_set_other (x ∷ xs) zero (suc j) y ne = refl
-get_set_other (x ∷ xs) (suc i) zero y ne = refl
-get_set_other (x ∷ xs) (suc i) (suc j) y ne = get_set_other xs i j y (λ e. ne (ap suc e))
 
 -- a step answers as a node
 pub answers_as_node : (n : NodeNo) (port : PortNo) (step : PortStep) (w : WorldState) (s : NodeState) (r : WorldReply) → node_at n w ≡ Some s

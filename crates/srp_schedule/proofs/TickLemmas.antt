@@ -1,26 +1,15 @@
 -- One tick from its parts, and one tick more of a run.
 use Rattle.std.proofs.Common.{◌≡◌, ℕ, suc, ◌+◌, ◌<◌, ◌^◌, false, List, [], ◌∷◌, ◌++◌, length, map, refl, sym, ap, subst, ◌∙◌, arith}
 use Rattle.std.specs.List.{AllByRecursion}
-use Rattle.srp_base.specs.declared.numbers.NodeNo.{NodeNo}
-use Rattle.srp_base.specs.declared.ports.PortChange.{PortChange}
+use Rattle.srp_base.proofs.Lists.{each_append}
+use Rattle.srp_base.specs.declared.{numbers.NodeNo.NodeNo, ports.PortChange.PortChange}
 use Rattle.tree_topology.specs.Topology.{Topology, HasPort, link_ports}
-use Rattle.topology_file.specs.Plan.{Plan}
-use Rattle.topology_file.specs.Scenario.{KeepsRules}
+use Rattle.topology_file.specs.{Plan.Plan, Scenario.KeepsRules}
 use Rattle.node_core.specs.declared.types.NodeStep.{NodeStep}
-use Rattle.world_core.specs.declared.events.WorldEvent.{WorldEvent}
+use Rattle.world_core.specs.declared.{events.WorldEvent.WorldEvent, events.WorldReply.WorldReply, journal.NodeSteps.NodeSteps, journal.Tick.Tick}
 use Rattle.world_core.specs.declared.events.WorldEvent.TheVariants.{Port, Carry, Clock}
-use Rattle.world_core.specs.declared.events.WorldReply.{WorldReply}
-use Rattle.world_core.specs.declared.journal.NodeSteps.{NodeSteps}
-use Rattle.world_core.specs.declared.journal.Tick.{Tick}
-use Rattle.world_core.specs.World.{WorldState, CanHappen, world_step, world_after, replies_to}
-use Rattle.world_core.specs.Start.{world_of}
-use Rattle.world_core.specs.Ticks.{script_at, after_script, after_steps, step_events, tick_events, LeadTo, IsCanonicalTick}
-use Rattle.world_core.specs.During.{IsDuring, IsAllowed}
-use Rattle.world_core.specs.Carrying.{NothingWaits, has_send}
-use Rattle.world_core.specs.History.{HasPortsOf, acts_noted}
-use Rattle.world_core.specs.Cursor.{IsCursor}
-use Rattle.srp_schedule.specs.Made.{AreSteps}
-use Rattle.srp_schedule.specs.Tick.{DuringLaws}
+use Rattle.world_core.specs.{World.WorldState, World.CanHappen, World.world_step, World.world_after, World.replies_to, Start.world_of, Ticks.script_at, Ticks.after_script, Ticks.after_steps, Ticks.step_events, Ticks.tick_events, Ticks.LeadTo, Ticks.IsCanonicalTick, During.IsDuring, During.IsAllowed, Carrying.NothingWaits, Carrying.has_send, History.HasPortsOf, History.acts_noted, Cursor.IsCursor}
+use Rattle.srp_schedule.specs.{AreSteps, DuringLaws}
 use Rattle.srp_schedule.proofs.StepLemmas.{after_append}
 
 -- nothing is carried where the steps sent nothing
@@ -60,10 +49,6 @@ tick_parts plan t w w1 w2 w3 w4 events steps tick e s numbers answers script mad
       carried = carried;
       clock = clock;
     }
-
-each_append : {X : Type 0} (P : X → Type 0) (xs ys : List X) → AllByRecursion P xs → AllByRecursion P ys → AllByRecursion P (xs ++ ys)
-each_append P [] ys h k = k
-each_append P (x ∷ xs) ys h k = (h.0, each_append P xs ys h.1 k)
 
 made_allowed : (tree : Topology) (n : NodeNo) (made : List NodeStep) → AllByRecursion (λ st. HasPort tree (record { node = n; port = st.port })) made
     → AllByRecursion (IsAllowed tree) (map (λ st. Port n st.port st.step) made)

@@ -1,19 +1,12 @@
 -- The steps that nodes have made in a tick.
 use Rattle.std.specs.Prelude.{◌≡◌, ◌≢◌, ◌≤◌, ℕ, List, [], ◌∷◌, ◌++◌, map}
 use Rattle.std.specs.List.{AllByRecursion}
-use Rattle.srp_base.specs.declared.numbers.NodeNo.{NodeNo}
-use Rattle.srp_base.specs.declared.numbers.PortNo.{PortNo}
-use Rattle.srp_base.specs.declared.numbers.EgressPort.{EgressPort}
+use Rattle.srp_base.specs.declared.{numbers.NodeNo.NodeNo, numbers.PortNo.PortNo, numbers.EgressPort.EgressPort}
 use Rattle.tree_topology.specs.Topology.{Topology, HasPort}
-use Rattle.node_core.specs.declared.types.NodeStep.{NodeStep}
-use Rattle.node_core.specs.declared.types.PortStep.{PortStep}
-use Rattle.world_core.specs.declared.events.WorldEvent.{WorldEvent}
-use Rattle.world_core.specs.declared.events.WorldEvent.TheVariants.{Port}
-use Rattle.world_core.specs.declared.events.WorldReply.{WorldReply}
+use Rattle.node_core.specs.declared.{types.NodeStep.NodeStep, types.PortStep.PortStep}
+use Rattle.world_core.specs.declared.{events.WorldEvent.WorldEvent, events.WorldEvent.TheVariants.Port, events.WorldReply.WorldReply, journal.NodeSteps.NodeSteps}
 use Rattle.world_core.specs.declared.events.WorldReply.TheVariants.{Step, Done, Missed}
-use Rattle.world_core.specs.declared.journal.NodeSteps.{NodeSteps}
-use Rattle.world_core.specs.World.{WorldState, world_step, world_after, replies_to}
-use Rattle.world_core.specs.Ticks.{step_events, step_replies, steps_of, jobs_of, canonical_order, AscendByNode}
+use Rattle.world_core.specs.{World.WorldState, World.world_step, World.world_after, World.replies_to, Ticks.step_events, Ticks.step_replies, Ticks.steps_of, Ticks.jobs_of, Ticks.canonical_order, Ticks.AscendByNode}
 
 -- a node's steps as events of the network
 abbrev pub events_of : NodeNo → List NodeStep → List WorldEvent

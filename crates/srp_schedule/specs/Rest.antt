@@ -1,7 +1,6 @@
 -- What is known of nodes that rest, so that nobody asks them in each tick.
 use Rattle.std.specs.Prelude.{◌≡◌, ◌+◌, ◌-◌, ◌*◌, ◌/◌, nat_le, not, ◌&&◌, if◌then◌else◌, ℕ, Bool, true, false, List, length, slice_get, Some}
-use Rattle.srp_base.specs.declared.numbers.Cs.{Cs}
-use Rattle.srp_base.specs.declared.numbers.NodeNo.{NodeNo}
+use Rattle.srp_base.specs.declared.{numbers.Cs.Cs, numbers.NodeNo.NodeNo}
 use Rattle.node_core.specs.State.{NodeState, is_at_rest, is_sending_time, join_time}
 use Rattle.world_core.specs.World.{WorldState, node_at}
 use Rattle.srp_schedule.specs.declared.rest.Rest.{Rest}

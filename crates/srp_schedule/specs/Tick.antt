@@ -2,17 +2,9 @@
 use Rattle.std.specs.Prelude.{◌≡◌, ◌<◌, ◌^◌, ℕ, suc, List, map}
 use Rattle.std.specs.List.{AllByRecursion}
 use Rattle.tree_topology.specs.Topology.{Topology, link_ports}
-use Rattle.topology_file.specs.Plan.{Plan}
-use Rattle.topology_file.specs.Scenario.{KeepsRules}
-use Rattle.world_core.specs.declared.events.WorldEvent.{WorldEvent}
-use Rattle.world_core.specs.declared.events.WorldEvent.TheVariants.{Carry, Clock}
-use Rattle.world_core.specs.declared.journal.Tick.{Tick}
-use Rattle.world_core.specs.World.{WorldState, CanHappen, world_step, world_after}
-use Rattle.world_core.specs.Ticks.{script_at, tick_events, after_steps, IsCanonicalTick}
-use Rattle.world_core.specs.During.{IsDuring, IsAllowed}
-use Rattle.world_core.specs.Carrying.{NothingWaits}
-use Rattle.world_core.specs.History.{HistoryState, acts_noted}
-use Rattle.world_core.specs.Cursor.{IsCursor}
+use Rattle.topology_file.specs.{Plan.Plan, Scenario.KeepsRules}
+use Rattle.world_core.specs.declared.{events.WorldEvent.WorldEvent, events.WorldEvent.TheVariants.Carry, events.WorldEvent.TheVariants.Clock, journal.Tick.Tick}
+use Rattle.world_core.specs.{World.WorldState, World.CanHappen, World.world_step, World.world_after, Ticks.script_at, Ticks.tick_events, Ticks.after_steps, Ticks.IsCanonicalTick, During.IsDuring, During.IsAllowed, Carrying.NothingWaits, History.HistoryState, History.acts_noted, Cursor.IsCursor}
 
 -- what happens in a tick leaves it as it is until the clock goes on, and then the next tick begins
 pub record DuringLaws : Type 0 where

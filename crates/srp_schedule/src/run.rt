@@ -1,12 +1,7 @@
 //! The run of a scenario, tick by tick.
 
 ghost use Rattle.std.specs.Prelude.{◌≡◌, ◌<◌, List, IfOk, OnOk};
-ghost use Rattle.world_core.specs.Ticks.{AreCanonicalTicks};
-ghost use Rattle.world_core.specs.World.{CanHappen, world_step};
-ghost use Rattle.world_core.specs.During.{IsDuring};
-ghost use Rattle.world_core.specs.Carrying.{NothingWaits};
-ghost use Rattle.world_core.specs.Cursor.{IsCursor};
-ghost use Rattle.world_core.specs.Timeline.{AreChanges, IsTimelineOf};
+ghost use Rattle.world_core.specs.{Ticks.AreCanonicalTicks, World.CanHappen, World.world_step, During.IsDuring, Carrying.NothingWaits, Cursor.IsCursor, Timeline.AreChanges, Timeline.IsTimelineOf};
 ghost use Rattle.srp_schedule.specs.Rest.{AreRests};
 ghost use Rattle.srp_schedule.specs.Tick.{DuringLaws, IsTickMade};
 

@@ -2,8 +2,7 @@
 
 ghost use Rattle.std.specs.Prelude.{◌≡◌, length, IfOk, OnOk};
 ghost use Rattle.tree_topology.specs.Topology.{HasNode, HasPort};
-ghost use Rattle.world_core.specs.Ticks.{step_events};
-ghost use Rattle.world_core.specs.World.{world_after, replies_to};
+ghost use Rattle.world_core.specs.{Ticks.step_events, World.world_after, World.replies_to};
 ghost use Rattle.srp_schedule.specs.Made.{AreSteps, HavePorts, HaveJobPorts, IsDone, IsNodeMade, IsStepReply, jobs_done, events_of, replies_of, with_steps};
 ghost use Rattle.srp_schedule.specs.Rest.{AreRests, IsRestAt};
 

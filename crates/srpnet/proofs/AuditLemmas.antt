@@ -1,25 +1,17 @@
 -- An audit: how many lines there may be, and what is said of a report that is compared piece by piece.
 use Rattle.std.proofs.Common.{◌≡◌, ◌≢◌, ℕ, zero, suc, ◌+◌, ◌-◌, ◌<◌, ◌≤◌, List, [], ◌∷◌, ◌++◌, length, take, drop, refl, sym, ap, subst, ◌∙◌, inl, inr, arith, eqb, append-nil, append_assoc, Option, Some, None}
-use Rattle.std.proofs.lemmas.Bool.{cases_Bool}
-use Rattle.std.proofs.lemmas.Bool.Decides.{nat_tests}
+use Rattle.std.proofs.lemmas.{Bool.cases_Bool, Bool.Decides.nat_tests, List.length-take-le, List.length-drop, List.take_all}
 use Rattle.std.specs.Prelude.{nat_le}
-use Rattle.std.proofs.lemmas.List.{length-take-le, length-drop, take_all}
 use Rattle.std.proofs.Math.Seq.{take-add}
 use Rattle.topology_file.specs.Plan.{Plan}
-use Rattle.journal_audit.specs.Texts.{lines_of, with_octet}
-use Rattle.journal_audit.specs.Form.{AreFormed}
-use Rattle.journal_audit.specs.Journal.{ticks_lines}
-use Rattle.journal_audit.specs.Audit.{IsFirstIllegal, IsJournalOf, IsRefusal, known_of}
+use Rattle.journal_audit.specs.{Texts.lines_of, Texts.with_octet, Form.AreFormed, Journal.ticks_lines, Audit.IsFirstIllegal, Audit.IsJournalOf, Audit.IsRefusal, Audit.known_of}
 use Rattle.world_core.specs.declared.journal.Tick.{Tick}
-use Rattle.world_core.specs.Ticks.{AreLegalTicks}
-use Rattle.world_core.specs.World.{WorldState}
+use Rattle.world_core.specs.{Ticks.AreLegalTicks, World.WorldState}
 use Rattle.frame_flow.specs.declared.result.PortFlow.{PortFlow}
 use Rattle.srp_base.specs.declared.ports.PortChange.{PortChange}
 use Rattle.srp_report.specs.Report.{report_text}
 use Rattle.srpnet.specs.AuditParts.{AuditParts}
-use Rattle.srpnet.specs.AuditText.{IsApproved, IsRunOf}
-use Rattle.srpnet.specs.RunText.{IsRun}
-use Rattle.srpnet.specs.Differ.{DifferAtOnce, IsFirstDifferent, line_feeds}
+use Rattle.srpnet.specs.{IsApproved, IsRunOf, IsRun, DifferAtOnce, IsFirstDifferent, line_feeds}
 use Rattle.srpnet.proofs.LineLemmas.{differ_behind}
 
 with_count : (c : ℕ) (ls : List (List ℕ)) → length (with_octet c ls) ≤ suc (length ls)

@@ -1,14 +1,8 @@
 -- How a command is carried out: its output is made, and let out.
 use Rattle.std.proofs.Common.{rules, ◌≡◌, ℕ, List, sym, subst, Option, Some, inl, inr}
 use Rattle.std.specs.Prelude.{◌⊎◌, Result, Ok, Err}
-use Rattle.srpnet.specs.declared.commands.CommandOutput.{CommandOutput}
-use Rattle.srpnet.specs.declared.outcome.Cause.{Cause}
-use Rattle.srpnet.specs.declared.words.Command.{Command}
+use Rattle.srpnet.specs.{CommandOutput, Cause, Command, NoMemory, CarriedOut, IsPlainEnding, IsMade, IsPrinted, IsLetOut}
 use Rattle.world_core.specs.declared.journal.Tick.{Tick}
-use Rattle.srpnet.specs.declared.outcome.Cause.TheVariants.{NoMemory}
-use Rattle.srpnet.specs.Ending.{CarriedOut}
-use Rattle.srpnet.specs.TopCall.{IsPlainEnding}
-use Rattle.srpnet.specs.Made.{IsMade, IsPrinted, IsLetOut}
 
 module _ {I O : Type 0} (left : I → Option (List ℕ)) (in_faults : I → ℕ) (held : O → Option (List ℕ)) (out_faults : O → ℕ)
     (command : Command) (source source' : I) (out out' : O) (cause : Cause) where

@@ -2,13 +2,10 @@
 use Rattle.std.proofs.Common.{◌≡◌, ℕ, ◌+◌, ◌<◌, ◌≤◌, Bool, true, false, ◌||◌, List, [], ◌∷◌, ◌++◌, length, take, drop, get_or, filter, refl, ap, sym, ◌∙◌, inl, inr, Option, Some, arith, Err, eqb, cond, append-nil, nat_le, length-take, add-one, drop-cons, le-leb}
 use Rattle.std.specs.List.{list_any}
 use Rattle.std.specs.Prelude.{not}
-use Rattle.std.proofs.lemmas.Bool.Decides.{nat_tests}
-use Rattle.std.proofs.lemmas.Bool.{eqb-true, cases_Bool}
-use Rattle.std.proofs.lemmas.List.{take_more, map_push, length-map}
-use Rattle.std.proofs.lemmas.List.Elements.{filter-append}
+use Rattle.std.proofs.lemmas.{Bool.Decides.nat_tests, Bool.eqb-true, Bool.cases_Bool, List.take_more, List.map_push, List.length-map, List.Elements.filter-append}
 use Rattle.indexmap.specs.IndexSet.{insert_key}
 use Rattle.srpnet.specs.declared.ledger.file.LedgerWant.{LedgerWant}
-use Rattle.srpnet.specs.LedgerFile.{different, streams_of, first_crowd, streams_mentioned}
+use Rattle.srpnet.specs.{different, streams_of, first_crowd, streams_mentioned}
 use Rattle.toml_rules.specs.Rules.{fails_at}
 
 -- what isn't x

@@ -1,12 +1,11 @@
 -- What toml's reader says of octets, as the document of those octets.
 use Rattle.std.proofs.Common.{◌≡◌, ℕ, true, false, List, Some, None, refl, sym, ◌∙◌, inl, inr}
 use Rattle.std.specs.Prelude.{IsUtf8, IsTrue, ◌↔◌, Bool}
-use Rattle.std.proofs.lemmas.Bool.{cases_Bool}
-use Rattle.std.proofs.lemmas.Str.{IsUtf8-from_is_utf8, is_utf8-from_IsUtf8}
+use Rattle.std.proofs.lemmas.{Bool.cases_Bool, Str.IsUtf8-from_is_utf8, Str.is_utf8-from_IsUtf8}
 use Rattle.std.specs.Str.{is_utf8}
 use Rattle.toml.specs.Data.{Members}
 use Rattle.toml.specs.Parse.{parse_document}
-use Rattle.srpnet.specs.Document.{document}
+use Rattle.srpnet.specs.{document}
 
 pub document_found : (octets : List ℕ) (ms : Members) → IsUtf8 octets → parse_document octets ≡ Some ms → document octets ≡ Some ms
 document_found octets ms utf8 parsed = rw (is_utf8-from_IsUtf8 octets utf8) parsed

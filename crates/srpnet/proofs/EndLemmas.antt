@@ -2,12 +2,8 @@
 use Rattle.std.proofs.Common.{◌≡◌, ℕ, suc, List, [], ◌∷◌, ◌++◌, length, refl, sym, ap, ◌∙◌}
 use Rattle.std.proofs.Math.Seq.{take-length}
 use Rattle.topology_file.specs.Plan.{Plan}
-use Rattle.world_core.specs.declared.events.WorldEvent.{WorldEvent}
-use Rattle.world_core.specs.declared.journal.Tick.{Tick}
-use Rattle.world_core.specs.World.{WorldState, world_after, world_step}
-use Rattle.world_core.specs.Start.{world_of}
-use Rattle.world_core.specs.Ticks.{LeadTo, AreCanonicalTicks, IsCanonicalTick, tick_events}
-use Rattle.world_core.specs.Moments.{IsMoment, events_from}
+use Rattle.world_core.specs.declared.{events.WorldEvent.WorldEvent, journal.Tick.Tick}
+use Rattle.world_core.specs.{World.WorldState, World.world_after, World.world_step, Start.world_of, Ticks.LeadTo, Ticks.AreCanonicalTicks, Ticks.IsCanonicalTick, Ticks.tick_events, Moments.IsMoment, Moments.events_from}
 
 after_append : (es fs : List WorldEvent) (w : WorldState) → world_after fs (world_after es w) ≡ world_after (es ++ fs) w
 after_append [] fs w = refl

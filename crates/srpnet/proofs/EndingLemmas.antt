@@ -4,22 +4,14 @@ use Rattle.std.specs.Prelude.{◌↔◌}
 use Rattle.std.proofs.lemmas.Bool.{cases_lt}
 use Rattle.topology_file.specs.Plan.{Plan}
 use Rattle.world_core.specs.declared.journal.Tick.{Tick}
-use Rattle.world_core.specs.Ticks.{AreLegalTicks}
-use Rattle.world_core.specs.World.{WorldState}
+use Rattle.world_core.specs.{Ticks.AreLegalTicks, World.WorldState}
 use Rattle.frame_flow.specs.declared.result.PortFlow.{PortFlow}
 use Rattle.srp_base.specs.declared.ports.PortChange.{PortChange}
-use Rattle.journal_audit.specs.declared.verdict.Verdict.{Verdict}
-use Rattle.journal_audit.specs.declared.verdict.Verdict.TheVariants.{No}
-use Rattle.journal_audit.specs.Audit.{IsFirstIllegal, IsJournalOf, IsRefusal, IsVerdict, RefusesBehind, known_of}
-use Rattle.journal_audit.specs.Form.{AreFormed, IsFirstUnformed}
-use Rattle.journal_audit.specs.Texts.{lines_of}
+use Rattle.journal_audit.specs.declared.{verdict.Verdict.Verdict, verdict.Verdict.TheVariants.No}
+use Rattle.journal_audit.specs.{Audit.IsFirstIllegal, Audit.IsJournalOf, Audit.IsRefusal, Audit.IsVerdict, Audit.RefusesBehind, Audit.known_of, Form.AreFormed, Form.IsFirstUnformed, Texts.lines_of}
 use Rattle.srp_report.specs.Report.{report_text}
-use Rattle.srpnet.specs.declared.outcome.Cause.{Cause}
-use Rattle.srpnet.specs.declared.outcome.Cause.TheVariants.{Done, AuditNo, BadWords, ReadFault, TooLong, NotToml, BadScenario, WriteFault, NoMemory}
+use Rattle.srpnet.specs.{Cause, Done, AuditNo, BadWords, ReadFault, TooLong, NotToml, BadScenario, WriteFault, NoMemory, IsAudited, IsReportRefused, IsFirstDifferent, IsRun}
 use Rattle.srpnet.specs.AuditParts.{AuditParts}
-use Rattle.srpnet.specs.AuditText.{IsAudited, IsReportRefused}
-use Rattle.srpnet.specs.Differ.{IsFirstDifferent}
-use Rattle.srpnet.specs.RunText.{IsRun}
 use Rattle.srpnet.proofs.AuditLemmas.{run_of_journal, same_run}
 
 -- ---- the first of some numbers from which something doesn't hold

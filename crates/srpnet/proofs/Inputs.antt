@@ -2,12 +2,7 @@
 use Rattle.std.proofs.Common.{◌≡◌, ℕ, ◌≤◌, Bool, true, false, List, [], ◌++◌, length, append-nil, le-leb, refl, sym, ap, subst, ◌∙◌, inl, inr, Option, Some, None, Ok, Err}
 use Rattle.std.specs.Prelude.{Result, nat_le, not, ◌&&◌}
 use Rattle.std.specs.Io.KnownBytes.{Consumes, IsAtEnd}
-use Rattle.srpnet.specs.declared.words.Command.{Command}
-use Rattle.srpnet.specs.declared.outcome.Cause.{Cause}
-use Rattle.srpnet.specs.declared.outcome.Cause.TheVariants.{Done}
-use Rattle.srpnet.specs.Commands.{IsEndingOf, reads_input}
-use Rattle.srpnet.specs.Outcomes.{EndsBy}
-use Rattle.srpnet.specs.TopCall.{IsEndingWhere, IsPlainEnding, is_too_long, most_octets}
+use Rattle.srpnet.specs.{Command, Cause, Done, IsEndingOf, reads_input, EndsBy, IsEndingWhere, IsPlainEnding, is_too_long, most_octets}
 
 -- what a source gave up to its end is all that it told
 consumed_all : (before after : Option (List ℕ)) (octets told : List ℕ) → Consumes before after octets → IsAtEnd after → before ≡ Some told → octets ≡ told

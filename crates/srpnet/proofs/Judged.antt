@@ -4,23 +4,10 @@ use Rattle.std.proofs.Common.{◌≡◌, ℕ, true, List, refl, sym, subst, inl,
 use Rattle.std.specs.Prelude.{Result, IfErr}
 use Rattle.srp_base.specs.Results.{◌>>=◌}
 use Rattle.toml.specs.Data.{Members}
-use Rattle.toml_rules.specs.declared.rules.RuleErr.{RuleErr}
-use Rattle.toml_rules.specs.declared.rules.RuleErr.TheVariants.{Rule, NoMemory as no_memory}
-use Rattle.srpnet.specs.declared.words.Command.{Command}
-use Rattle.srpnet.specs.declared.words.Command.TheVariants.{Ledger, Check, Explain, ExplainLedger, Run, RunJournal, RunBounds, Ports, PortsJournal, Margins, Audit, Groups, Decode, Generate, Help, Version}
-use Rattle.srpnet.specs.declared.outcome.Cause.{Cause}
-use Rattle.srpnet.specs.declared.outcome.Cause.TheVariants.{Done, BadWords, ReadFault, TooLong, NotToml, BadScenario, WriteFault, AuditNo, NoMemory}
-use Rattle.srpnet.specs.AuditParts.{AuditParts, audit_parts}
-use Rattle.srpnet.specs.AuditText.{IsAudited, IsAuditedBy, IsAuditedOf}
-use Rattle.srpnet.specs.Commands.{IsEndingOf, reads_input}
-use Rattle.srpnet.specs.Document.{document, or_not_toml}
-use Rattle.srpnet.specs.Words.{starts_threads}
-use Rattle.srpnet.specs.Input.{by_rules, ending, input_of}
-use Rattle.srpnet.specs.LedgerFile.{ledger_file}
-use Rattle.srpnet.specs.Outcomes.{EndsAs, EndsBy, LacksOutput}
-use Rattle.topology_file.specs.Plan.{Plan}
-use Rattle.topology_file.specs.Scenario.{scenario_of}
-use Rattle.srpnet.specs.ScenarioInput.{scenario_input}
+use Rattle.toml_rules.specs.declared.{rules.RuleErr.RuleErr, rules.RuleErr.TheVariants.Rule, rules.RuleErr.TheVariants.NoMemory as no_memory}
+use Rattle.srpnet.specs.{Command, Ledger, Check, Explain, ExplainLedger, Run, RunJournal, RunBounds, Ports, PortsJournal, Margins, Audit, Groups, Decode, Generate, Help, Version, Cause, Done, BadWords, ReadFault, TooLong, NotToml, BadScenario, WriteFault, AuditNo, NoMemory, audit_parts, IsAudited, IsAuditedBy, IsAuditedOf, IsEndingOf, reads_input, document, or_not_toml, starts_threads, by_rules, ending, input_of, ledger_file, EndsAs, EndsBy, LacksOutput, scenario_input}
+use Rattle.srpnet.specs.AuditParts.{AuditParts}
+use Rattle.topology_file.specs.{Plan.Plan, Scenario.scenario_of}
 use Rattle.group_file.specs.Scenario.{group_scenario_of}
 
 -- the causes with which octets may end that are judged

@@ -2,20 +2,13 @@
 use Rattle.std.proofs.Common.{◌≡◌, ◌≢◌, ◌↔◌, ℕ, ◌+◌, ◌<◌, ◌≤◌, Bool, true, false, ◌==◌, cond, List, [], ◌∷◌, ◌++◌, length, get_or, take, drop, reverse, Option, Some, None, option_map, IsSome, refl, sym, subst, ◌∙◌, ap, arith, nat_lt, inl, inr}
 use Rattle.std.specs.Prelude.{find}
 use Rattle.std.specs.Option.{option_map_or}
-use Rattle.std.proofs.lemmas.Bool.{eqb-true, eqb-false, eq-eqb, ne_eqb, cases_Bool}
-use Rattle.std.proofs.lemmas.List.{drop_more, take_all, take_more, reverse-append}
-use Rattle.srp_base.specs.declared.numbers.Cs.{Cs}
-use Rattle.srp_base.specs.declared.numbers.StreamId.{StreamId}
+use Rattle.std.proofs.lemmas.{Bool.eqb-true, Bool.eqb-false, Bool.eq-eqb, Bool.ne_eqb, Bool.cases_Bool, List.drop_more, List.take_all, List.take_more, List.reverse-append}
+use Rattle.srp_base.specs.declared.{numbers.Cs.Cs, numbers.StreamId.StreamId}
 use Rattle.srp_base.specs.Hexadecimal.{hex16_text}
-use Rattle.stream_importance.specs.declared.entry.Entry.{Entry}
-use Rattle.stream_importance.specs.declared.entry.Want.{Want}
-use Rattle.stream_importance.specs.declared.entry.Fit.{Fit}
-use Rattle.stream_importance.specs.declared.entry.Fit.TheVariants.{Fits, TooLittle}
+use Rattle.stream_importance.specs.declared.{entry.Entry.Entry, entry.Want.Want, entry.Fit.Fit, entry.Fit.TheVariants.Fits, entry.Fit.TheVariants.TooLittle}
 use Rattle.port_ledger.specs.Book.{Book, fit_for, since_of, want_of}
 use Rattle.toml_rules.specs.Rules.{first_fall}
-use Rattle.srpnet.specs.LedgerFile.{want_ticks}
-use Rattle.srpnet.specs.LedgerRun.{Applies, Leads}
-use Rattle.srpnet.specs.LedgerText.{HasLines, last_want, line_by, want_line}
+use Rattle.srpnet.specs.{want_ticks, Applies, Leads, HasLines, last_want, line_by, want_line}
 use Rattle.srpnet.specs.declared.ledger.file.LedgerWant.{LedgerWant}
 
 -- ---- the lines of the streams

@@ -1,14 +1,14 @@
 -- Lines of a text.
-use Rattle.std.proofs.Common.{◌≡◌, ◌≢◌, ℕ, suc, zero, ◌+◌, ◌-◌, ◌<◌, ◌≤◌, Bool, true, false, cond, List, [], ◌∷◌, ◌++◌, length, take, drop, get_or, refl, sym, ap, ◌∙◌, inl, inr, arith, eqb, Option, Some, None, append_assoc, length-append, append-nil}
-use Rattle.std.proofs.lemmas.Bool.{cases_Bool, eqb-true}
-use Rattle.std.proofs.lemmas.List.{take-append-le, take_more}
+use Rattle.std.proofs.Common.{◌≡◌, ◌≢◌, ℕ, suc, zero, ◌+◌, ◌-◌, ◌<◌, ◌≤◌, true, false, cond, List, [], ◌∷◌, ◌++◌, length, take, drop, get_or, refl, sym, ap, ◌∙◌, inl, inr, arith, eqb, Option, Some, None, append_assoc, length-append, append-nil}
+use Rattle.std.proofs.lemmas.{Bool.cases_Bool, Bool.eqb-true, List.take-append-le, List.take_more}
 use Rattle.std.proofs.Math.Seq.{take-length}
 use Rattle.std.specs.Prelude.{codes, nat_eq}
 use Rattle.std.specs.Cmp.Lexicographic.{pointwise, bytes_decides}
+use Rattle.std.proofs.lemmas.Bool.{false_from_ne_true as no_test}
+use Rattle.srp_base.proofs.Bools.{one-test as both_or_neither}
 use Rattle.srp_base.specs.Text.{whole_of}
 use Rattle.journal_audit.specs.Texts.{lines_of, with_octet}
-use Rattle.srpnet.specs.Differ.{DifferAtOnce, line_feeds, IsFirstDifferent}
-use Rattle.srpnet.specs.AuditParts.{is_line, parted_from, parted_at, PartedText, as_text}
+use Rattle.srpnet.specs.{DifferAtOnce, line_feeds, IsFirstDifferent, is_line, parted_from, parted_at, PartedText, as_text}
 
 whole_with : (c : ℕ) (ls : List (List ℕ)) → whole_of (with_octet c ls) ≡ c ∷ whole_of ls
 whole_with c [] = refl
@@ -229,17 +229,6 @@ same_end (c ∷ one) (d ∷ other) e is =
     let heads : c ≡ d = cc in
     let tails : one ++ e ∷ [] ≡ other ++ e ∷ [] = cc in
     rw (heads, same_end one other e tails) refl
-
-both_or_neither : (a b : Bool) → (a ≡ true → b ≡ true) → (b ≡ true → a ≡ true) → a ≡ b
-both_or_neither true b one other = sym (one refl)
-both_or_neither false true one other = other refl
-both_or_neither false false one other = refl
-
-no_test : (a : Bool) → (a ≡ true → ⊥) → a ≡ false
-no_test a never = elim (cases_Bool a) [
-  | inl is ↦ absurd (never is)
-  | inr off ↦ off
-]
 
 module _ (word line : List ℕ) where
   -- with its line feed it is the word where the word stands before the line feed

@@ -1,13 +1,9 @@
 -- Which words write a number.
 use Rattle.std.proofs.Common.{◌≡◌, ℕ, ◌<◌, true, false, List, refl, sym, ap, subst, ◌∙◌, inl, inr, arith}
 use Rattle.std.specs.Prelude.{◌^◌, nat_eq, nat_lt, ◌&&◌, Option, Some, None}
-use Rattle.std.specs.Cmp.Lexicographic.{pointwise, bytes_decides}
-use Rattle.std.specs.Fmt.{decimal}
-use Rattle.std.specs.Str.Parse.{digits_value}
-use Rattle.std.proofs.lemmas.Bool.{cases_Bool}
-use Rattle.std.proofs.lemmas.Bool.Decides.{Decides-ltb, Decides-and}
-use Rattle.std.proofs.lemmas.Fmt.{decimal_is_IsNumeral}
-use Rattle.srpnet.specs.Words.{number_of_word}
+use Rattle.std.specs.{Cmp.Lexicographic.pointwise, Cmp.Lexicographic.bytes_decides, Fmt.decimal, Str.Parse.digits_value}
+use Rattle.std.proofs.lemmas.{Bool.cases_Bool, Bool.Decides.Decides-ltb, Bool.Decides.Decides-and, Fmt.decimal_is_IsNumeral}
+use Rattle.srpnet.specs.{number_of_word}
 
 -- a word is the text of just the number that it is found to write
 pub writes-number : (word : List ℕ) (n : ℕ) → n < 2 ^ 32 → word ≡ decimal n → number_of_word word ≡ Some n

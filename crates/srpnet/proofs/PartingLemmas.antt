@@ -5,7 +5,8 @@ use Rattle.std.specs.List.{AllByRecursion}
 use Rattle.std.proofs.lemmas.Bool.{cases_Bool}
 use Rattle.srp_base.specs.Text.{whole_of}
 use Rattle.journal_audit.specs.Texts.{lines_of, with_octet}
-use Rattle.srpnet.specs.AuditParts.{is_line, parted_from, as_text, parted_at, PartedText, AuditParts, with_scenario, by_cut, audit_parts, EndsItsLines, LacksLine, put_together, LacksPart}
+use Rattle.srpnet.specs.{is_line, parted_from, as_text, parted_at, PartedText, with_scenario, by_cut, audit_parts, EndsItsLines, LacksLine, put_together, LacksPart}
+use Rattle.srpnet.specs.AuditParts.{AuditParts}
 use Rattle.srpnet.proofs.LineLemmas.{whole_lines}
 
 -- ---- lines of texts one behind the other

@@ -4,7 +4,7 @@ use Rattle.std.proofs.lemmas.List.{take-append-le, length-drop, drop-drop}
 use Rattle.std.proofs.Math.Seq.{take-add, take-length, drop-append_seam}
 use Rattle.std.specs.Io.KnownBytes.{Appends}
 use Rattle.std.proofs.KnownBytes.{Appends-trans}
-use Rattle.srpnet.specs.TopCall.{PartOf, StoppedIn}
+use Rattle.srpnet.specs.{PartOf, StoppedIn}
 
 -- so many octets of a text have gone out, and this is left of it
 pub record IsOut (before now : Option (List ℕ)) (text rest : List ℕ) (written : ℕ) : Type 0 where

@@ -3,23 +3,14 @@ use Rattle.std.proofs.Common.{◌≡◌, ℕ, ◌+◌, List, ◌++◌, length, r
 use Rattle.std.specs.Prelude.{Result, codes}
 use Rattle.frame_flow.specs.declared.result.PortFlow.{PortFlow}
 use Rattle.toml.specs.Data.{Members}
-use Rattle.topology_file.specs.Plan.{Plan}
-use Rattle.topology_file.specs.Scenario.{KeepsRules, scenario_of}
+use Rattle.topology_file.specs.{Plan.Plan, Scenario.KeepsRules, Scenario.scenario_of}
 use Rattle.world_core.specs.declared.journal.Tick.{Tick}
-use Rattle.world_core.specs.Ticks.{AreLegalTicks}
-use Rattle.world_core.specs.World.{WorldState}
-use Rattle.journal_audit.specs.Journal.{journal_text}
-use Rattle.journal_audit.specs.Texts.{lines_of}
+use Rattle.world_core.specs.{Ticks.AreLegalTicks, World.WorldState}
+use Rattle.journal_audit.specs.{Journal.journal_text, Texts.lines_of}
 use Rattle.srp_report.specs.Report.{report_text}
-use Rattle.srpnet.specs.declared.outcome.Cause.{Cause}
-use Rattle.srpnet.specs.declared.outcome.Cause.TheVariants.{Done}
-use Rattle.srpnet.specs.AuditParts.{AuditParts, EndsItsLines, LacksLine}
-use Rattle.srpnet.specs.AuditText.{IsAuditedBy, IsAuditedOf, IsAuditEnding}
-use Rattle.srpnet.specs.RunText.{IsRun, RunOutput, report_and_journal}
-use Rattle.srpnet.specs.ScenarioInput.{scenario_input}
-use Rattle.srpnet.proofs.PartingLemmas.{parted_again}
-use Rattle.srpnet.proofs.RunLemmas.{approved, journal_printed}
-use Rattle.srpnet.proofs.WhyLemmas.{scenario_keeps}
+use Rattle.srpnet.specs.{Cause, Done, EndsItsLines, LacksLine, IsAuditedBy, IsAuditedOf, IsAuditEnding, IsRun, RunOutput, report_and_journal, scenario_input}
+use Rattle.srpnet.specs.AuditParts.{AuditParts}
+use Rattle.srpnet.proofs.{PartingLemmas.parted_again, RunLemmas.approved, RunLemmas.journal_printed, WhyLemmas.scenario_keeps}
 
 pub printed_approved : ((ms : Members) (plan : Plan) → scenario_of ms ≡ Ok plan → KeepsRules plan)
     → ((plan : Plan) (world : WorldState) (ticks : List Tick) (flows : List PortFlow) → KeepsRules plan

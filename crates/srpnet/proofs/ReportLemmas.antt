@@ -1,62 +1,35 @@
 -- Each line of a report that is printed ends with its line feed, and none is the line `journal`.
 use Rattle.std.proofs.Common.{◌≡◌, ◌≢◌, ℕ, zero, suc, ◌+◌, ◌-◌, ◌/◌, ◌%◌, Bool, true, false, List, [], ◌∷◌, ◌++◌, length, get_or, replicate, flat_map, refl, sym, ap, subst, ◌∙◌, inl, inr, arith, eqb, Option, Some, None, append_assoc}
-use Rattle.std.specs.Prelude.{codes, nat_eq, nat_lt, not, slice_get, ◌==◌, ◌&&◌, if◌then◌else◌}
-use Rattle.std.specs.Cmp.Lexicographic.{pointwise, bytes_decides}
-use Rattle.std.specs.Fmt.{decimal, digits, digits_onto, digit_glyph}
-use Rattle.std.specs.List.{AllByRecursion, list_all}
-use Rattle.std.specs.Option.{option_map_or}
-use Rattle.std.proofs.lemmas.Bool.{cases_Bool, eqb-true}
-use Rattle.std.proofs.lemmas.Bool.Decides.{nat_tests}
-use Rattle.std.proofs.lemmas.Option.{slice_get_cases}
-use Rattle.srp_base.specs.Hexadecimal.{hex16_text}
-use Rattle.srp_base.specs.Text.{whole_of}
-use Rattle.srp_base.specs.declared.bandwidth.Class.{Class}
-use Rattle.srp_base.specs.declared.bandwidth.Class.TheVariants.{A, B}
-use Rattle.srp_base.specs.declared.numbers.Cs.{Cs}
-use Rattle.srp_base.specs.declared.numbers.EgressPort.{EgressPort}
-use Rattle.srp_base.specs.declared.numbers.NodeNo.{NodeNo}
-use Rattle.srp_base.specs.declared.numbers.StreamId.{StreamId}
-use Rattle.srp_base.specs.declared.streams.Failure.{Failure}
-use Rattle.srp_base.specs.declared.streams.ListenerKind.{ListenerKind}
+use Rattle.std.specs.Prelude.{codes, nat_eq, not, slice_get, ◌==◌, ◌&&◌, if◌then◌else◌}
+use Rattle.std.specs.{Cmp.Lexicographic.pointwise, Cmp.Lexicographic.bytes_decides, Fmt.decimal, Fmt.digits, Fmt.digits_onto, Fmt.digit_glyph, List.AllByRecursion, List.list_all, Option.option_map_or}
+use Rattle.std.proofs.lemmas.{Bool.cases_Bool, Bool.eqb-true, Bool.Decides.nat_tests, Option.slice_get_cases}
+use Rattle.srp_base.proofs.Arithmetic.{glyph_plain}
+use Rattle.srp_base.specs.{Hexadecimal.hex16_text, Text.whole_of}
+use Rattle.srp_base.specs.declared.{bandwidth.Class.Class, bandwidth.Class.TheVariants.A, bandwidth.Class.TheVariants.B, numbers.Cs.Cs, numbers.EgressPort.EgressPort, numbers.NodeNo.NodeNo, numbers.StreamId.StreamId, streams.Failure.Failure, streams.ListenerKind.ListenerKind}
 use Rattle.srp_base.specs.declared.streams.ListenerKind.TheVariants.{AskingFailed, Ready, ReadyFailed}
-use Rattle.tree_topology.specs.declared.graph.Link.{Link}
-use Rattle.tree_topology.specs.declared.graph.NodeKind.{NodeKind}
-use Rattle.tree_topology.specs.declared.graph.NodeKind.TheVariants.{Station, Bridge}
-use Rattle.tree_topology.specs.Ports.{peer_of}
+use Rattle.tree_topology.specs.declared.{graph.Link.Link, graph.NodeKind.NodeKind, graph.NodeKind.TheVariants.Station, graph.NodeKind.TheVariants.Bridge}
+use Rattle.tree_topology.specs.{Ports.peer_of, Topology.link_ports}
 use Rattle.registrar.specs.declared.Registrar.{Registrar}
 use Rattle.registrar.specs.declared.Registrar.TheVariants.{Held, Leaving, Empty}
-use Rattle.stream_importance.specs.declared.entry.Entry.{Entry}
-use Rattle.stream_importance.specs.declared.entry.Want.{Want}
-use Rattle.msrp_codec.specs.declared.pdu.MsrpKey.{MsrpKey}
+use Rattle.stream_importance.specs.declared.{entry.Entry.Entry, entry.Want.Want}
+use Rattle.msrp_codec.specs.declared.{pdu.MsrpKey.MsrpKey, pdu.MsrpContent.MsrpContent}
 use Rattle.msrp_codec.specs.declared.pdu.MsrpKey.TheVariants as keys
-use Rattle.msrp_codec.specs.declared.pdu.MsrpContent.{MsrpContent}
 use Rattle.msrp_codec.specs.declared.pdu.MsrpContent.TheVariants.{Advertise, Failed, Listener, Domain}
 use Rattle.attribute_propagation.specs.Ports.{place_of}
-use Rattle.frame_flow.specs.declared.result.Fate.{Fate}
-use Rattle.frame_flow.specs.declared.result.PortFlow.{PortFlow}
+use Rattle.frame_flow.specs.declared.{result.Fate.Fate, result.PortFlow.PortFlow}
 use Rattle.msrp.specs.Side.{has_listen, heard_of}
 use Rattle.node_core.specs.State.{NodeState, bookings_at, content_at, registered_keys, registrar_at}
-use Rattle.node_core.specs.declared.types.NodeKey.{NodeKey}
-use Rattle.node_core.specs.declared.types.NodeKey.TheVariants.{Vlan, Srp}
-use Rattle.topology_file.specs.declared.entries.NodeEntry.{NodeEntry}
-use Rattle.topology_file.specs.declared.entries.StreamEntry.{StreamEntry}
-use Rattle.topology_file.specs.Entries.{is_name_char}
-use Rattle.topology_file.specs.Plan.{Plan}
-use Rattle.topology_file.specs.Scenario.{KeepsRules}
+use Rattle.node_core.specs.declared.{types.NodeKey.NodeKey, types.NodeKey.TheVariants.Vlan, types.NodeKey.TheVariants.Srp}
+use Rattle.topology_file.specs.declared.{entries.NodeEntry.NodeEntry, entries.StreamEntry.StreamEntry}
+use Rattle.topology_file.specs.{Entries.is_name_char, Plan.Plan, Scenario.KeepsRules}
 use Rattle.world_core.specs.declared.journal.Tick.{Tick}
 use Rattle.world_core.specs.World.{WorldState, is_in_step, is_quiet, node_at}
 use Rattle.report_words.specs.declared.tally.Tally.{Tally}
-use Rattle.report_words.specs.Lines.{end_lines, port_line, ticks_line}
-use Rattle.report_words.specs.Names.{name_of, port_name}
-use Rattle.tree_topology.specs.Topology.{link_ports}
-use Rattle.report_words.specs.Words.{class_name, state_name}
+use Rattle.report_words.specs.{Lines.end_lines, Lines.port_line, Lines.ticks_line, Names.name_of, Names.port_name, Words.class_name, Words.state_name}
 use Rattle.srp_report.specs.declared.departures.SentFrame.{SentFrame}
-use Rattle.srp_report.specs.Counts.{replies_of, tally_of}
-use Rattle.srp_report.specs.FrameLines.{by_start, depart_line, fates_count, fates_lines, flow_part, flow_parts, frames_line, is_departed, is_left, is_novlan, is_unbooked_fate, sent_frames}
-use Rattle.srp_report.specs.Lines.{booked_line, domain_line, failure_text, heard_line, heard_name, kind_name, listener_line, srp_line, talker_end, talker_line, talker_start, vlan_line, want_line}
-use Rattle.srp_report.specs.Report.{before_frames, booked_lines, heard_by_kind, key_line, node_heard, nodes_heard, place_lines, port_part, port_parts, registered_lines, report_text, stream_heard}
+use Rattle.srp_report.specs.{Counts.replies_of, Counts.tally_of, FrameLines.by_start, FrameLines.depart_line, FrameLines.fates_count, FrameLines.fates_lines, FrameLines.flow_part, FrameLines.flow_parts, FrameLines.frames_line, FrameLines.is_departed, FrameLines.is_left, FrameLines.is_novlan, FrameLines.is_unbooked_fate, FrameLines.sent_frames, Lines.booked_line, Lines.domain_line, Lines.failure_text, Lines.heard_line, Lines.heard_name, Lines.kind_name, Lines.listener_line, Lines.srp_line, Lines.talker_end, Lines.talker_line, Lines.talker_start, Lines.vlan_line, Lines.want_line, Report.before_frames, Report.booked_lines, Report.heard_by_kind, Report.key_line, Report.node_heard, Report.nodes_heard, Report.place_lines, Report.port_part, Report.port_parts, Report.registered_lines, Report.report_text, Report.stream_heard}
 use Rattle.journal_audit.specs.Texts.{lines_of, with_octet}
-use Rattle.srpnet.specs.AuditParts.{EndsItsLines, LacksLine, is_line}
+use Rattle.srpnet.specs.{EndsItsLines, LacksLine, is_line}
 use Rattle.srpnet.proofs.PartingLemmas.{lines_append}
 
 -- ---- texts without a line feed
@@ -84,13 +57,6 @@ plain_whole [] h = tt
 plain_whole (p ∷ pieces) h = plain_append p (whole_of pieces) h.0 (plain_whole pieces h.1)
 
 -- ---- numbers
-
-glyph_plain : (d : ℕ) → digit_glyph false d ≢ 10
-glyph_plain d = by (nat_lt d 10)
-  where
-    by : (b : Bool) → (if b then 48 + d else (if false then 55 + d else 87 + d)) ≢ 10
-    by true e = absurd (omega (arith, e))
-    by false e = absurd (omega (arith, e))
 
 digits_plain : (k base n : ℕ) (acc : List ℕ) → IsPlain acc → IsPlain (digits_onto k base false n acc)
 digits_plain zero base n acc h = h

@@ -5,7 +5,7 @@ use Rattle.frame_flow.specs.declared.result.PortFlow.{PortFlow}
 use Rattle.topology_file.specs.Plan.{Plan}
 use Rattle.world_core.specs.declared.journal.Tick.{Tick}
 use Rattle.world_core.specs.World.{WorldState}
-use Rattle.srpnet.specs.RunText.{HoldsThroughout, IsReported, IsRun, Text}
+use Rattle.srpnet.specs.{HoldsThroughout, IsReported, IsRun, Text}
 
 -- the output of such a run prints its text, and has its ticks
 pub reported_as : (Lead : Plan → List Tick → WorldState → Type 0) (text_of : Text) (plan : Plan) (ticks : List Tick) (world : WorldState)

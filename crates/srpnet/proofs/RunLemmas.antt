@@ -4,32 +4,20 @@ use Rattle.std.specs.Prelude.{AllPairs, codes, ◌==◌}
 use Rattle.std.specs.List.{list_any}
 use Rattle.std.proofs.lemmas.Option.{slice_get_cases}
 use Rattle.srp_base.specs.Text.{whole_of}
-use Rattle.srp_base.specs.declared.numbers.EgressPort.{EgressPort}
-use Rattle.srp_base.specs.declared.numbers.StreamId.{StreamId}
-use Rattle.srp_base.specs.declared.ports.PortChange.{PortChange}
+use Rattle.srp_base.specs.declared.{numbers.EgressPort.EgressPort, numbers.StreamId.StreamId, ports.PortChange.PortChange}
 use Rattle.tree_topology.specs.Topology.{HasPort, IsSound}
 use Rattle.frame_flow.specs.declared.result.PortFlow.{PortFlow}
-use Rattle.frame_flow.specs.Flow.{Setting, IsFlow}
-use Rattle.frame_flow.specs.Force.{changes_at, first_slopes, has_booked, has_vid, in_force}
-use Rattle.frame_flow.specs.Given.{IsEarlier}
-use Rattle.frame_flow.specs.Laws.{IsSameForce, SayTheSame}
-use Rattle.topology_file.specs.Plan.{Plan}
-use Rattle.topology_file.specs.Scenario.{KeepsRules}
+use Rattle.frame_flow.specs.{Flow.Setting, Flow.IsFlow, Force.changes_at, Force.first_slopes, Force.has_booked, Force.has_vid, Force.in_force, Given.IsEarlier, Laws.IsSameForce, Laws.SayTheSame}
+use Rattle.topology_file.specs.{Plan.Plan, Scenario.KeepsRules}
 use Rattle.scenario_frames.specs.Setting.{setting_of}
-use Rattle.world_core.specs.declared.journal.NodeSteps.{NodeSteps}
-use Rattle.world_core.specs.declared.journal.Tick.{Tick}
-use Rattle.world_core.specs.Reservation.{Reservation, said_by}
-use Rattle.world_core.specs.Start.{world_of}
-use Rattle.world_core.specs.Ticks.{AreLegalTicks, IsLegalTick, LeadTo, after_steps, tick_events}
-use Rattle.world_core.specs.Timeline.{IsAfterSteps, IsTimelineOf, world_after_ticks}
-use Rattle.world_core.specs.World.{WorldState, world_after}
+use Rattle.world_core.specs.declared.{journal.NodeSteps.NodeSteps, journal.Tick.Tick}
+use Rattle.world_core.specs.{Reservation.Reservation, Reservation.said_by, Start.world_of, Ticks.AreLegalTicks, Ticks.IsLegalTick, Ticks.LeadTo, Ticks.after_steps, Ticks.tick_events, Timeline.IsAfterSteps, Timeline.IsTimelineOf, Timeline.world_after_ticks, World.WorldState, World.world_after}
 use Rattle.journal_lines.specs.Lines.{line_at}
 use Rattle.journal_audit.specs.Journal as audited
 use Rattle.srp_report.specs.JournalText as printed
 use Rattle.srp_report.specs.Report.{report_text}
 use Rattle.srpnet.specs.AuditParts.{AuditParts}
-use Rattle.srpnet.specs.AuditText.{IsApproved}
-use Rattle.srpnet.specs.RunText.{HoldsThroughout, IsRun}
+use Rattle.srpnet.specs.{IsApproved, HoldsThroughout, IsRun}
 
 -- ---- one flow
 

@@ -5,31 +5,16 @@ use Rattle.srp_base.specs.Results.{◌>>=◌}
 use Rattle.srp_base.specs.declared.ports.PortChange.{PortChange}
 use Rattle.frame_flow.specs.declared.result.PortFlow.{PortFlow}
 use Rattle.toml.specs.Data.{Members}
-use Rattle.toml_rules.specs.declared.rules.RuleErr.{RuleErr}
-use Rattle.toml_rules.specs.declared.rules.RuleErr.TheVariants.{Rule, NoMemory as no_memory}
-use Rattle.topology_file.specs.Plan.{Plan}
-use Rattle.topology_file.specs.Scenario.{KeepsRules, scenario_of}
+use Rattle.toml_rules.specs.declared.{rules.RuleErr.RuleErr, rules.RuleErr.TheVariants.Rule, rules.RuleErr.TheVariants.NoMemory as no_memory}
+use Rattle.topology_file.specs.{Plan.Plan, Scenario.KeepsRules, Scenario.scenario_of}
 use Rattle.world_core.specs.declared.journal.Tick.{Tick}
-use Rattle.world_core.specs.Ticks.{AreLegalTicks}
-use Rattle.world_core.specs.World.{WorldState}
-use Rattle.journal_audit.specs.declared.verdict.Verdict.{Verdict}
-use Rattle.journal_audit.specs.declared.verdict.Verdict.TheVariants.{No}
-use Rattle.journal_audit.specs.Texts.{lines_of}
-use Rattle.journal_audit.specs.Form.{AreFormed, IsFirstUnformed}
-use Rattle.journal_audit.specs.Journal.{journal_text}
-use Rattle.journal_audit.specs.Audit.{IsFirstIllegal, IsJournalOf, IsRefusal, IsVerdict, RefusesBehind as VerdictRefuses, known_of}
+use Rattle.world_core.specs.{Ticks.AreLegalTicks, World.WorldState}
+use Rattle.journal_audit.specs.declared.{verdict.Verdict.Verdict, verdict.Verdict.TheVariants.No}
+use Rattle.journal_audit.specs.{Texts.lines_of, Form.AreFormed, Form.IsFirstUnformed, Journal.journal_text, Audit.IsFirstIllegal, Audit.IsJournalOf, Audit.IsRefusal, Audit.IsVerdict, Audit.RefusesBehind as VerdictRefuses, Audit.known_of}
 use Rattle.srp_report.specs.Report.{report_text}
-use Rattle.srpnet.specs.declared.outcome.Cause.{Cause}
-use Rattle.srpnet.specs.declared.outcome.Cause.TheVariants.{Done, AuditNo, BadWords, ReadFault, TooLong, NotToml, BadScenario, WriteFault, NoMemory}
-use Rattle.srpnet.specs.AuditParts.{AuditParts, audit_parts, LacksPart}
-use Rattle.srpnet.specs.AuditText.{IsApproved, IsAudited, IsAuditedBy, IsAuditedOf, IsAuditEnding, IsReportRefused, RefusesBehind}
-use Rattle.srpnet.specs.Document.{document, or_not_toml}
-use Rattle.srpnet.specs.Input.{by_rules}
-use Rattle.srpnet.specs.RunText.{IsRun}
-use Rattle.srpnet.specs.ScenarioInput.{scenario_input}
-use Rattle.srpnet.proofs.AuditLemmas.{other_report, report_is, run_of_journal}
-use Rattle.srpnet.proofs.EndingLemmas.{one_ending}
-use Rattle.srpnet.proofs.PartingLemmas.{no_parts}
+use Rattle.srpnet.specs.{Cause, Done, AuditNo, BadWords, ReadFault, TooLong, NotToml, BadScenario, WriteFault, NoMemory, audit_parts, LacksPart, IsApproved, IsAudited, IsAuditedBy, IsAuditedOf, IsAuditEnding, IsReportRefused, RefusesBehind, document, or_not_toml, by_rules, IsRun, scenario_input}
+use Rattle.srpnet.specs.AuditParts.{AuditParts}
+use Rattle.srpnet.proofs.{AuditLemmas.other_report, AuditLemmas.report_is, AuditLemmas.run_of_journal, EndingLemmas.one_ending, PartingLemmas.no_parts}
 
 -- a why of the journal, and what has to be so of it
 pub why_exactly : (plan : Plan) (parts : AuditParts) (why : ℕ) (IsCause : ℕ → Type 0) → (why ≡ 4 → ⊥)

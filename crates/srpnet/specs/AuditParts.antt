@@ -1,7 +1,6 @@
 -- The parts of what is audited: a scenario, the line `=== output`, and what was printed of a run of it, with its journal.
 use Rattle.std.specs.Prelude.{◌≡◌, ◌⊎◌, ℕ, ◌+◌, nat_eq, ◌||◌, if◌then◌else◌, Bool, false, List, [], ◌∷◌, ◌++◌, codes, length, Option, Some, None}
-use Rattle.std.specs.List.{AllByRecursion}
-use Rattle.std.specs.Cmp.Lexicographic.{pointwise}
+use Rattle.std.specs.{List.AllByRecursion, Cmp.Lexicographic.pointwise}
 use Rattle.srp_base.specs.Text.{whole_of}
 use Rattle.journal_audit.specs.Texts.{lines_of}
 

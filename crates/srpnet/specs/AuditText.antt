@@ -4,17 +4,11 @@ use Rattle.srp_base.specs.declared.ports.PortChange.{PortChange}
 use Rattle.frame_flow.specs.declared.result.PortFlow.{PortFlow}
 use Rattle.topology_file.specs.Plan.{Plan}
 use Rattle.world_core.specs.declared.journal.Tick.{Tick}
-use Rattle.world_core.specs.Ticks.{AreLegalTicks}
-use Rattle.world_core.specs.World.{WorldState}
-use Rattle.journal_audit.specs.Journal.{journal_text}
-use Rattle.journal_audit.specs.Audit.{IsJournalOf, IsRefusal}
+use Rattle.world_core.specs.{Ticks.AreLegalTicks, World.WorldState}
+use Rattle.journal_audit.specs.{Journal.journal_text, Audit.IsJournalOf, Audit.IsRefusal}
 use Rattle.srp_report.specs.Report.{report_text}
-use Rattle.srpnet.specs.declared.outcome.Cause.{Cause}
-use Rattle.srpnet.specs.declared.outcome.Cause.TheVariants.{Done, AuditNo}
-use Rattle.srpnet.specs.AuditParts.{AuditParts, audit_parts}
-use Rattle.srpnet.specs.Differ.{IsFirstDifferent}
-use Rattle.srpnet.specs.RunText.{HoldsThroughout, IsRun}
-use Rattle.srpnet.specs.ScenarioInput.{scenario_input}
+use Rattle.srpnet.specs.declared.{outcome.Cause.Cause, outcome.Cause.TheVariants.Done, outcome.Cause.TheVariants.AuditNo}
+use Rattle.srpnet.specs.{AuditParts.AuditParts, AuditParts.audit_parts, Differ.IsFirstDifferent, RunText.HoldsThroughout, RunText.IsRun, ScenarioInput.scenario_input}
 
 -- a legal run of a scenario that a journal's text is of, with the flow of its frames; and what holds of it
 pub record IsRunOf (plan : Plan) (journal : List ℕ) (ticks : List Tick) (world : WorldState) (flows : List PortFlow) : Type 0 where

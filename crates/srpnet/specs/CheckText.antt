@@ -2,8 +2,7 @@
 use Rattle.std.specs.Prelude.{◌≡◌, ℕ, List, [], ◌∷◌, ◌++◌, length, codes, Ok}
 use Rattle.std.specs.Fmt.{decimal}
 use Rattle.srp_base.specs.Text.{whole_of}
-use Rattle.topology_file.specs.Frames.{frame_copies}
-use Rattle.topology_file.specs.Plan.{Plan}
+use Rattle.topology_file.specs.{Frames.frame_copies, Plan.Plan}
 use Rattle.srpnet.specs.ScenarioInput.{scenario_input}
 
 -- the counts of the network, a line each

@@ -3,22 +3,9 @@ use Rattle.std.specs.Prelude.{◌≡◌, ℕ, Bool, true, false, List}
 use Rattle.world_core.specs.declared.journal.Tick.{Tick}
 use Rattle.world_core.specs.Ticks.{AreCanonicalTicks, AreLegalTicks}
 use Rattle.pdu_words.specs.Decoded.{decoded_text}
-use Rattle.srpnet.specs.declared.words.Command.{Command}
+use Rattle.srpnet.specs.declared.{words.Command.Command, outcome.Cause.Cause, outcome.Cause.TheVariants.Done}
 use Rattle.srpnet.specs.declared.words.Command.TheVariants.{Ledger, Check, Explain, ExplainLedger, Run, RunJournal, RunBounds, Ports, PortsJournal, Margins, Audit, Groups, Decode, Generate, Help, Version}
-use Rattle.srpnet.specs.declared.outcome.Cause.{Cause}
-use Rattle.srpnet.specs.declared.outcome.Cause.TheVariants.{Done}
-use Rattle.srpnet.specs.Input.{ending}
-use Rattle.srpnet.specs.ScenarioInput.{scenario_input}
-use Rattle.srpnet.specs.AuditText.{AuditOutput, IsAuditEnding}
-use Rattle.srpnet.specs.CheckText.{CheckOutput}
-use Rattle.srpnet.specs.ExplainText.{explanation, table_in}
-use Rattle.srpnet.specs.GeneratedText.{GeneratedOutput}
-use Rattle.srpnet.specs.GroupsText.{GroupsOutput, group_input}
-use Rattle.srpnet.specs.LedgerInput.{ledger_input}
-use Rattle.srpnet.specs.LedgerText.{LedgerOutput}
-use Rattle.srpnet.specs.MarginsText.{margins_alone}
-use Rattle.srpnet.specs.Pages.{help_page, version_page}
-use Rattle.srpnet.specs.RunText.{RunOutput, report_alone, report_and_journal, report_and_bounds}
+use Rattle.srpnet.specs.{Input.ending, ScenarioInput.scenario_input, AuditText.AuditOutput, AuditText.IsAuditEnding, CheckText.CheckOutput, ExplainText.explanation, ExplainText.table_in, GeneratedText.GeneratedOutput, GroupsText.GroupsOutput, GroupsText.group_input, LedgerInput.ledger_input, LedgerText.LedgerOutput, MarginsText.margins_alone, Pages.help_page, Pages.version_page, RunText.RunOutput, RunText.report_alone, RunText.report_and_journal, RunText.report_and_bounds}
 
 -- whether it reads an input; the pages read none, and neither does what makes its scenario of a number
 abbrev pub reads_input : Command → Bool

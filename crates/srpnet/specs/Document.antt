@@ -3,8 +3,7 @@ use Rattle.std.specs.Prelude.{ℕ, if◌then◌else◌, List, Option, Some, None
 use Rattle.std.specs.Str.{is_utf8}
 use Rattle.toml.specs.Data.{Members}
 use Rattle.toml.specs.Parse.{parse_document}
-use Rattle.srpnet.specs.declared.outcome.Cause.{Cause}
-use Rattle.srpnet.specs.declared.outcome.Cause.TheVariants.{NotToml}
+use Rattle.srpnet.specs.declared.{outcome.Cause.Cause, outcome.Cause.TheVariants.NotToml}
 
 -- the document of some octets, if they are UTF-8 and TOML
 abbrev pub document : List ℕ → Option Members

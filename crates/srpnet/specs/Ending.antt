@@ -1,12 +1,9 @@
 -- The top clause: everything that the top call promises of its ending.
 use Rattle.std.specs.Prelude.{◌≡◌, ℕ, ◌⊎◌, List, [], Option, Some, None}
-use Rattle.srp_io.specs.Faults.{Rose}
-use Rattle.srp_io.specs.Whole.{TookAtMost, TookPast}
-use Rattle.srpnet.specs.declared.words.Command.{Command}
-use Rattle.srpnet.specs.declared.outcome.Cause.{Cause}
+use Rattle.srp_io.specs.{Faults.Rose, Whole.TookAtMost, Whole.TookPast}
+use Rattle.srpnet.specs.declared.{words.Command.Command, outcome.Cause.Cause}
 use Rattle.srpnet.specs.declared.outcome.Cause.TheVariants.{Done, BadWords, ReadFault, TooLong, WriteFault, NoMemory}
-use Rattle.srpnet.specs.Outcomes.{IsRefusedInput, IsWriteFault, WritesNothing}
-use Rattle.srpnet.specs.TopCall.{Wrote, WrotePart, WroteUntilNoMemory, WroteNothing, Gave, Refuses, ReadsNothing, most_octets, IsPlainEnding}
+use Rattle.srpnet.specs.{Outcomes.IsRefusedInput, Outcomes.IsWriteFault, Outcomes.WritesNothing, TopCall.Wrote, TopCall.WrotePart, TopCall.WroteUntilNoMemory, TopCall.WroteNothing, TopCall.Gave, TopCall.Refuses, TopCall.ReadsNothing, TopCall.most_octets, TopCall.IsPlainEnding}
 use Rattle.world_core.specs.declared.journal.Tick.{Tick}
 
 -- A command is carried out on a source of the type I and an out sink of the type O, before the call

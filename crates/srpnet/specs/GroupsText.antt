@@ -1,12 +1,8 @@
 -- What `srpnet groups` prints: a network that runs MMRP, through the ticks of a group scenario; and what holds of it at the end.
 use Rattle.std.specs.Prelude.{◌≡◌, ℕ, List, Result, Ok}
-use Rattle.group_file.specs.Plan.{GroupPlan}
-use Rattle.group_file.specs.Scenario.{group_scenario_of}
-use Rattle.group_run.specs.Text.{group_text}
-use Rattle.group_run.specs.Ticks.{run_of}
-use Rattle.mmrp.specs.Duty.{AreGroupDutiesMet}
-use Rattle.mmrp.specs.Match.{GroupsMatch, IsAtRest}
-use Rattle.mmrp.specs.Net.{NetGroups}
+use Rattle.group_file.specs.{Plan.GroupPlan, Scenario.group_scenario_of}
+use Rattle.group_run.specs.{Text.group_text, Ticks.run_of}
+use Rattle.mmrp.specs.{Duty.AreGroupDutiesMet, Match.GroupsMatch, Match.IsAtRest, Net.NetGroups}
 use Rattle.srpnet.specs.declared.outcome.Cause.{Cause}
 use Rattle.srpnet.specs.Input.{input_of}
 

@@ -2,8 +2,7 @@
 use Rattle.std.specs.Prelude.{ℕ, List, Option, Some, None, Result, Ok, Err}
 use Rattle.srp_base.specs.Results.{◌>>=◌, Gives}
 use Rattle.toml.specs.Data.{Members}
-use Rattle.toml_rules.specs.declared.rules.RuleErr.{RuleErr}
-use Rattle.toml_rules.specs.declared.rules.RuleErr.TheVariants.{Rule, NoMemory as no_memory}
+use Rattle.toml_rules.specs.declared.{rules.RuleErr.RuleErr, rules.RuleErr.TheVariants.Rule, rules.RuleErr.TheVariants.NoMemory as no_memory}
 use Rattle.srpnet.specs.Document.{document, or_not_toml}
 use Rattle.srpnet.specs.declared.outcome.Cause.{Cause}
 use Rattle.srpnet.specs.declared.outcome.Cause.TheVariants.{Done, BadScenario, NoMemory}

@@ -1,17 +1,12 @@
 -- The ledger file: one port and the streams that want it, or the first rule that the table breaks.
 use Rattle.std.specs.Prelude.{ℕ, ◌+◌, ◌==◌, not, nat_le, if◌then◌else◌, List, [], ◌∷◌, ◌++◌, length, map, filter, codes, Option, Some, None, Result, Ok}
 use Rattle.std.specs.Option.{option_and_then}
-use Rattle.srp_base.specs.declared.bandwidth.Rate.{Rate}
-use Rattle.srp_base.specs.Bandwidth.{rate_of_mbit}
+use Rattle.srp_base.specs.declared.{bandwidth.Rate.Rate, numbers.StreamId.StreamId}
+use Rattle.srp_base.specs.{Bandwidth.rate_of_mbit, Results.◌>>=◌}
 use Rattle.toml.specs.Data.{Members}
 use Rattle.toml_rules.specs.declared.rules.RuleErr.{RuleErr}
-use Rattle.toml_rules.specs.Fields.{number, tables, has_only}
-use Rattle.toml_rules.specs.Shares.{shares_at}
-use Rattle.srp_base.specs.Results.{◌>>=◌}
-use Rattle.toml_rules.specs.Rules.{needs, holds, no_entry, each_entry, first_fall}
-use Rattle.srp_base.specs.declared.numbers.StreamId.{StreamId}
-use Rattle.srpnet.specs.declared.ledger.file.LedgerWant.{LedgerWant}
-use Rattle.srpnet.specs.declared.ledger.file.LedgerFile.{LedgerFile}
+use Rattle.toml_rules.specs.{Fields.number, Fields.tables, Fields.has_only, Shares.shares_at, Rules.needs, Rules.holds, Rules.no_entry, Rules.each_entry, Rules.first_fall}
+use Rattle.srpnet.specs.declared.{ledger.file.LedgerWant.LedgerWant, ledger.file.LedgerFile.LedgerFile}
 use Rattle.srpnet.specs.LedgerWant.{want_entry}
 
 -- the keys of a ledger file: the port's rate, the shares of its SR classes (deltaBandwidth), the wants

@@ -1,10 +1,8 @@
 -- The wants of a file, applied in file order at their ticks.
 use Rattle.std.specs.Prelude.{◌≡◌, List, [], ◌∷◌}
 use Rattle.stream_importance.specs.Bandwidth.{caps_of}
-use Rattle.port_ledger.specs.Book.{Book, with_want}
-use Rattle.port_ledger.specs.Decision.{Decides}
-use Rattle.srpnet.specs.declared.ledger.file.LedgerWant.{LedgerWant}
-use Rattle.srpnet.specs.declared.ledger.file.LedgerFile.{LedgerFile}
+use Rattle.port_ledger.specs.{Book.Book, Book.with_want, Decision.Decides}
+use Rattle.srpnet.specs.declared.{ledger.file.LedgerWant.LedgerWant, ledger.file.LedgerFile.LedgerFile}
 
 -- a port that no stream wants yet
 abbrev pub fresh : LedgerFile → Book

@@ -1,21 +1,13 @@
 -- What `srpnet ledger` prints: a line for each stream in the order of first mention, and two lines of sums.
 -- It is judged at the moment of the last want.
 use Rattle.std.specs.Prelude.{◌≡◌, ◌≢◌, ℕ, ◌+◌, ◌==◌, List, [], ◌∷◌, ◌++◌, codes, find, reverse, Option, Some, None, IsSome, option_map, Ok}
-use Rattle.std.specs.Option.{option_map_or}
-use Rattle.std.specs.Fmt.{decimal}
-use Rattle.srp_base.specs.declared.numbers.Cs.{Cs}
-use Rattle.srp_base.specs.declared.numbers.StreamId.{StreamId}
-use Rattle.srp_base.specs.declared.bandwidth.Class.TheVariants.{A, B}
-use Rattle.srp_base.specs.Hexadecimal.{hex16_text}
-use Rattle.srp_base.specs.Text.{whole_of}
-use Rattle.stream_importance.specs.declared.entry.Want.{Want}
-use Rattle.stream_importance.specs.declared.entry.Fit.{Fit}
-use Rattle.stream_importance.specs.declared.entry.Fit.TheVariants.{Fits, TooLittle}
+use Rattle.std.specs.{Option.option_map_or, Fmt.decimal}
+use Rattle.srp_base.specs.declared.{numbers.Cs.Cs, numbers.StreamId.StreamId, bandwidth.Class.TheVariants.A, bandwidth.Class.TheVariants.B}
+use Rattle.srp_base.specs.{Hexadecimal.hex16_text, Text.whole_of}
+use Rattle.stream_importance.specs.declared.{entry.Want.Want, entry.Fit.Fit, entry.Fit.TheVariants.Fits, entry.Fit.TheVariants.TooLittle}
 use Rattle.port_ledger.specs.Book.{Book, booked_slope, fit_for, since_of}
-use Rattle.srpnet.specs.declared.ledger.file.LedgerWant.{LedgerWant}
-use Rattle.srpnet.specs.declared.ledger.file.LedgerFile.{LedgerFile}
-use Rattle.srpnet.specs.LedgerRun.{fresh, Leads}
-use Rattle.srpnet.specs.LedgerInput.{ledger_input}
+use Rattle.srpnet.specs.declared.{ledger.file.LedgerWant.LedgerWant, ledger.file.LedgerFile.LedgerFile}
+use Rattle.srpnet.specs.{LedgerRun.fresh, LedgerRun.Leads, LedgerInput.ledger_input}
 
 -- `ID booked slope S since T`
 abbrev pub booked_line : Want → Cs → List ℕ

@@ -23,3 +23,33 @@ pub mod ScenarioInput
 pub mod TopCall
 pub mod Words
 pub mod BoundsText
+pub use AuditParts.*
+pub use AuditText.*
+pub use CheckText.*
+pub use Commands.*
+pub use Differ.*
+pub use Document.*
+pub use Ending.*
+pub use ExplainText.*
+pub use GeneratedText.*
+pub use GroupsText.*
+pub use Input.*
+pub use LedgerFile.*
+pub use LedgerInput.*
+pub use LedgerRun.*
+pub use LedgerText.*
+pub use LedgerWant.*
+pub use Made.*
+pub use MarginsText.*
+pub use Outcomes.*
+pub use Pages.*
+pub use RunText.*
+pub use ScenarioInput.*
+pub use TopCall.*
+pub use Words.*
+pub use BoundsText.*
+pub use Rattle.srpnet.specs.declared.commands.CommandOutput.{CommandOutput}
+pub use Rattle.srpnet.specs.declared.outcome.Cause.{Cause}
+pub use Rattle.srpnet.specs.declared.outcome.Cause.TheVariants.{AuditNo, BadScenario, BadWords, Done, NoMemory, NotToml, ReadFault, TooLong, WriteFault}
+pub use Rattle.srpnet.specs.declared.words.Command.{Command}
+pub use Rattle.srpnet.specs.declared.words.Command.TheVariants.{Audit, Check, Decode, Explain, ExplainLedger, Generate, Groups, Help, Ledger, Margins, Ports, PortsJournal, Run, RunBounds, RunJournal, Version}

@@ -1,15 +1,11 @@
 -- What the top call does in two: a command's output is made of what a source gives, and goes out.
 use Rattle.std.specs.Prelude.{◌≡◌, ◌<◌, ℕ, List, [], length, take, Option, Some, Result, Ok, Err, IfOk, IfErr}
 use Rattle.std.specs.Io.KnownBytes.{Appends}
-use Rattle.srp_io.specs.Faults.{Rose}
-use Rattle.srp_io.specs.Whole.{TookAtMost, TookPast}
-use Rattle.srpnet.specs.declared.commands.CommandOutput.{CommandOutput}
-use Rattle.srpnet.specs.declared.outcome.Cause.{Cause}
-use Rattle.srpnet.specs.declared.words.Command.{Command}
+use Rattle.srp_io.specs.{Faults.Rose, Whole.TookAtMost, Whole.TookPast}
+use Rattle.srpnet.specs.declared.{commands.CommandOutput.CommandOutput, outcome.Cause.Cause, words.Command.Command}
 use Rattle.world_core.specs.declared.journal.Tick.{Tick}
 use Rattle.srpnet.specs.declared.outcome.Cause.TheVariants.{Done, ReadFault, TooLong, WriteFault, NoMemory}
-use Rattle.srpnet.specs.Outcomes.{EndsAs, EndsBy, EndsWriting, IsRefusedInput, IsWriteFault, LacksOutput}
-use Rattle.srpnet.specs.TopCall.{most_octets, IsPlainEnding, IsOutput, Gave, Refuses, ReadsNothing, PartOf}
+use Rattle.srpnet.specs.{Outcomes.EndsAs, Outcomes.EndsBy, Outcomes.EndsWriting, Outcomes.IsRefusedInput, Outcomes.IsWriteFault, Outcomes.LacksOutput, TopCall.most_octets, TopCall.IsPlainEnding, TopCall.IsOutput, TopCall.Gave, TopCall.Refuses, TopCall.ReadsNothing, TopCall.PartOf}
 
 -- A command's output was made of what a source gave, or why there is none.
 pub record IsMade {I : Type 0} (left : I → Option (List ℕ)) (faults : I → ℕ) (command : Command) (source source' : I)

@@ -1,26 +1,17 @@
 -- What `srpnet run`, `srpnet ports`, both with `journal` behind them, and `srpnet run bounds` print: the report of a run of the
 -- scenario, and behind it what happened, or how long class B waits; and what holds of that run.
 use Rattle.std.specs.Prelude.{◌≡◌, ℕ, List, ◌++◌, All, Ok}
-use Rattle.srp_base.specs.declared.numbers.StreamId.{StreamId}
-use Rattle.srp_base.specs.declared.ports.PortChange.{PortChange}
+use Rattle.srp_base.specs.declared.{numbers.StreamId.StreamId, ports.PortChange.PortChange}
 use Rattle.frame_flow.specs.declared.result.PortFlow.{PortFlow}
 use Rattle.frame_flow.specs.Flow.{IsFlow}
 use Rattle.topology_file.specs.Plan.{Plan}
-use Rattle.scenario_frames.specs.Setting.{setting_of}
-use Rattle.scenario_frames.specs.Laws.{HasWindowsOfCap}
+use Rattle.scenario_frames.specs.{Setting.setting_of, Laws.HasWindowsOfCap}
 use Rattle.world_core.specs.declared.journal.Tick.{Tick}
-use Rattle.world_core.specs.World.{WorldState}
-use Rattle.world_core.specs.Duty.{AreVlanDutiesMet, AreStreamDutiesMet}
-use Rattle.world_core.specs.Limits.{caps_at, IsWithinLimits}
-use Rattle.world_core.specs.Moments.{IsMoment}
-use Rattle.world_core.specs.Timeline.{IsTimelineOf}
-use Rattle.network_laws.specs.Vlans.{IsAtRest, VlansMatch}
-use Rattle.network_laws.specs.Streams.{KeepsStreamLaws}
-use Rattle.srp_report.specs.Report.{report_text}
-use Rattle.srp_report.specs.JournalText.{journal_text}
+use Rattle.world_core.specs.{World.WorldState, Duty.AreVlanDutiesMet, Duty.AreStreamDutiesMet, Limits.caps_at, Limits.IsWithinLimits, Moments.IsMoment, Timeline.IsTimelineOf}
+use Rattle.network_laws.specs.{Vlans.IsAtRest, Vlans.VlansMatch, Streams.KeepsStreamLaws}
+use Rattle.srp_report.specs.{Report.report_text, JournalText.journal_text}
 use Rattle.scenario_bounds.specs.PortBounds.{IsWithinBoundB}
-use Rattle.srpnet.specs.BoundsText.{bound_lines}
-use Rattle.srpnet.specs.ScenarioInput.{scenario_input}
+use Rattle.srpnet.specs.{BoundsText.bound_lines, ScenarioInput.scenario_input}
 
 -- A run of a scenario with these ticks: they lead from its start to a network, in the canonical order where one thread runs it,
 -- in one of the legal orders where each port has a thread; what was in force at each port in each tick; and the flow of the

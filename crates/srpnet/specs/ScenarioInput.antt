@@ -1,7 +1,6 @@
 -- The scenario of some octets, or the cause of their refusal.
 use Rattle.std.specs.Prelude.{ℕ, List, Result}
-use Rattle.topology_file.specs.Plan.{Plan}
-use Rattle.topology_file.specs.Scenario.{scenario_of}
+use Rattle.topology_file.specs.{Plan.Plan, Scenario.scenario_of}
 use Rattle.srpnet.specs.declared.outcome.Cause.{Cause}
 use Rattle.srpnet.specs.Input.{input_of}
 

@@ -1,11 +1,8 @@
 -- What the top call does: how a source is read and a text written, and how a command ends.
 use Rattle.std.specs.Prelude.{◌≡◌, ℕ, ◌<◌, ◌≤◌, ◌+◌, nat_le, Bool, true, false, not, ◌&&◌, List, [], length, take, Option}
 use Rattle.std.specs.Io.KnownBytes.{Appends, Consumes, IsAtEnd}
-use Rattle.srpnet.specs.declared.words.Command.{Command}
-use Rattle.srpnet.specs.declared.outcome.Cause.{Cause}
-use Rattle.srpnet.specs.declared.outcome.Cause.TheVariants.{Done, TooLong}
-use Rattle.srpnet.specs.Outcomes.{EndsWriting}
-use Rattle.srpnet.specs.Commands.{reads_input, Output, RunsNothing, IsEndingOf}
+use Rattle.srpnet.specs.declared.{words.Command.Command, outcome.Cause.Cause, outcome.Cause.TheVariants.Done, outcome.Cause.TheVariants.TooLong}
+use Rattle.srpnet.specs.{Outcomes.EndsWriting, Commands.reads_input, Commands.Output, Commands.RunsNothing, Commands.IsEndingOf}
 use Rattle.world_core.specs.declared.journal.Tick.{Tick}
 
 -- ---- Reading

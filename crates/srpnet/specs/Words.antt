@@ -1,8 +1,6 @@
 -- The table of the program's words.
 use Rattle.std.specs.Prelude.{◌≡◌, ℕ, ◌^◌, nat_eq, nat_lt, ◌&&◌, Bool, true, false, List, [], ◌∷◌, codes, if◌then◌else◌, Option, Some, None, option_map}
-use Rattle.std.specs.Cmp.Lexicographic.{pointwise}
-use Rattle.std.specs.Fmt.{decimal}
-use Rattle.std.specs.Str.Parse.{digits_value}
+use Rattle.std.specs.{Cmp.Lexicographic.pointwise, Fmt.decimal, Str.Parse.digits_value}
 use Rattle.mrpdu_codec.specs.declared.form.AppForm.{AppForm}
 use Rattle.mrpdu_codec.specs.declared.form.AppForm.TheVariants.{Mvrp, Msrp, Mmrp}
 use Rattle.srpnet.specs.declared.words.Command.{Command}

@@ -8,8 +8,7 @@ pub mod parts;
 
 ghost use Rattle.std.specs.Prelude.{◌≡◌, IfOk, IfErr};
 ghost use Rattle.journal_audit.specs.Journal.{journal_text};
-ghost use Rattle.world_core.specs.Ticks.{AreLegalTicks};
-ghost use Rattle.world_core.specs.Timeline.{IsTimelineOf};
+ghost use Rattle.world_core.specs.{Ticks.AreLegalTicks, Timeline.IsTimelineOf};
 ghost use Rattle.srpnet.specs.AuditText.{AuditOutput, IsAudited, IsAuditEnding};
 ghost use Rattle.srpnet.specs.Outcomes.{EndsBy};
 

@@ -2,8 +2,7 @@
 
 ghost use Rattle.std.specs.Prelude.{◌≡◌, ℕ, ◌<◌, ◌+◌, true, List, length, take, Some, Err, IfOk, IfErr, IfSome, OnOk};
 ghost use Rattle.std.specs.Io.KnownBytes.{Appends};
-ghost use Rattle.srp_io.specs.Faults.{Rose};
-ghost use Rattle.srp_io.specs.Whole.{TookAtMost, TookPast};
+ghost use Rattle.srp_io.specs.{Faults.Rose, Whole.TookAtMost, Whole.TookPast};
 ghost use Rattle.srpnet.specs.Outcomes.{status_of as status_of_spec, err_text, EndsAs, EndsWriting, IsRefusedInput, IsWriteFault, LacksOutput};
 ghost use Rattle.srpnet.specs.Ending.{CarriedOut, IsEnding};
 ghost use Rattle.srpnet.specs.Made.{IsMade, IsLetOut, IsPrinted};

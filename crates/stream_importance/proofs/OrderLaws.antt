@@ -1,14 +1,9 @@
 -- Importance is a strict order in which entries of different streams compare.
-use Rattle.std.proofs.Common.{◌≡◌, ◌≢◌, ◌⊎◌, ℕ, IsTrue, inl, inr, arith, sym, refl, ap, ◌∙◌}
-use Rattle.std.specs.declared.cmp.Ordering.{Ordering}
-use Rattle.std.specs.declared.cmp.Ordering.TheVariants.{Less, Equal, Greater}
-use Rattle.std.specs.Ordering.{nat_cmp, is_lt, ordering_then, ordering_reverse}
-use Rattle.std.specs.Cmp.{IsTotalOrder}
-use Rattle.std.proofs.lemmas.Cmp.{then_total, on_total, nat_cmp_total}
-use Rattle.std.proofs.lemmas.Bool.Decides.{nat_tests}
-use Rattle.std.proofs.lemmas.List.Sorted.{ranks_by}
-use Rattle.stream_importance.specs.declared.entry.Entry.{Entry}
-use Rattle.stream_importance.specs.Importance.{class_number, rank_number, moment_or, compare_importance, is_more_important, IsImportanceOrder}
+use Rattle.std.proofs.Common.{◌≡◌, ◌≢◌, ◌⊎◌, ℕ, IsTrue, inl, inr, sym, refl, ap, ◌∙◌}
+use Rattle.std.specs.{declared.cmp.Ordering.Ordering, declared.cmp.Ordering.TheVariants.Less, declared.cmp.Ordering.TheVariants.Equal, declared.cmp.Ordering.TheVariants.Greater, Ordering.nat_cmp, Ordering.is_lt, Ordering.ordering_then, Ordering.ordering_reverse, Cmp.IsTotalOrder}
+use Rattle.std.proofs.lemmas.{Cmp.then_total, Cmp.on_total, Cmp.nat_cmp_total, List.Sorted.ranks_by}
+use Rattle.srp_base.proofs.Arithmetic.{same_number}
+use Rattle.stream_importance.specs.{Entry, class_number, rank_number, moment_or, compare_importance, is_more_important, IsImportanceOrder}
 
 comparison_is_total_order : (now : ℕ) → IsTotalOrder (compare_importance now)
 comparison_is_total_order now =
@@ -32,9 +27,6 @@ last_equal : (a b : Ordering) → ordering_then a b ≡ Equal → b ≡ Equal
 last_equal Less b h = cc
 last_equal Equal b h = h
 last_equal Greater b h = cc
-
-same_number : (a b : ℕ) → nat_cmp a b ≡ Equal → a ≡ b
-same_number a b h = grind (arith, nat_tests)
 
 importance_strict : (now : ℕ) (x y : Entry) → IsTrue (is_more_important now x y)
     → IsTrue (is_more_important now y x) → ⊥

@@ -1,8 +1,6 @@
 -- What a stream takes of a port, and what a port may give away.
 use Rattle.std.specs.Prelude.{ℕ, ◌+◌, ◌*◌, ◌/◌}
-use Rattle.srp_base.specs.declared.bandwidth.Rate.{Rate}
-use Rattle.srp_base.specs.declared.bandwidth.Class.{Class}
-use Rattle.srp_base.specs.declared.bandwidth.Class.TheVariants.{A, B}
+use Rattle.srp_base.specs.declared.{bandwidth.Rate.Rate, bandwidth.Class.Class, bandwidth.Class.TheVariants.A, bandwidth.Class.TheVariants.B}
 use Rattle.srp_base.specs.Bandwidth.{bits_of}
 use Rattle.stream_importance.specs.declared.slope.Caps.{Caps}
 

@@ -1,10 +1,8 @@
 -- How entries are read one after the other.
 use Rattle.std.proofs.Common.{◌≡◌, ℕ, ◌+◌, ◌-◌, ◌<◌, Bool, true, false, if◌then◌else◌, map, arith, IfSome, List, [], ◌∷◌, ◌++◌, Option, Some, None, Result, Ok, Err, refl, sym, ap, ◌∙◌, length, get_or, drop, append-nil, append_assoc, ◌≤◌, subst}
-use Rattle.std.proofs.lemmas.List.{drop_more, drop_all}
-use Rattle.std.proofs.lemmas.Bool.Decides.{nat_tests}
+use Rattle.std.proofs.lemmas.{List.drop_more, List.drop_all, Bool.Decides.nat_tests}
 use Rattle.std.specs.Prelude.{nat_le}
-use Rattle.toml_rules.specs.declared.rules.RuleErr.{RuleErr}
-use Rattle.toml_rules.specs.Rules.{with_front, each_entry, entry_then, fails_at, broken_rule, light, weight_of, each_within}
+use Rattle.toml_rules.specs.{RuleErr, with_front, each_entry, entry_then, fails_at, broken_rule, light, weight_of, each_within}
 
 -- some values in front of those that the later entries give
 abbrev pub in_front : {B : Type 0} → List B → Result (List B) RuleErr → Result (List B) RuleErr

@@ -1,12 +1,11 @@
 -- What the members of a table are, seen from the map that holds them.
 use Rattle.std.proofs.Common.{◌≡◌, ℕ, Bool, ◌&&◌, List, [], ◌∷◌, ◌++◌, map, refl, ap, sym, Option, Some, None, option_map, string_bytes, String, append_assoc, append-nil, ◌∙◌, ◌+◌, ◌<◌, ◌≤◌, length, get_or, drop, option_and_then}
-use Rattle.std.specs.List.{list_all}
+use Rattle.std.specs.{List.list_all, declared.alloc.Global.Global}
 use Rattle.std.proofs.lemmas.List.{drop_more, drop_all}
-use Rattle.std.specs.declared.alloc.Global.{Global}
 use Rattle.toml.specs.Data.{Data, Items, item, Members, as_table}
 use Rattle.toml.specs.View.{view, members_view, items_view}
 use Rattle.toml.specs.declared.value.Value.{Value}
-use Rattle.toml_rules.specs.Fields.{member_keys, all_tables}
+use Rattle.toml_rules.specs.{member_keys, all_tables}
 
 pub list_all-member_keys : (p : List ℕ → Bool) (es : List (String Global × Value))
     → list_all (λ (k : String Global). p (string_bytes k)) (map (λ (e : String Global × Value). e.0) es) ≡ list_all p (member_keys (members_view es))

@@ -1,11 +1,10 @@
 -- How the first entry that a test passes, or whose key falls, is looked for.
-use Rattle.std.proofs.Common.{◌≡◌, ℕ, ◌+◌, ◌<◌, ◌≤◌, Bool, true, false, if◌then◌else◌, List, ◌∷◌, Option, Some, None, map, length, get_or, take, drop, sym, ap, ◌∙◌, arith}
-use Rattle.std.proofs.lemmas.List.{drop_more, drop_all}
-use Rattle.std.proofs.lemmas.Bool.Decides.{nat_tests}
-use Rattle.std.specs.Prelude.{nat_lt}
+use Rattle.std.proofs.Common.{◌≡◌, ℕ, ◌+◌, ◌<◌, ◌≤◌, Bool, true, false, if◌then◌else◌, List, ◌∷◌, Option, Some, None, map, length, get_or, take, drop, sym, ap, ◌∙◌}
+use Rattle.std.proofs.lemmas.{List.drop_more, List.drop_all}
+use Rattle.srp_base.proofs.Arithmetic.{lt-true, lt-false}
 use Rattle.srp_base.specs.Firsts.{first_where}
 use Rattle.srp_base.proofs.FirstLemmas.{where-here, where-later, where-end}
-use Rattle.toml_rules.specs.Rules.{first_fall}
+use Rattle.toml_rules.specs.{first_fall}
 
 -- ---- the first that a test passes
 
@@ -29,12 +28,6 @@ pub where-over : {T : Type 0} (said : List T → T → Bool) (xs : List T) (i : 
 where-over said xs i whole le h = sym (where-end said xs i le) ∙ h
 
 -- ---- the first whose key falls
-
-lt-true : (a b : ℕ) → a < b → nat_lt a b ≡ true
-lt-true a b h = grind (arith, nat_tests)
-
-lt-false : (a b : ℕ) → b ≤ a → nat_lt a b ≡ false
-lt-false a b h = grind (arith, nat_tests)
 
 -- the keys from a place on: that of the entry there, and then the others
 fall-here : {T : Type 0} (said : T → ℕ) (xs : List T) (i before now : ℕ) (x : T) → i < length xs → x ≡ get_or xs i x → now ≡ said x

@@ -3,8 +3,7 @@ use Rattle.std.proofs.Common.{◌≡◌, ℕ, ◌+◌, ◌-◌, ◌≤◌, Bool,
 use Rattle.std.proofs.lemmas.List.Sums.{sum_by-cons}
 use Rattle.std.specs.List.{sum_by}
 use Rattle.std.specs.Prelude.{nat_le}
-use Rattle.toml_rules.specs.declared.rules.RuleErr.{RuleErr}
-use Rattle.toml_rules.specs.Rules.{with_front, entry_then, each_entry, light, weight_of, each_within}
+use Rattle.toml_rules.specs.{RuleErr, with_front, entry_then, each_entry, light, weight_of, each_within}
 use Rattle.toml_rules.proofs.EntryLemmas.{light-fits}
 
 light-then : {B : Type 0} (rule n room w : ℕ) (weight : B → ℕ) (y : B) (b : Bool) (rest whole : Result (List B) RuleErr) → w ≡ weight y → (b ≡ true → w ≤ room)

@@ -1,7 +1,6 @@
 -- What a table of an input file has at a key, as numbers, texts and arrays of tables.
 use Rattle.std.specs.Prelude.{ℕ, pos, Bool, ◌&&◌, nat_le, nat_eq, if◌then◌else◌, List, [], ◌∷◌, Option, Some, None, option_map, option_and_then}
-use Rattle.std.specs.Cmp.Lexicographic.{pointwise}
-use Rattle.std.specs.List.{list_all, list_any}
+use Rattle.std.specs.{Cmp.Lexicographic.pointwise, List.list_all, List.list_any}
 use Rattle.toml.specs.Data.{Data, integer, boolean, array, Items, no_items, item, Members, no_members, member, get_member, as_str, as_table}
 
 infixl 10 ◌>>=◌

@@ -2,3 +2,8 @@ pub mod Calls
 pub mod Fields
 pub mod Rules
 pub mod Shares
+pub use Calls.*
+pub use Fields.*
+pub use Rules.*
+pub use Shares.*
+pub use Rattle.toml_rules.specs.declared.rules.RuleErr.{RuleErr}

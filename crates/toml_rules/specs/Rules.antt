@@ -1,8 +1,7 @@
 -- The rules of a file, checked one after the other: what a rule needs, and the first that fails.
 use Rattle.std.specs.Prelude.{ℕ, ◌+◌, ◌-◌, min, nat_le, nat_lt, Bool, true, false, if◌then◌else◌, List, [], ◌∷◌, Option, Some, None, Result, Ok, Err}
 use Rattle.srp_base.specs.Results.{Gives}
-use Rattle.toml_rules.specs.declared.rules.RuleErr.{RuleErr}
-use Rattle.toml_rules.specs.declared.rules.RuleErr.TheVariants.{Rule, NoMemory}
+use Rattle.toml_rules.specs.declared.{rules.RuleErr.RuleErr, rules.RuleErr.TheVariants.Rule, rules.RuleErr.TheVariants.NoMemory}
 
 -- a rule that needs a value of the file as a whole
 abbrev pub needs : {A : Type 0} → ℕ → Option A → Result A RuleErr

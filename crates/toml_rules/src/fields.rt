@@ -1,9 +1,7 @@
 //! What a TOML table has at a key.
 
 ghost use Rattle.std.specs.Prelude.{◌≡◌, map, option_map, string_bytes, IfOk};
-ghost use Rattle.std.specs.Option.{option_copied};
-ghost use Rattle.std.specs.List.{list_all};
-ghost use Rattle.std.specs.BTreeMap.{keys};
+ghost use Rattle.std.specs.{Option.option_copied, List.list_all, BTreeMap.keys};
 ghost use Rattle.toml.specs.Data.{get_member};
 ghost use Rattle.toml.specs.View.{view, table_view, items_view};
 ghost use Rattle.toml_rules.specs.Fields.{number as number_spec, number_of, number_or as number_or_spec, truth_or as truth_or_spec, within as within_spec, text as text_spec, tables as tables_spec, tables_of as tables_of_spec, all_tables as all_tables_spec, has_only as has_only_spec, is_known as is_known_spec};

@@ -1,14 +1,11 @@
 -- What a chain of rules tells of its answer: each_entry rule passed, and what is made of what was read.
 use Rattle.std.proofs.Common.{◌≡◌, ◌≢◌, ℕ, zero, suc, ◌+◌, ◌≤◌, ◌<◌, Bool, true, false, ◌&&◌, if◌then◌else◌, List, [], ◌∷◌, map, length, get_or, Option, Some, None, option_map, option_and_then, Result, Ok, Err, refl, sym, ap, subst, ◌∙◌, leb-true, IfSome, IfOk, arith}
-use Rattle.std.proofs.lemmas.Bool.{and_parts}
-use Rattle.std.proofs.lemmas.List.{length-map}
-use Rattle.std.proofs.lemmas.List.Elements.{All-nil, All-cons, All-head, All-tail, All-weaker}
+use Rattle.std.proofs.lemmas.{Bool.and_parts, List.length-map, List.Elements.All-nil, List.Elements.All-cons, List.Elements.All-head, List.Elements.All-tail, List.Elements.All-weaker}
 use Rattle.std.specs.List.{All}
 use Rattle.std.specs.Prelude.{AllPairs, nat_le}
 use Rattle.toml_rules.specs.declared.rules.RuleErr.{RuleErr}
-use Rattle.toml_rules.specs.Fields.{within}
+use Rattle.toml_rules.specs.{Fields.within, Rules.needs, Rules.holds, Rules.no_entry, Rules.each_entry, Rules.entry_then}
 use Rattle.srp_base.specs.Results.{◌>>=◌}
-use Rattle.toml_rules.specs.Rules.{needs, holds, no_entry, each_entry, entry_then}
 
 -- ---- values that may be missing
 
@@ -30,10 +27,6 @@ when-if P false o h = tt
 pub either-if : {A : Type 0} (P : A → Type 0) (b : Bool) (o p : Option A) → IfSome o P → IfSome p P → IfSome (if b then o else p) P
 either-if P true o p h k = h
 either-if P false o p h k = k
-
--- what a value that is there has
-pub some-says : {A : Type 0} (P : A → Type 0) (o : Option A) (x : A) → o ≡ Some x → IfSome o P → P x
-some-says {A = A} P o x is h = let F : Option A → Type 0 = λ y. IfSome y P in subst F is h
 
 pub within-range : (low high : ℕ) (o : Option ℕ) → IfSome (within low high o) (λ n. (low ≤ n) × (n ≤ high))
 within-range low high None = tt

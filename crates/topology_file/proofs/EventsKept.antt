@@ -1,33 +1,19 @@
 -- What every scenario keeps of its events.
 use Rattle.std.proofs.Common.{◌≡◌, ℕ, suc, zero, ◌+◌, ◌<◌, ◌≤◌, Bool, true, false, if◌then◌else◌, List, [], ◌∷◌, Option, Some, None, option_map, Result, Ok, Err, refl, sym, subst, length, leb-true, ltb-true, ltb-false, IfSome, IfOk, arith}
 use Rattle.std.proofs.lemmas.List.Elements.{All-nil, All-cons, All-weaker, All-map}
-use Rattle.std.specs.Cmp.Lexicographic.{pointwise}
-use Rattle.std.specs.List.{All, AllByRecursion, list_any}
-use Rattle.std.specs.List.Sorted.{IsNonDecreasing}
+use Rattle.std.specs.{Cmp.Lexicographic.pointwise, List.All, List.AllByRecursion, List.list_any, List.Sorted.IsNonDecreasing}
 use Rattle.std.specs.Prelude.{nat_le, nat_lt, nat_eq, codes, option_and_then}
+use Rattle.srp_base.proofs.Options.{opened as some-says}
 use Rattle.hex.specs.Hex.{decode_of, IsBytes}
 use Rattle.hex.specs.declared.error.FromHexError.{FromHexError}
 use Rattle.hex.proofs.HexLemmas.{decode_of-ok}
 use Rattle.srp_base.specs.declared.numbers.NodeNo.{NodeNo}
 use Rattle.toml.specs.Data.{Members}
-use Rattle.toml_rules.specs.Fields.{number, text, has_only}
-use Rattle.toml_rules.specs.Rules.{each_entry, first_fall}
+use Rattle.toml_rules.specs.{Fields.number, Fields.text, Fields.has_only, Rules.each_entry, Rules.first_fall}
 use Rattle.tree_topology.specs.Graph.{IsNode}
-use Rattle.topology_file.specs.declared.entries.NodeEntry.{NodeEntry}
-use Rattle.topology_file.specs.declared.entries.LinkEntry.{LinkEntry}
-use Rattle.topology_file.specs.declared.entries.StreamEntry.{StreamEntry}
-use Rattle.topology_file.specs.declared.entries.EventEntry.{EventEntry}
-use Rattle.topology_file.specs.declared.entries.EventForm.{EventForm}
-use Rattle.topology_file.specs.declared.entries.EventKind.{EventKind}
+use Rattle.topology_file.specs.{NodeEntry, LinkEntry, StreamEntry, EventEntry, EventForm, EventKind, name_at, node_named, station_named, joins_both, tick_at, event_form, form_ticks, event_ticks, event_entry, vlan_keys, vid_at, vlan_at, talker_keys, talker_at, listener_at, both_named, listener_named, pdu_keys, index_at, joined_named, known_pdu, pdu_at, forgery_keys, app_at, decoded, octets_of_text, pdu_octets_at, forgery_form, kind_form, vlan_form, talker_form, pdu_form, ArePduOctets, IsAtVlan, IsAtPdu, IsStationNumber, IsStreamNumber, IsNotTalker, AreJoinedNumbers, IsKnownKind, events_of, stream_named, is_talker_of}
 use Rattle.topology_file.specs.declared.entries.EventKind.TheVariants as kinds
-use Rattle.topology_file.specs.Entries.{name_at, node_named, station_named, joins_both}
-use Rattle.topology_file.specs.Events.{tick_at, event_form, form_ticks, event_ticks, event_entry}
-use Rattle.topology_file.specs.Kinds.{vlan_keys, vid_at, vlan_at, talker_keys, talker_at, listener_at, both_named, listener_named, pdu_keys, index_at, joined_named, known_pdu, pdu_at, forgery_keys, app_at, decoded, octets_of_text, pdu_octets_at, forgery_form, kind_form, vlan_form, talker_form, pdu_form, ArePduOctets, IsAtVlan, IsAtPdu, IsStationNumber, IsStreamNumber, IsNotTalker, AreJoinedNumbers, IsKnownKind}
-use Rattle.topology_file.specs.Scenario.{events_of}
-use Rattle.topology_file.specs.Streams.{stream_named, is_talker_of}
-use Rattle.topology_file.proofs.Chains.{and_then-if, map-if, made-if, when-if, unless-if, either-if, some-says, within-range, chain-if, chain-none, ok-all, ok-says, each-all, each-map, each-keeps, alike-length}
-use Rattle.topology_file.proofs.NetworkKept.{node-known, station-known}
-use Rattle.topology_file.proofs.StreamsKept.{stream-known, not-talker}
+use Rattle.topology_file.proofs.{Chains.and_then-if, Chains.map-if, Chains.made-if, Chains.when-if, Chains.unless-if, Chains.either-if, Chains.within-range, Chains.chain-if, Chains.chain-none, Chains.ok-all, Chains.ok-says, Chains.each-all, Chains.each-map, Chains.each-keeps, Chains.alike-length, NetworkKept.node-known, NetworkKept.station-known, StreamsKept.stream-known, StreamsKept.not-talker}
 
 -- ---- VIDs and PDUs
 

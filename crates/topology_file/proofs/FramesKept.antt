@@ -1,31 +1,17 @@
 -- What every scenario keeps of its frames.
 use Rattle.std.proofs.Common.{◌≡◌, ◌≢◌, ℕ, ◌<◌, ◌≤◌, ◌==◌, List, map, Option, Some, Result, Ok, Err, refl, sym, ap, ◌∙◌, ltb-true, IfSome, IfOk, arith}
-use Rattle.std.proofs.lemmas.Bool.{false≢true}
-use Rattle.std.proofs.lemmas.List.Elements.{All-weaker}
-use Rattle.std.proofs.lemmas.List.Sums.{sum-map}
+use Rattle.std.proofs.lemmas.{Bool.false≢true, List.Elements.All-weaker, List.Sums.sum-map}
 use Rattle.std.specs.List.{All, sum, sum_by}
 use Rattle.std.specs.Prelude.{codes}
+use Rattle.srp_base.proofs.Options.{opened as some-says}
 use Rattle.srp_base.specs.declared.numbers.NodeNo.{NodeNo}
 use Rattle.toml.specs.Data.{Members}
 use Rattle.toml_rules.specs.declared.rules.RuleErr.{RuleErr}
-use Rattle.toml_rules.specs.Fields.{number, number_or, has_only}
-use Rattle.toml_rules.specs.Rules.{each_entry, each_within}
+use Rattle.toml_rules.specs.{Fields.number, Fields.number_or, Fields.has_only, Rules.each_entry, Rules.each_within}
 use Rattle.toml_rules.proofs.WeightLemmas.{within-says}
-use Rattle.topology_file.specs.declared.entries.NodeEntry.{NodeEntry}
-use Rattle.topology_file.specs.declared.entries.StreamEntry.{StreamEntry}
-use Rattle.topology_file.specs.declared.entries.FrameEntry.{FrameEntry}
-use Rattle.topology_file.specs.declared.entries.FrameForm.{FrameForm}
-use Rattle.topology_file.specs.declared.entries.FrameTimes.{FrameTimes}
-use Rattle.topology_file.specs.declared.entries.FrameRoute.{FrameRoute}
+use Rattle.topology_file.specs.{NodeEntry, StreamEntry, FrameEntry, FrameForm, FrameTimes, FrameRoute, name_at, station_named, stream_frame_keys, apart_named, pair_frame_keys, route_at, count_at, times_at, last_copy, run_end, ends_in, times_in, frame_octets_at, frame_form, form_copies, frame_entry, frame_copies, IsKnownRoute, HasFrameForm, IsStationNumber, IsStreamNumber, frames_of, stream_named, stream_vid_at}
 use Rattle.topology_file.specs.declared.entries.FrameRoute.TheVariants as routes
-use Rattle.topology_file.specs.Entries.{name_at, station_named}
-use Rattle.topology_file.specs.Frames.{stream_frame_keys, apart_named, pair_frame_keys, route_at, count_at, times_at, last_copy, run_end, ends_in, times_in, frame_octets_at, frame_form, form_copies, frame_entry, frame_copies, IsKnownRoute, HasFrameForm}
-use Rattle.topology_file.specs.Kinds.{IsStationNumber, IsStreamNumber}
-use Rattle.topology_file.specs.Scenario.{frames_of}
-use Rattle.topology_file.specs.Streams.{stream_named, stream_vid_at}
-use Rattle.topology_file.proofs.Chains.{and_then-if, map-if, made-if, when-if, unless-if, either-if, some-says, within-range, chain-if, ok-all, ok-says, each-all, each-map}
-use Rattle.topology_file.proofs.NetworkKept.{Any, all-any, eqb-same, station-known}
-use Rattle.topology_file.proofs.StreamsKept.{stream-known}
+use Rattle.topology_file.proofs.{Chains.and_then-if, Chains.map-if, Chains.made-if, Chains.when-if, Chains.unless-if, Chains.either-if, Chains.within-range, Chains.chain-if, Chains.ok-all, Chains.ok-says, Chains.each-all, Chains.each-map, NetworkKept.Any, NetworkKept.all-any, NetworkKept.eqb-same, NetworkKept.station-known, StreamsKept.stream-known}
 
 -- ---- routes
 

@@ -3,22 +3,13 @@ use Rattle.std.proofs.Common.{◌≡◌, ℕ, ◌≤◌, Bool, false, List, [], 
 use Rattle.std.proofs.lemmas.List.Elements.{All-weaker}
 use Rattle.std.specs.List.{All}
 use Rattle.std.specs.Prelude.{codes}
+use Rattle.srp_base.proofs.Options.{opened as some-says}
 use Rattle.srp_base.specs.Firsts.{first_where}
 use Rattle.toml.specs.Data.{Members}
 use Rattle.toml_rules.specs.Fields.{number, number_or, truth_or, tables, has_only}
-use Rattle.tree_topology.specs.Topology.{Topology}
-use Rattle.tree_topology.specs.Refusal.{refusal}
-use Rattle.topology_file.specs.declared.entries.NodeEntry.{NodeEntry}
-use Rattle.topology_file.specs.declared.entries.LinkEntry.{LinkEntry}
-use Rattle.topology_file.specs.declared.entries.StreamEntry.{StreamEntry}
-use Rattle.topology_file.specs.declared.entries.EventEntry.{EventEntry}
-use Rattle.topology_file.specs.declared.entries.FrameEntry.{FrameEntry}
-use Rattle.topology_file.specs.Scenario.{nodes_of, links_of, tree_links, node_kinds, topology_of, tree_of, is_crowded, streams_of, events_of, frames_of, file_keys, ticks_at, leave_time_at, plan_of, scenario_of, KeepsRules}
-use Rattle.topology_file.proofs.Chains.{some-says, within-range, chain-if, chain-needs, chain-holds, chain-none}
-use Rattle.topology_file.proofs.NetworkKept.{NodesKeep, nodes-keep, small-parts, ids-fit, names-differ, ids-differ, HasShares, IsKnownLink, links-keep, AcceptedLaw, tree-keeps, few-links}
-use Rattle.topology_file.proofs.StreamsKept.{StreamsKeep, streams-keep}
-use Rattle.topology_file.proofs.EventsKept.{EventsKeep, events-keep}
-use Rattle.topology_file.proofs.FramesKept.{FramesKeep, frames-keep}
+use Rattle.tree_topology.specs.{Topology.Topology, Refusal.refusal}
+use Rattle.topology_file.specs.{NodeEntry, LinkEntry, StreamEntry, EventEntry, FrameEntry, nodes_of, links_of, tree_links, node_kinds, topology_of, tree_of, is_crowded, streams_of, events_of, frames_of, file_keys, ticks_at, leave_time_at, plan_of, scenario_of, KeepsRules}
+use Rattle.topology_file.proofs.{Chains.within-range, Chains.chain-if, Chains.chain-needs, Chains.chain-holds, Chains.chain-none, NetworkKept.NodesKeep, NetworkKept.nodes-keep, NetworkKept.small-parts, NetworkKept.ids-fit, NetworkKept.names-differ, NetworkKept.ids-differ, NetworkKept.HasShares, NetworkKept.IsKnownLink, NetworkKept.links-keep, NetworkKept.AcceptedLaw, NetworkKept.tree-keeps, NetworkKept.few-links, StreamsKept.StreamsKeep, StreamsKept.streams-keep, EventsKept.EventsKeep, EventsKept.events-keep, FramesKept.FramesKeep, FramesKept.frames-keep}
 
 -- what a scenario keeps, from what its parts were read as
 plan-keeps : AcceptedLaw → (ticks leave_time : ℕ) (periodic domains : Bool) (tree : Topology) (nodes : List NodeEntry) (links : List LinkEntry) (streams : List StreamEntry) (events : List EventEntry) (frames : List FrameEntry)

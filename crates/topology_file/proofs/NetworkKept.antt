@@ -1,41 +1,18 @@
 -- What every scenario keeps of its nodes, links and tree, from the rules that its table passed.
 use Rattle.std.proofs.Common.{◌≡◌, ◌≢◌, ◌⊎◌, inl, inr, ℕ, ◌+◌, ◌-◌, ◌*◌, ◌^◌, ◌<◌, ◌≤◌, Bool, true, false, ◌&&◌, List, [], Option, Some, None, option_map, Ok, refl, sym, ap, subst, ◌∙◌, length, get_or, take, get_or-take, eqb, leb-true, ltb-false, IfSome, IfOk, arith}
-use Rattle.std.proofs.lemmas.Bool.{and_parts, false≢true}
-use Rattle.std.proofs.lemmas.Bool.Decides.{nat_tests}
-use Rattle.std.proofs.lemmas.List.{length-take-le}
-use Rattle.std.proofs.lemmas.List.Elements.{All-weaker}
-use Rattle.std.proofs.lemmas.List.Folds.{list_any_at}
-use Rattle.std.proofs.lemmas.Map.Lookups.{exact_bytes}
-use Rattle.std.specs.declared.cmp.Ordering.{Ordering}
-use Rattle.std.specs.declared.cmp.Ordering.TheVariants.{Less, Equal, Greater}
-use Rattle.std.specs.Ordering.{nat_cmp, match_ordering}
-use Rattle.std.specs.Cmp.Lexicographic.{pointwise, slice_cmp, bytes_decides}
-use Rattle.std.specs.List.{All, list_any}
+use Rattle.std.proofs.lemmas.{Bool.and_parts, Bool.false≢true, Bool.Decides.nat_tests, List.length-take-le, List.Elements.All-weaker, List.Folds.list_any_at, Map.Lookups.exact_bytes}
+use Rattle.std.specs.{declared.cmp.Ordering.Ordering, declared.cmp.Ordering.TheVariants.Less, declared.cmp.Ordering.TheVariants.Equal, declared.cmp.Ordering.TheVariants.Greater, Ordering.nat_cmp, Ordering.match_ordering, Cmp.Lexicographic.pointwise, Cmp.Lexicographic.slice_cmp, Cmp.Lexicographic.bytes_decides, List.All, List.list_any}
 use Rattle.std.specs.Prelude.{AllPairs, ◌↔◌, nat_le, nat_eq, codes}
+use Rattle.srp_base.proofs.Options.{opened as some-says}
 use Rattle.srp_base.specs.declared.numbers.NodeNo.{NodeNo}
-use Rattle.srp_base.specs.Firsts.{first_where}
-use Rattle.srp_base.specs.Hexadecimal.{hex16}
+use Rattle.srp_base.specs.{Firsts.first_where, Hexadecimal.hex16}
 use Rattle.srp_base.proofs.FirstLemmas.{where-some, where-none}
 use Rattle.toml.specs.Data.{Data, Members, no_members, member, get_member, as_str}
-use Rattle.toml_rules.specs.Fields.{or_default, number_or, text, is_known, has_only}
-use Rattle.toml_rules.specs.Rules.{each_entry}
-use Rattle.toml_rules.specs.Shares.{share_at, shares_at}
-use Rattle.tree_topology.specs.Topology.{Topology, IsSound}
-use Rattle.tree_topology.specs.declared.graph.Link.{Link}
-use Rattle.tree_topology.specs.declared.graph.TreeErr.{TreeErr}
-use Rattle.tree_topology.specs.Graph.{IsNode}
-use Rattle.tree_topology.specs.Ports.{neighbours}
-use Rattle.tree_topology.specs.Refusal.{refusal}
-use Rattle.topology_file.specs.declared.entries.DomainWord.{DomainWord}
-use Rattle.topology_file.specs.declared.entries.DomainWord.TheVariants.{Both}
-use Rattle.topology_file.specs.declared.entries.NodeEntry.{NodeEntry}
-use Rattle.topology_file.specs.declared.entries.LinkEntry.{LinkEntry}
-use Rattle.tree_topology.specs.Refusal.{is_station}
-use Rattle.topology_file.specs.Entries.{is_name, name_of_text, name_at, kind_at, id_of_data, id_at, domain_of_data, domain_at, node_keys, node_entry, has_name, node_no, node_named, station_named, link_keys, rate_at, latency_at, link_between, link_form}
-use Rattle.topology_file.specs.Kinds.{IsStationNumber}
-use Rattle.topology_file.specs.Scenario.{has_name_of, has_id_of, is_small, nodes_of, links_of, tree_links, node_kinds, topology_of, unless_refused, tree_of, is_crowded}
-use Rattle.topology_file.proofs.Chains.{and_then-if, when-if, some-says, within-range, chain-if, chain-holds, chain-none, ok-says, an_element, ok-both, each-all, each-numbered}
-use Rattle.topology_file.proofs.HexRanges.{hex16-range}
+use Rattle.toml_rules.specs.{Fields.or_default, Fields.number_or, Fields.text, Fields.is_known, Fields.has_only, Rules.each_entry, Shares.share_at, Shares.shares_at}
+use Rattle.tree_topology.specs.{Topology.Topology, Topology.IsSound, Graph.IsNode, Ports.neighbours, Refusal.refusal, Refusal.is_station}
+use Rattle.tree_topology.specs.declared.{graph.Link.Link, graph.TreeErr.TreeErr}
+use Rattle.topology_file.specs.{DomainWord, Both, NodeEntry, LinkEntry, is_name, name_of_text, name_at, kind_at, id_of_data, id_at, domain_of_data, domain_at, node_keys, node_entry, has_name, node_no, node_named, station_named, link_keys, rate_at, latency_at, link_between, link_form, IsStationNumber, has_name_of, has_id_of, is_small, nodes_of, links_of, tree_links, node_kinds, topology_of, unless_refused, tree_of, is_crowded}
+use Rattle.topology_file.proofs.{Chains.and_then-if, Chains.when-if, Chains.within-range, Chains.chain-if, Chains.chain-holds, Chains.chain-none, Chains.ok-says, Chains.an_element, Chains.ok-both, Chains.each-all, Chains.each-numbered, HexRanges.hex16-range}
 
 -- no condition on an entry
 abbrev pub Any : {A : Type 0} → A → Type 0

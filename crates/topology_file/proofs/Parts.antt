@@ -1,16 +1,12 @@
 -- A scenario is made of its parts.
 use Rattle.std.proofs.Common.{◌≡◌, ℕ, Bool, false, codes, List, [], Option, Some, None, Result, Ok, Err, IfSome, refl, sym, ap, ◌∙◌}
-use Rattle.srp_base.specs.Firsts.{first_where}
-use Rattle.srp_base.specs.Results.{◌>>=◌}
+use Rattle.srp_base.specs.{Firsts.first_where, Results.◌>>=◌}
 use Rattle.toml.specs.Data.{Members}
 use Rattle.toml_rules.specs.declared.rules.RuleErr.{RuleErr}
-use Rattle.toml_rules.specs.Fields.{truth_or, tables, has_only}
-use Rattle.toml_rules.specs.Rules.{needs, holds, no_entry}
+use Rattle.toml_rules.specs.{Fields.truth_or, Fields.tables, Fields.has_only, Rules.needs, Rules.holds, Rules.no_entry}
 use Rattle.topology_file.specs.declared.network.Network.{Network}
-use Rattle.topology_file.specs.declared.scenario.Traffic.{Traffic}
-use Rattle.topology_file.specs.Parts.{network_of, traffic_of, entries_plan}
+use Rattle.topology_file.specs.{Traffic, network_of, traffic_of, entries_plan, nodes_of, links_of, tree_of, is_crowded, streams_of, events_of, frames_of, file_keys, ticks_at, leave_time_at, plan_of, scenario_of}
 use Rattle.topology_file.specs.Plan.{Plan}
-use Rattle.topology_file.specs.Scenario.{nodes_of, links_of, tree_of, is_crowded, streams_of, events_of, frames_of, file_keys, ticks_at, leave_time_at, plan_of, scenario_of}
 
 then-assoc : {A B C : Type 0} (r : Result A RuleErr) (f : A → Result B RuleErr) (g : B → Result C RuleErr)
     → ((r >>= f) >>= g) ≡ (r >>= (λ x. f x >>= g))

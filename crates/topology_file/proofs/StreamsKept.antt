@@ -1,28 +1,15 @@
 -- What every scenario keeps of its streams.
 use Rattle.std.proofs.Common.{◌≡◌, ◌≢◌, ℕ, ◌-◌, ◌<◌, ◌≤◌, ◌^◌, true, false, ◌&&◌, List, [], length, get_or, Option, Some, None, Ok, refl, sym, ap, ◌∙◌, eqb, leb-true, IfSome, IfOk, map, arith}
-use Rattle.std.proofs.lemmas.Bool.{and_parts, false≢true}
-use Rattle.std.proofs.lemmas.List.Elements.{All-weaker}
-use Rattle.std.proofs.lemmas.List.Folds.{list_any_at}
-use Rattle.std.specs.Cmp.Lexicographic.{pointwise, bytes_decides}
-use Rattle.std.specs.List.{All}
+use Rattle.std.proofs.lemmas.{Bool.and_parts, Bool.false≢true, List.Elements.All-weaker, List.Folds.list_any_at}
+use Rattle.std.specs.{Cmp.Lexicographic.pointwise, Cmp.Lexicographic.bytes_decides, List.All}
 use Rattle.std.specs.Prelude.{AllPairs, nat_le, nat_eq, codes}
-use Rattle.srp_base.specs.Firsts.{first_where}
-use Rattle.srp_base.specs.Hexadecimal.{hex12, hex16}
+use Rattle.srp_base.proofs.Options.{opened as some-says}
+use Rattle.srp_base.specs.{Firsts.first_where, Hexadecimal.hex12, Hexadecimal.hex16}
 use Rattle.srp_base.proofs.FirstLemmas.{where-some}
 use Rattle.toml.specs.Data.{Members}
-use Rattle.toml_rules.specs.Fields.{number, number_or, text, has_only}
-use Rattle.toml_rules.specs.Rules.{each_entry}
-use Rattle.topology_file.specs.declared.entries.NodeEntry.{NodeEntry}
-use Rattle.topology_file.specs.declared.entries.StreamEntry.{StreamEntry}
-use Rattle.topology_file.specs.declared.entries.StreamForm.{StreamForm}
-use Rattle.topology_file.specs.declared.entries.StreamValues.{StreamValues}
-use Rattle.topology_file.specs.Entries.{is_name, name_at}
-use Rattle.topology_file.specs.Kinds.{IsStationNumber, IsStreamNumber, IsNotTalker}
-use Rattle.topology_file.specs.Scenario.{has_stream_name_of, has_stream_id_of, streams_of, HasStreamForm}
-use Rattle.topology_file.specs.Streams.{stream_keys, stream_id_at, dest_at, octets_at, frames_at, stream_vid_at, priority_at, rank_at, values_at, stream_form, stream_entry, is_stream_named, stream_named, is_talker_of}
-use Rattle.topology_file.proofs.Chains.{and_then-if, map-if, made-if, when-if, some-says, within-range, chain-if, chain-none, ok-all, ok-says, each-all, each-map, each-keeps, alike-length, pairs-alike}
-use Rattle.topology_file.proofs.HexRanges.{hex12-range, hex16-range}
-use Rattle.topology_file.proofs.NetworkKept.{name-form, eqb-same, pairs-none, station-known}
+use Rattle.toml_rules.specs.{Fields.number, Fields.number_or, Fields.text, Fields.has_only, Rules.each_entry}
+use Rattle.topology_file.specs.{NodeEntry, StreamEntry, StreamForm, StreamValues, is_name, name_at, IsStationNumber, IsStreamNumber, IsNotTalker, has_stream_name_of, has_stream_id_of, streams_of, HasStreamForm, stream_keys, stream_id_at, dest_at, octets_at, frames_at, stream_vid_at, priority_at, rank_at, values_at, stream_form, stream_entry, is_stream_named, stream_named, is_talker_of}
+use Rattle.topology_file.proofs.{Chains.and_then-if, Chains.map-if, Chains.made-if, Chains.when-if, Chains.within-range, Chains.chain-if, Chains.chain-none, Chains.ok-all, Chains.ok-says, Chains.each-all, Chains.each-map, Chains.each-keeps, Chains.alike-length, Chains.pairs-alike, HexRanges.hex12-range, HexRanges.hex16-range, NetworkKept.name-form, NetworkKept.eqb-same, NetworkKept.pairs-none, NetworkKept.station-known}
 
 -- ---- forms
 

@@ -3,20 +3,14 @@ use Rattle.std.proofs.Common.{◌≡◌, ℕ, ◌≤◌, Bool, false, List, [], 
 use Rattle.std.proofs.lemmas.List.Elements.{All-weaker}
 use Rattle.std.specs.List.{All}
 use Rattle.std.specs.Prelude.{codes}
+use Rattle.srp_base.proofs.Options.{opened as some-says}
 use Rattle.srp_base.specs.Firsts.{first_where}
 use Rattle.toml.specs.Data.{Members}
 use Rattle.toml_rules.specs.Fields.{number, number_or, truth_or, tables}
-use Rattle.tree_topology.specs.Topology.{Topology}
-use Rattle.tree_topology.specs.Refusal.{refusal}
-use Rattle.topology_file.specs.declared.entries.NodeEntry.{NodeEntry}
-use Rattle.topology_file.specs.declared.entries.LinkEntry.{LinkEntry}
+use Rattle.tree_topology.specs.{Topology.Topology, Refusal.refusal}
+use Rattle.topology_file.specs.{NodeEntry, LinkEntry, Times, KeepsNetworkRules, IsKeptNetwork, timed_network_of, network_of, times_of, nodes_of, links_of, tree_links, node_kinds, topology_of, tree_of, is_crowded, ticks_at, leave_time_at}
 use Rattle.topology_file.specs.declared.network.Network.{Network}
-use Rattle.topology_file.specs.declared.network.Times.{Times}
-use Rattle.topology_file.specs.Network.{KeepsNetworkRules, IsKeptNetwork, timed_network_of}
-use Rattle.topology_file.specs.Parts.{network_of, times_of}
-use Rattle.topology_file.specs.Scenario.{nodes_of, links_of, tree_links, node_kinds, topology_of, tree_of, is_crowded, ticks_at, leave_time_at}
-use Rattle.topology_file.proofs.Chains.{some-says, within-range, chain-if, chain-needs, chain-none}
-use Rattle.topology_file.proofs.NetworkKept.{NodesKeep, nodes-keep, small-parts, ids-fit, names-differ, ids-differ, HasShares, IsKnownLink, links-keep, AcceptedLaw, tree-keeps, few-links}
+use Rattle.topology_file.proofs.{Chains.within-range, Chains.chain-if, Chains.chain-needs, Chains.chain-none, NetworkKept.NodesKeep, NetworkKept.nodes-keep, NetworkKept.small-parts, NetworkKept.ids-fit, NetworkKept.names-differ, NetworkKept.ids-differ, NetworkKept.HasShares, NetworkKept.IsKnownLink, NetworkKept.links-keep, NetworkKept.AcceptedLaw, NetworkKept.tree-keeps, NetworkKept.few-links}
 
 -- what a network keeps, from what its parts were read as
 network-keeps : AcceptedLaw → (ticks leave_time : ℕ) (tree : Topology) (nodes : List NodeEntry) (links : List LinkEntry)

@@ -1,27 +1,17 @@
 -- The rules on links and nodes, and what the tree refuses.
-use Rattle.std.proofs.Common.{◌≡◌, ℕ, ◌+◌, ◌*◌, ◌<◌, ◌≤◌, Bool, true, false, if◌then◌else◌, List, [], ◌∷◌, ◌++◌, Option, Some, None, Result, Ok, Err, IfSome, refl, sym, ap, ◌∙◌, length, take, drop, mul-le-mul, arith}
-use Rattle.std.proofs.lemmas.Bool.Decides.{nat_tests}
-use Rattle.std.proofs.lemmas.List.{length-take-le}
-use Rattle.std.proofs.lemmas.List.Elements.{All-head, All-tail}
+use Rattle.std.proofs.Common.{◌≡◌, ℕ, ◌+◌, ◌*◌, ◌<◌, ◌≤◌, Bool, false, if◌then◌else◌, List, [], ◌∷◌, ◌++◌, Option, Some, None, Result, Ok, Err, IfSome, refl, sym, ap, ◌∙◌, length, take, drop, mul-le-mul, arith}
+use Rattle.std.proofs.lemmas.{Bool.Decides.nat_tests, List.length-take-le, List.Elements.All-head, List.Elements.All-tail}
 use Rattle.std.specs.List.{All}
 use Rattle.std.specs.Prelude.{nat_lt}
-use Rattle.srp_base.specs.Firsts.{first_where}
-use Rattle.srp_base.specs.Results.{◌>>=◌}
+use Rattle.srp_base.proofs.Arithmetic.{lt-true, lt-false}
+use Rattle.srp_base.specs.{Firsts.first_where, Results.◌>>=◌}
 use Rattle.srp_base.proofs.FirstLemmas.{where-here, where-later}
-use Rattle.toml_rules.specs.declared.rules.RuleErr.{RuleErr}
-use Rattle.toml_rules.specs.declared.rules.RuleErr.TheVariants.{Rule, NoMemory as no_memory}
+use Rattle.toml_rules.specs.declared.{rules.RuleErr.RuleErr, rules.RuleErr.TheVariants.Rule, rules.RuleErr.TheVariants.NoMemory as no_memory}
 use Rattle.toml_rules.specs.Rules.{no_entry, fails_at, broken_rule}
-use Rattle.tree_topology.specs.Topology.{Topology}
-use Rattle.tree_topology.specs.declared.graph.Link.{Link}
-use Rattle.tree_topology.specs.declared.graph.NodeKind.{NodeKind}
-use Rattle.tree_topology.specs.declared.graph.TreeErr.{TreeErr}
+use Rattle.tree_topology.specs.{Topology.Topology, Graph.IsNode, Ports.neighbours, Refusal.has_unknown_end, Refusal.is_self_link, Refusal.is_second_link, Refusal.refused_or, Refusal.refusal}
+use Rattle.tree_topology.specs.declared.{graph.Link.Link, graph.NodeKind.NodeKind, graph.TreeErr.TreeErr}
 use Rattle.tree_topology.specs.declared.graph.TreeErr.TheVariants.{UnknownNode, SelfLink, SecondLink}
-use Rattle.tree_topology.specs.Graph.{IsNode}
-use Rattle.tree_topology.specs.Ports.{neighbours}
-use Rattle.tree_topology.specs.Refusal.{has_unknown_end, is_self_link, is_second_link, refused_or, refusal}
-use Rattle.topology_file.specs.declared.entries.NodeEntry.{NodeEntry}
-use Rattle.topology_file.specs.declared.entries.LinkEntry.{LinkEntry}
-use Rattle.topology_file.specs.Scenario.{ends_of_entry, tree_links, is_crowded, proper_ends, unless_refused}
+use Rattle.topology_file.specs.{NodeEntry, LinkEntry, ends_of_entry, tree_links, is_crowded, proper_ends, unless_refused}
 use Rattle.topology_file.proofs.Chains.{an_element}
 
 -- ---- what is refused
@@ -91,12 +81,6 @@ links-few count links few le =
 -- the number of a node behind those before it
 place : (nodes : List NodeEntry) (i : ℕ) → i < length nodes → length (take i nodes) + 1 ≡ i + 1
 place nodes i lt = omega (arith, length-take-le i nodes (omega (arith, lt)))
-
-lt-true : (a b : ℕ) → a < b → nat_lt a b ≡ true
-lt-true a b h = grind (arith, nat_tests)
-
-lt-false : (a b : ℕ) → b ≤ a → nat_lt a b ≡ false
-lt-false a b h = grind (arith, nat_tests)
 
 pub crowded-here : (links : List Link) (nodes : List NodeEntry) (i n : ℕ) (o : Option ℕ) → i < length nodes → n ≡ length (neighbours links (i + 1)) → 16 < n
     → first_where (is_crowded links) (take i nodes) (drop i nodes) ≡ o → Some (i + 1) ≡ o

@@ -1,23 +1,15 @@
 -- The nodes and links of a file: their keys, their values and their defaults, and the numbers of the nodes
 -- that they name.
 use Rattle.std.specs.Prelude.{ℕ, ◌==◌, Bool, true, false, ◌&&◌, ◌||◌, nat_le, nat_eq, if◌then◌else◌, List, [], ◌∷◌, length, codes, Option, Some, None, option_map, option_and_then}
-use Rattle.std.specs.Cmp.Lexicographic.{pointwise}
-use Rattle.std.specs.List.{list_all}
-use Rattle.srp_base.specs.declared.bandwidth.Rate.{Rate}
-use Rattle.srp_base.specs.declared.numbers.NodeNo.{NodeNo}
-use Rattle.srp_base.specs.Bandwidth.{rate_of_mbit}
-use Rattle.srp_base.specs.Firsts.{first_where}
-use Rattle.srp_base.specs.Hexadecimal.{hex16}
+use Rattle.std.specs.{Cmp.Lexicographic.pointwise, List.list_all}
+use Rattle.srp_base.specs.declared.{bandwidth.Rate.Rate, numbers.NodeNo.NodeNo}
+use Rattle.srp_base.specs.{Bandwidth.rate_of_mbit, Firsts.first_where, Hexadecimal.hex16}
 use Rattle.toml.specs.Data.{Data, Members, get_member, as_str}
-use Rattle.toml_rules.specs.Fields.{◌>>=◌, or_default, number_or, within, text, has_only}
-use Rattle.toml_rules.specs.Shares.{shares_at}
-use Rattle.tree_topology.specs.declared.graph.NodeKind.{NodeKind}
-use Rattle.tree_topology.specs.declared.graph.NodeKind.TheVariants.{Station, Bridge}
+use Rattle.toml_rules.specs.{Fields.◌>>=◌, Fields.or_default, Fields.number_or, Fields.within, Fields.text, Fields.has_only, Shares.shares_at}
+use Rattle.tree_topology.specs.declared.{graph.NodeKind.NodeKind, graph.NodeKind.TheVariants.Station, graph.NodeKind.TheVariants.Bridge}
 use Rattle.tree_topology.specs.Refusal.{is_station}
-use Rattle.topology_file.specs.declared.entries.DomainWord.{DomainWord}
+use Rattle.topology_file.specs.declared.{entries.DomainWord.DomainWord, entries.NodeEntry.NodeEntry, entries.LinkEntry.LinkEntry}
 use Rattle.topology_file.specs.declared.entries.DomainWord.TheVariants.{Both, OnlyA, Nothing}
-use Rattle.topology_file.specs.declared.entries.NodeEntry.{NodeEntry}
-use Rattle.topology_file.specs.declared.entries.LinkEntry.{LinkEntry}
 
 -- ---- names
 

@@ -3,16 +3,9 @@ use Rattle.std.specs.Prelude.{◌≢◌, ◌≤◌, ◌<◌, ◌+◌, ◌-◌, �
 use Rattle.srp_base.specs.declared.numbers.NodeNo.{NodeNo}
 use Rattle.toml.specs.Data.{Members}
 use Rattle.toml_rules.specs.Fields.{◌>>=◌, number, number_or, within, has_only}
-use Rattle.topology_file.specs.declared.entries.NodeEntry.{NodeEntry}
-use Rattle.topology_file.specs.declared.entries.StreamEntry.{StreamEntry}
-use Rattle.topology_file.specs.declared.entries.FrameEntry.{FrameEntry}
-use Rattle.topology_file.specs.declared.entries.FrameForm.{FrameForm}
-use Rattle.topology_file.specs.declared.entries.FrameTimes.{FrameTimes}
-use Rattle.topology_file.specs.declared.entries.FrameRoute.{FrameRoute}
+use Rattle.topology_file.specs.declared.{entries.NodeEntry.NodeEntry, entries.StreamEntry.StreamEntry, entries.FrameEntry.FrameEntry, entries.FrameForm.FrameForm, entries.FrameTimes.FrameTimes, entries.FrameRoute.FrameRoute}
 use Rattle.topology_file.specs.declared.entries.FrameRoute.TheVariants as routes
-use Rattle.topology_file.specs.Entries.{name_at, station_named}
-use Rattle.topology_file.specs.Kinds.{IsStationNumber, IsStreamNumber}
-use Rattle.topology_file.specs.Streams.{stream_named, stream_vid_at}
+use Rattle.topology_file.specs.{Entries.name_at, Entries.station_named, Kinds.IsStationNumber, Kinds.IsStreamNumber, Streams.stream_named, Streams.stream_vid_at}
 
 -- ---- the route
 

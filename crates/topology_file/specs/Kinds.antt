@@ -1,25 +1,17 @@
 -- The kinds of events: the keys of each, what it names, and what is known of what it names. A kind is a case
 -- of `kind_form` and of `IsKnownKind`.
 use Rattle.std.specs.Prelude.{◌≡◌, ◌≢◌, ◌≤◌, ◌<◌, ◌-◌, nat_le, ℕ, true, nat_eq, if◌then◌else◌, List, [], ◌∷◌, length, codes, Option, Some, None, option_map, option_and_then, Result, Ok, Err}
-use Rattle.std.specs.Cmp.Lexicographic.{pointwise}
-use Rattle.std.specs.List.{AllByRecursion, list_any}
+use Rattle.std.specs.{Cmp.Lexicographic.pointwise, List.AllByRecursion, List.list_any}
 use Rattle.std.proofs.Common.{get_or}
-use Rattle.srp_base.specs.declared.numbers.NodeNo.{NodeNo}
-use Rattle.srp_base.specs.declared.mrp.App.{App}
-use Rattle.srp_base.specs.declared.mrp.App.TheVariants.{Mvrp, Msrp}
+use Rattle.srp_base.specs.declared.{numbers.NodeNo.NodeNo, mrp.App.App, mrp.App.TheVariants.Mvrp, mrp.App.TheVariants.Msrp}
 use Rattle.hex.specs.Hex.{decode_of}
 use Rattle.hex.specs.declared.error.FromHexError.{FromHexError}
 use Rattle.toml.specs.Data.{Members}
 use Rattle.toml_rules.specs.Fields.{◌>>=◌, number, text, within, has_only}
-use Rattle.tree_topology.specs.Graph.{IsNode}
-use Rattle.topology_file.specs.declared.entries.NodeEntry.{NodeEntry}
-use Rattle.topology_file.specs.declared.entries.LinkEntry.{LinkEntry}
-use Rattle.topology_file.specs.declared.entries.StreamEntry.{StreamEntry}
-use Rattle.topology_file.specs.declared.entries.EventKind.{EventKind}
+use Rattle.tree_topology.specs.{Graph.IsNode, Refusal.is_station}
+use Rattle.topology_file.specs.declared.{entries.NodeEntry.NodeEntry, entries.LinkEntry.LinkEntry, entries.StreamEntry.StreamEntry, entries.EventKind.EventKind}
 use Rattle.topology_file.specs.declared.entries.EventKind.TheVariants as kinds
-use Rattle.tree_topology.specs.Refusal.{is_station}
-use Rattle.topology_file.specs.Entries.{name_at, node_named, station_named, joins_both}
-use Rattle.topology_file.specs.Streams.{stream_named, is_talker_of}
+use Rattle.topology_file.specs.{Entries.name_at, Entries.node_named, Entries.station_named, Entries.joins_both, Streams.stream_named, Streams.is_talker_of}
 
 -- ---- at a station, a VID
 

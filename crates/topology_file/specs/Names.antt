@@ -1,8 +1,6 @@
 -- What the events and frames of a file may name.
 use Rattle.std.specs.Prelude.{List}
-use Rattle.topology_file.specs.declared.entries.NodeEntry.{NodeEntry}
-use Rattle.topology_file.specs.declared.entries.LinkEntry.{LinkEntry}
-use Rattle.topology_file.specs.declared.entries.StreamEntry.{StreamEntry}
+use Rattle.topology_file.specs.declared.{entries.NodeEntry.NodeEntry, entries.LinkEntry.LinkEntry, entries.StreamEntry.StreamEntry}
 
 -- the nodes, links and streams, each at the place of its number
 pub record Named : Type 0 where

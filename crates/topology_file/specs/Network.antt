@@ -3,18 +3,10 @@ use Rattle.std.specs.Prelude.{◌≡◌, ◌≢◌, ◌≤◌, ◌<◌, ◌^◌,
 use Rattle.srp_base.specs.Results.{◌>>=◌}
 use Rattle.toml.specs.Data.{Members}
 use Rattle.toml_rules.specs.declared.rules.RuleErr.{RuleErr}
-use Rattle.toml_rules.specs.Fields.{tables}
-use Rattle.toml_rules.specs.Rules.{needs}
-use Rattle.tree_topology.specs.Graph.{IsNode}
-use Rattle.tree_topology.specs.Ports.{neighbours}
-use Rattle.tree_topology.specs.Refusal.{IsAccepted}
-use Rattle.tree_topology.specs.Topology.{Topology}
-use Rattle.topology_file.specs.declared.entries.NodeEntry.{NodeEntry}
-use Rattle.topology_file.specs.declared.entries.LinkEntry.{LinkEntry}
-use Rattle.topology_file.specs.declared.network.TimedNetwork.{TimedNetwork}
-use Rattle.topology_file.specs.Entries.{is_name}
-use Rattle.topology_file.specs.Parts.{network_of, times_of}
-use Rattle.topology_file.specs.Scenario.{ticks_at, tree_links, node_kinds, topology_of}
+use Rattle.toml_rules.specs.{Fields.tables, Rules.needs}
+use Rattle.tree_topology.specs.{Graph.IsNode, Ports.neighbours, Refusal.IsAccepted, Topology.Topology}
+use Rattle.topology_file.specs.declared.{entries.NodeEntry.NodeEntry, entries.LinkEntry.LinkEntry, network.TimedNetwork.TimedNetwork}
+use Rattle.topology_file.specs.{Entries.is_name, Parts.network_of, Parts.times_of, Scenario.ticks_at, Scenario.tree_links, Scenario.node_kinds, Scenario.topology_of}
 
 -- The network of a table with its times, or the first rule that fails, with its first failing entry, by the keys
 -- `ticks`, `leave_time`, `periodic`, `node` and `link` alone: the rules 1 to 15 of a scenario's file without domains

@@ -1,18 +1,11 @@
 -- The parts of a scenario: its network, and what happens in it.
 use Rattle.std.specs.Prelude.{ℕ, Bool, false, List, [], codes, Result, Ok}
-use Rattle.srp_base.specs.Firsts.{first_where}
-use Rattle.srp_base.specs.Results.{◌>>=◌}
+use Rattle.srp_base.specs.{Firsts.first_where, Results.◌>>=◌}
 use Rattle.toml.specs.Data.{Members}
 use Rattle.toml_rules.specs.declared.rules.RuleErr.{RuleErr}
-use Rattle.toml_rules.specs.Fields.{truth_or, tables}
-use Rattle.toml_rules.specs.Rules.{needs, no_entry}
-use Rattle.topology_file.specs.declared.entries.NodeEntry.{NodeEntry}
-use Rattle.topology_file.specs.declared.entries.LinkEntry.{LinkEntry}
-use Rattle.topology_file.specs.declared.network.Network.{Network}
-use Rattle.topology_file.specs.declared.network.Times.{Times}
-use Rattle.topology_file.specs.declared.scenario.Traffic.{Traffic}
-use Rattle.topology_file.specs.Plan.{Plan}
-use Rattle.topology_file.specs.Scenario.{nodes_of, links_of, tree_of, is_crowded, streams_of, events_of, frames_of, leave_time_at, plan_of}
+use Rattle.toml_rules.specs.{Fields.truth_or, Fields.tables, Rules.needs, Rules.no_entry}
+use Rattle.topology_file.specs.declared.{entries.NodeEntry.NodeEntry, entries.LinkEntry.LinkEntry, network.Network.Network, network.Times.Times, scenario.Traffic.Traffic}
+use Rattle.topology_file.specs.{Plan.Plan, Scenario.nodes_of, Scenario.links_of, Scenario.tree_of, Scenario.is_crowded, Scenario.streams_of, Scenario.events_of, Scenario.frames_of, Scenario.leave_time_at, Scenario.plan_of}
 
 -- the nodes, the links and their tree
 abbrev pub network_of : ℕ → Bool → List Members → List Members → Result Network RuleErr

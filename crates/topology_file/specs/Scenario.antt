@@ -1,37 +1,17 @@
 -- The scenario of a table, or the first rule that it breaks, with the first entry that breaks it.
 use Rattle.std.specs.Prelude.{◌≡◌, ◌≢◌, ◌≤◌, ◌<◌, ◌^◌, All, AllPairs, ℕ, ◌+◌, ◌*◌, ◌==◌, Bool, true, false, ◌&&◌, nat_le, nat_lt, nat_eq, List, [], ◌∷◌, length, map, codes, Option, Some, None, Result, Ok, Err}
-use Rattle.std.specs.Cmp.Lexicographic.{pointwise}
-use Rattle.std.specs.List.{list_any}
-use Rattle.std.specs.List.Sorted.{IsNonDecreasing}
-use Rattle.srp_base.specs.Firsts.{first_where}
-use Rattle.srp_base.specs.Results.{◌>>=◌}
+use Rattle.std.specs.{Cmp.Lexicographic.pointwise, List.list_any, List.Sorted.IsNonDecreasing}
+use Rattle.srp_base.specs.{Firsts.first_where, Results.◌>>=◌}
 use Rattle.toml.specs.Data.{Members}
 use Rattle.toml_rules.specs.declared.rules.RuleErr.{RuleErr}
 use Rattle.toml_rules.specs.declared.rules.RuleErr.TheVariants as rules
-use Rattle.toml_rules.specs.Fields.{number, number_or, within, truth_or, tables, has_only}
-use Rattle.toml_rules.specs.Rules.{needs, holds, fails_at, no_entry, each_entry, each_within, first_fall}
-use Rattle.tree_topology.specs.declared.graph.Link.{Link}
-use Rattle.tree_topology.specs.declared.graph.NodeKind.{NodeKind}
-use Rattle.tree_topology.specs.declared.graph.TreeErr.{TreeErr}
+use Rattle.toml_rules.specs.{Fields.number, Fields.number_or, Fields.within, Fields.truth_or, Fields.tables, Fields.has_only, Rules.needs, Rules.holds, Rules.fails_at, Rules.no_entry, Rules.each_entry, Rules.each_within, Rules.first_fall}
+use Rattle.tree_topology.specs.declared.{graph.Link.Link, graph.NodeKind.NodeKind, graph.TreeErr.TreeErr}
 use Rattle.tree_topology.specs.declared.graph.TreeErr.TheVariants.{UnknownNode, SelfLink, SecondLink, Loop, Unconnected, StationWithLinks, TooManyLinks}
 use Rattle.tree_topology.specs.declared.graph.TreeErr.TheVariants as refusals
-use Rattle.tree_topology.specs.Graph.{IsNode}
-use Rattle.tree_topology.specs.Ports.{neighbours}
-use Rattle.tree_topology.specs.Refusal.{IsAccepted, is_self_link, is_second_link, refusal}
-use Rattle.tree_topology.specs.Topology.{Topology}
-use Rattle.topology_file.specs.declared.entries.DomainWord.TheVariants.{Both}
-use Rattle.topology_file.specs.declared.entries.NodeEntry.{NodeEntry}
-use Rattle.topology_file.specs.declared.entries.LinkEntry.{LinkEntry}
-use Rattle.topology_file.specs.declared.entries.EventEntry.{EventEntry}
-use Rattle.topology_file.specs.declared.entries.FrameEntry.{FrameEntry}
-use Rattle.topology_file.specs.declared.entries.StreamEntry.{StreamEntry}
-use Rattle.topology_file.specs.declared.entries.StreamForm.{StreamForm}
-use Rattle.topology_file.specs.Entries.{is_name, node_entry, link_form}
-use Rattle.topology_file.specs.Events.{event_form, form_ticks, event_ticks, event_entry}
-use Rattle.topology_file.specs.Frames.{frame_form, form_copies, frame_entry, frame_copies, HasFrameForm, IsKnownRoute}
-use Rattle.topology_file.specs.Kinds.{IsKnownKind, IsStationNumber}
-use Rattle.topology_file.specs.Plan.{Plan}
-use Rattle.topology_file.specs.Streams.{stream_form, stream_entry}
+use Rattle.tree_topology.specs.{Graph.IsNode, Ports.neighbours, Refusal.IsAccepted, Refusal.is_self_link, Refusal.is_second_link, Refusal.refusal, Topology.Topology}
+use Rattle.topology_file.specs.declared.{entries.DomainWord.TheVariants.Both, entries.NodeEntry.NodeEntry, entries.LinkEntry.LinkEntry, entries.EventEntry.EventEntry, entries.FrameEntry.FrameEntry, entries.StreamEntry.StreamEntry, entries.StreamForm.StreamForm}
+use Rattle.topology_file.specs.{Entries.is_name, Entries.node_entry, Entries.link_form, Events.event_form, Events.form_ticks, Events.event_ticks, Events.event_entry, Frames.frame_form, Frames.form_copies, Frames.frame_entry, Frames.frame_copies, Frames.HasFrameForm, Frames.IsKnownRoute, Kinds.IsKnownKind, Kinds.IsStationNumber, Plan.Plan, Streams.stream_form, Streams.stream_entry}
 
 -- ---- nodes
 

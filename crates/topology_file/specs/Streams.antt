@@ -1,18 +1,11 @@
 -- The streams of a file: their keys, their values and their defaults, and the number of the stream of a name.
 use Rattle.std.specs.Prelude.{ℕ, ◌==◌, Bool, ◌&&◌, nat_le, nat_eq, if◌then◌else◌, List, [], ◌∷◌, codes, Option, Some, None, option_map, option_and_then}
-use Rattle.std.specs.Cmp.Lexicographic.{pointwise}
-use Rattle.std.specs.List.{list_any}
-use Rattle.srp_base.specs.declared.bandwidth.Rank.{Rank}
-use Rattle.srp_base.specs.declared.bandwidth.Rank.TheVariants.{Emergency, Normal}
-use Rattle.srp_base.specs.declared.numbers.NodeNo.{NodeNo}
-use Rattle.srp_base.specs.Firsts.{first_where}
-use Rattle.srp_base.specs.Hexadecimal.{hex12, hex16}
+use Rattle.std.specs.{Cmp.Lexicographic.pointwise, List.list_any}
+use Rattle.srp_base.specs.declared.{bandwidth.Rank.Rank, bandwidth.Rank.TheVariants.Emergency, bandwidth.Rank.TheVariants.Normal, numbers.NodeNo.NodeNo}
+use Rattle.srp_base.specs.{Firsts.first_where, Hexadecimal.hex12, Hexadecimal.hex16}
 use Rattle.toml.specs.Data.{Members}
 use Rattle.toml_rules.specs.Fields.{◌>>=◌, number, number_or, within, text, has_only}
-use Rattle.topology_file.specs.declared.entries.NodeEntry.{NodeEntry}
-use Rattle.topology_file.specs.declared.entries.StreamEntry.{StreamEntry}
-use Rattle.topology_file.specs.declared.entries.StreamForm.{StreamForm}
-use Rattle.topology_file.specs.declared.entries.StreamValues.{StreamValues}
+use Rattle.topology_file.specs.declared.{entries.NodeEntry.NodeEntry, entries.StreamEntry.StreamEntry, entries.StreamForm.StreamForm, entries.StreamValues.StreamValues}
 use Rattle.topology_file.specs.Entries.{name_at, station_named}
 
 -- what a `[[stream]]` table may say: who talks, and what its Talker declares (IEEE Std 802.1Q-2018, 35.2.2.8)

@@ -1,12 +1,11 @@
 //! The form of each entry: its keys, their values and their defaults.
 
 ghost use Rattle.std.specs.Prelude.{◌≡◌, IfOk};
-ghost use Rattle.std.specs.Option.{option_copied};
+ghost use Rattle.std.specs.{Option.option_copied, List.list_all};
 ghost use Rattle.toml.specs.View.{table_view};
 ghost use Rattle.topology_file.specs.Entries.{is_name_char as is_name_char_spec, is_name as is_name_spec, name_at, kind_of_text, kind_at, id_at, domain_of_text, domain_at, rate_at, latency_at};
 ghost use Rattle.topology_file.specs.Events.{tick_at};
 ghost use Rattle.topology_file.specs.Kinds.{vid_at, index_at, app_of_text, app_at, octets_of_text, pdu_octets_at};
-ghost use Rattle.std.specs.List.{list_all};
 
 use crate::entries::DomainWord;
 use hex::FromHexError;

@@ -3,8 +3,7 @@
 ghost use Rattle.std.specs.Prelude.{◌≡◌, ◌&&◌, ◌≤◌, [], map, length, option_map, IfOk, IfSome};
 ghost use Rattle.srp_base.specs.Firsts.{first_where as first_where_spec};
 ghost use Rattle.toml.specs.View.{table_view};
-ghost use Rattle.toml_rules.specs.Fields.{has_only as has_only_spec};
-ghost use Rattle.toml_rules.specs.Rules.{Reads, each_entry};
+ghost use Rattle.toml_rules.specs.{Fields.has_only as has_only_spec, Rules.Reads, Rules.each_entry};
 ghost use Rattle.tree_topology.specs.Refusal.{is_station as is_station_spec};
 ghost use Rattle.topology_file.specs.Entries.{node_keys, node_entry, has_name as has_name_spec, node_no as node_no_spec, node_named as node_named_spec, station_named as station_named_spec};
 ghost use Rattle.topology_file.specs.Scenario.{has_name_of as has_name_of_spec, has_id_of as has_id_of_spec, is_small as is_small_spec, nodes_of};

@@ -3,8 +3,7 @@
 ghost use Rattle.std.specs.Prelude.{◌≡◌, ◌≤◌, [], length, All, None, IfOk};
 ghost use Rattle.srp_base.specs.Firsts.{first_where as first_where_spec};
 ghost use Rattle.toml_rules.specs.Rules.{Reads};
-ghost use Rattle.tree_topology.specs.Graph.{IsNode};
-ghost use Rattle.tree_topology.specs.Refusal.{refusal, has_unknown_end, is_self_link, joins_both as joins_both_spec, is_second_link as is_second_link_spec};
+ghost use Rattle.tree_topology.specs.{Graph.IsNode, Refusal.refusal, Refusal.has_unknown_end, Refusal.is_self_link, Refusal.joins_both as joins_both_spec, Refusal.is_second_link as is_second_link_spec};
 ghost use Rattle.topology_file.specs.Scenario.{is_crowded as is_crowded_spec, node_kinds, ends_of_entry, tree_links, proper_ends, tree_of, unless_refused, rule_of as rule_of_spec};
 
 use crate::entries::{LinkEntry, NodeEntry};

@@ -1,13 +1,8 @@
 -- A table of parents with falling depths determines all walks of a tree.
 use Rattle.std.proofs.Common.{◌≡◌, ◌≢◌, ℕ, suc, zero, ◌<◌, ◌≤◌, List, [], ◌∷◌, ◌++◌, ◌⊎◌, inl, inr, sym, ap, subst, ◌∙◌, arith}
 use Rattle.std.proofs.lemmas.Bool.{cases_eq}
-use Rattle.tree_topology.specs.declared.graph.Link.{Link}
-use Rattle.tree_topology.specs.Graph.{IsNode, Joined, IsTree}
-use Rattle.tree_topology.specs.Walk.{walk_between}
-use Rattle.tree_topology.proofs.Walks.{IsStraight, straight-path}
-use Rattle.tree_topology.proofs.Links.{joined-known, joined-apart}
-use Rattle.tree_topology.proofs.Forests.{loop_free-tree}
-use Rattle.tree_topology.proofs.Trees.{walk-path, walk-first, walk-last}
+use Rattle.tree_topology.specs.{Link, IsNode, Joined, IsTree, walk_between}
+use Rattle.tree_topology.proofs.{Walks.IsStraight, Walks.straight-path, Links.joined-known, Links.joined-apart, Forests.loop_free-tree, Trees.walk-path, Trees.walk-first, Trees.walk-last}
 
 -- each node but the first is joined with its parent, whose depth is less
 pub record IsRooted (count : ℕ) (links : List Link) (parent depth : ℕ → ℕ) : Type 0 where

@@ -1,17 +1,9 @@
 -- The tables of leaders, step by step.
 use Rattle.std.proofs.Common.{◌≡◌, ◌≢◌, ℕ, ◌+◌, ◌-◌, ◌<◌, ◌≤◌, max, List, [], ◌∷◌, ◌++◌, ◌⊎◌, inl, inr, refl, sym, ap, subst, ◌∙◌, length, get_or, set, take, replicate, arith, below_more}
-use Rattle.std.proofs.lemmas.Bool.{cases_eq, cases_lt}
-use Rattle.std.proofs.lemmas.Bool.Decides.{nat_tests}
-use Rattle.std.proofs.lemmas.List.{map-id, length-set, length-replicate, get_or-replicate, get_or-set_same, get_or-set_other, length_push, get_or_default, take_more, length-take-le}
-use Rattle.std.proofs.lemmas.List.FromFn.{map-range_with_len_more, length-range_with_len, get_or-range_with_len}
+use Rattle.std.proofs.lemmas.{Bool.cases_eq, Bool.cases_lt, Bool.Decides.nat_tests, List.map-id, List.length-set, List.length-replicate, List.get_or-replicate, List.get_or-set_same, List.get_or-set_other, List.length_push, List.get_or_default, List.take_more, List.length-take-le, List.FromFn.map-range_with_len_more, List.FromFn.length-range_with_len, List.FromFn.get_or-range_with_len}
 use Rattle.std.specs.List.{range_with_len}
-use Rattle.tree_topology.specs.declared.graph.Link.{Link}
-use Rattle.tree_topology.specs.Graph.{Joined, Connected}
-use Rattle.tree_topology.specs.Tables.{HasLeaders, LeadsAlong, joined_leaders, joined_ranks}
-use Rattle.tree_topology.proofs.Links.{connected-sym, connected-through, connected-left, connected-over, ConnectedOver, joined-push, joined-last}
-use Rattle.tree_topology.specs.Refusal.{IsFirstLink, ClosesLoop}
-use Rattle.tree_topology.proofs.Walks.{reaches-step}
-use Rattle.tree_topology.proofs.WalkBetween.{empty-walk}
+use Rattle.tree_topology.specs.{Link, Joined, Connected, HasLeaders, LeadsAlong, joined_leaders, joined_ranks, IsFirstLink, ClosesLoop}
+use Rattle.tree_topology.proofs.{Links.connected-sym, Links.connected-through, Links.connected-left, Links.connected-over, Links.ConnectedOver, Links.joined-push, Links.joined-last, Walks.reaches-step, WalkBetween.empty-walk}
 
 -- two leaders aren't connected
 abbrev HasApartLeaders : List Link → List ℕ → Type 0

@@ -1,13 +1,9 @@
 -- Links of which each joins two components of those after it: straight walks are unique, `component`
 -- tells who is connected, and `walk_between` is a walk without a repeated node.
 use Rattle.std.proofs.Common.{◌≡◌, ◌≢◌, ℕ, suc, zero, ◌+◌, ◌<◌, ◌≤◌, List, [], ◌∷◌, ◌⊎◌, inl, inr, refl, sym, subst, ◌∙◌, length, get_or, take, arith, add-one}
-use Rattle.std.proofs.lemmas.List.{take_more, take_all}
-use Rattle.std.proofs.lemmas.List.Elements.{All-head, All-tail}
-use Rattle.tree_topology.specs.declared.graph.Link.{Link}
-use Rattle.tree_topology.specs.Graph.{IsNode, Joins, Joined, IsWalk, IsPath, Connected, HasKnownEnds, HasNoSelfLink, HasNoSecondLink, IsGraph, IsTree}
-use Rattle.tree_topology.specs.Refusal.{HasNoLoop}
-use Rattle.tree_topology.proofs.Walks.{IsLoopFree, IsStraight, loop_free-link, walk-widen, path-from_walk, straight-path}
-use Rattle.tree_topology.proofs.Links.{joined-sym, joined-push, joins-ends, joined-at, connected-sym, connected-through}
+use Rattle.std.proofs.lemmas.{List.take_more, List.take_all, List.Elements.All-head, List.Elements.All-tail}
+use Rattle.tree_topology.specs.{Link, IsNode, Joins, Joined, IsWalk, IsPath, Connected, HasKnownEnds, HasNoSelfLink, HasNoSecondLink, IsGraph, IsTree, HasNoLoop}
+use Rattle.tree_topology.proofs.{Walks.IsLoopFree, Walks.IsStraight, Walks.loop_free-link, Walks.walk-widen, Walks.path-from_walk, Walks.straight-path, Links.joined-sym, Links.joined-push, Links.joins-ends, Links.joined-at, Links.connected-sym, Links.connected-through}
 
 -- each link joins two components of those after it
 abbrev pub IsForest : List Link → Type 0

@@ -1,8 +1,7 @@
 -- Which nodes a list of links joins and connects, and what one link more changes.
 use Rattle.std.proofs.Common.{◌≡◌, ◌≢◌, ℕ, suc, zero, ◌<◌, List, [], ◌∷◌, ◌++◌, ◌⊎◌, inl, inr, sym, subst, ◌∙◌, length, get_or, take, arith}
 use Rattle.std.proofs.lemmas.List.Elements.{All-head, All-tail}
-use Rattle.tree_topology.specs.declared.graph.Link.{Link}
-use Rattle.tree_topology.specs.Graph.{IsNode, Joins, Joined, IsWalk, Connected, HasKnownEnds, HasNoSelfLink}
+use Rattle.tree_topology.specs.{Link, IsNode, Joins, Joined, IsWalk, Connected, HasKnownEnds, HasNoSelfLink}
 use Rattle.tree_topology.proofs.Walks.{reaches-back, reaches-through, reaches-step, reaches-widen, reaches-same}
 
 pub joins-sym : (l : Link) (x y : ℕ) → Joins l x y → Joins l y x

@@ -1,15 +1,8 @@
 -- A list of different numbers below n is no longer than n: so a graph has few links.
 use Rattle.std.proofs.Common.{◌≡◌, ◌≢◌, ℕ, suc, zero, ◌+◌, ◌*◌, ◌<◌, ◌≤◌, List, [], ◌∷◌, inl, inr, sym, subst, length, get_or, map, arith}
-use Rattle.std.proofs.lemmas.Bool.{cases_eq}
-use Rattle.std.proofs.lemmas.List.{length-map}
-use Rattle.std.proofs.lemmas.Nat.{mul-add-lt, same_from_place}
-use Rattle.std.proofs.lemmas.List.Elements.{All-head, All-tail}
-use Rattle.tree_topology.specs.declared.graph.Link.{Link}
-use Rattle.tree_topology.specs.Graph.{IsNode, Joined, IsAbsent, HasNoRepeat, HasKnownEnds, IsGraph}
-use Rattle.tree_topology.specs.Ports.{neighbours}
-use Rattle.tree_topology.proofs.Links.{joined-known}
-use Rattle.tree_topology.proofs.Forests.{IsApart, apart-from_graph}
-use Rattle.tree_topology.proofs.PortFacts.{neighbours-differ, neighbour-joined}
+use Rattle.std.proofs.lemmas.{Bool.cases_eq, List.length-map, Nat.mul-add-lt, Nat.same_from_place, List.Elements.All-head, List.Elements.All-tail}
+use Rattle.tree_topology.specs.{Link, IsNode, Joined, IsAbsent, HasNoRepeat, HasKnownEnds, IsGraph, neighbours}
+use Rattle.tree_topology.proofs.{Links.joined-known, Forests.IsApart, Forests.apart-from_graph, PortFacts.neighbours-differ, PortFacts.neighbour-joined}
 
 -- each number is below n
 abbrev pub IsBelow : ℕ → List ℕ → Type 0

@@ -1,16 +1,11 @@
 -- A node's neighbours in the order of its links: whom they name, that none stands twice, and the
 -- place of each.
 use Rattle.std.proofs.Common.{◌≡◌, ◌≢◌, ℕ, suc, zero, ◌+◌, ◌-◌, ◌<◌, Option, Some, None, List, [], ◌∷◌, ◌⊎◌, inl, inr, refl, sym, ap, subst, ◌∙◌, length, get_or, arith}
-use Rattle.std.proofs.lemmas.Bool.{cases_eq}
-use Rattle.std.proofs.lemmas.Bool.Decides.{nat_tests}
-use Rattle.std.proofs.lemmas.List.Elements.{All-head, All-tail}
+use Rattle.std.proofs.lemmas.{Bool.cases_eq, Bool.Decides.nat_tests, List.Elements.All-head, List.Elements.All-tail}
 use Rattle.std.specs.List.{cons_option}
 use Rattle.srp_base.specs.declared.numbers.EgressPort.{EgressPort}
-use Rattle.tree_topology.specs.declared.graph.Link.{Link}
-use Rattle.tree_topology.specs.Graph.{Joins, Joined, IsAbsent, HasNoRepeat, HasNoSelfLink, IsTree}
-use Rattle.tree_topology.specs.Ports.{far_end, neighbours, index_in, port_to, IsPort, far_node, peer_of}
-use Rattle.tree_topology.proofs.Links.{joined-sym, joined-known}
-use Rattle.tree_topology.proofs.Forests.{IsApart, apart-from_graph}
+use Rattle.tree_topology.specs.{Link, Joins, Joined, IsAbsent, HasNoRepeat, HasNoSelfLink, IsTree, far_end, neighbours, index_in, port_to, IsPort, far_node, peer_of}
+use Rattle.tree_topology.proofs.{Links.joined-sym, Links.joined-known, Forests.IsApart, Forests.apart-from_graph}
 
 -- a link leads from a node to the other end, or not at all
 pub far_end-cases : (x : ℕ) (l : Link) → ((v : ℕ) × (far_end x l ≡ Some v) × Joins l x v) ⊎ ((far_end x l ≡ None) × (l.a.0 ≢ x) × (l.b.0 ≢ x))

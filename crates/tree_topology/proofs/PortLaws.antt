@@ -1,24 +1,11 @@
 -- The laws of a tree over its ports.
 use Rattle.std.proofs.Common.{◌≡◌, ◌≢◌, ℕ, suc, zero, ◌+◌, ◌-◌, ◌<◌, ◌≤◌, Bool, true, false, not, cond, List, [], ◌∷◌, ◌⊎◌, inl, inr, refl, sym, ap, subst, ◌∙◌, length, get_or, arith}
-use Rattle.std.proofs.lemmas.Bool.{false≢true, false_from_ne_true}
-use Rattle.std.proofs.lemmas.Bool.Decides.{nat_tests}
-use Rattle.std.proofs.lemmas.List.Sums.{sum_by-cons}
-use Rattle.std.proofs.lemmas.List.FromFn.{length-range_with_len, get_or-range_with_len}
-use Rattle.std.specs.List.{count_by, range_with_len}
+use Rattle.std.proofs.lemmas.{Bool.false≢true, Bool.false_from_ne_true, Bool.Decides.nat_tests, List.Sums.sum_by-cons, List.FromFn.length-range_with_len, List.FromFn.get_or-range_with_len}
+use Rattle.std.specs.{List.count_by, List.range_with_len, Bool.IsTrue}
 use Rattle.srp_base.specs.declared.numbers.EgressPort.{EgressPort}
-use Rattle.tree_topology.specs.declared.graph.Link.{Link}
-use Rattle.tree_topology.specs.Graph.{IsNode, Joined, IsPath, IsTree, IsWalk}
-use Rattle.tree_topology.specs.Ports.{port_to, IsPort, far_node, peer_of, egress_ports, IsPortPath, LiesBehind, link_at, ends_of}
-use Rattle.tree_topology.specs.Walk.{walk_between, path_between, begins_with, is_behind, count_behind}
-use Rattle.std.specs.Bool.{IsTrue}
+use Rattle.tree_topology.specs.{Link, IsNode, Joined, IsPath, IsTree, IsWalk, port_to, IsPort, far_node, peer_of, egress_ports, IsPortPath, LiesBehind, link_at, ends_of, walk_between, path_between, begins_with, is_behind, count_behind, NodeKind, IsAccepted}
 use Rattle.std.specs.Prelude.{◌↔◌}
-use Rattle.tree_topology.specs.declared.graph.NodeKind.{NodeKind}
-use Rattle.tree_topology.specs.Refusal.{IsAccepted}
-use Rattle.tree_topology.proofs.Links.{joined-sym, joined-known}
-use Rattle.tree_topology.proofs.Trees.{walk-path, walk-one_path, walk-self, walk-first, walk-begins, side-far, side-near, begins-same}
-use Rattle.tree_topology.proofs.Refusals.{link-joined}
-use Rattle.tree_topology.proofs.RouteFacts.{sides}
-use Rattle.tree_topology.proofs.PortFacts.{port-leads, port-joined, port-is, peer-of_port}
+use Rattle.tree_topology.proofs.{Links.joined-sym, Links.joined-known, Trees.walk-path, Trees.walk-one_path, Trees.walk-self, Trees.walk-first, Trees.walk-begins, Trees.side-far, Trees.side-near, Trees.begins-same, Refusals.link-joined, RouteFacts.sides, PortFacts.port-leads, PortFacts.port-joined, PortFacts.port-is, PortFacts.peer-of_port}
 
 -- the egress ports of the walk without a repeated node are `path_between`
 pub ports-of_path : (count : ℕ) (links : List Link) → IsTree count links → (x y : ℕ) (ports : List EgressPort)

@@ -4,17 +4,9 @@ use Rattle.std.proofs.Common.{◌≡◌, ◌≢◌, ℕ, suc, zero, ◌+◌, ◌
 use Rattle.std.specs.Bool.{IsTrue}
 use Rattle.std.specs.Prelude.{◌↔◌}
 use Rattle.srp_base.specs.declared.numbers.EgressPort.{EgressPort}
-use Rattle.tree_topology.specs.declared.graph.Link.{Link}
-use Rattle.tree_topology.specs.Graph.{IsNode, Joins, IsTree}
-use Rattle.tree_topology.specs.Ports.{port_to, IsPort, far_node, peer_of, egress_ports, link_at, ends_of}
-use Rattle.tree_topology.specs.Topology.{Topology, HasPort, IsSound}
-use Rattle.tree_topology.specs.Walk.{walk_between, path_between, is_behind, count_behind}
-use Rattle.tree_topology.specs.PortLaws.{IsPropagated, HasBehind, HasPortLaws}
-use Rattle.tree_topology.proofs.Links.{joined-at, joined-sym}
-use Rattle.tree_topology.proofs.Trees.{walk-path, walk-begins, walk-last, side-far}
-use Rattle.tree_topology.proofs.RouteFacts.{egress-push}
-use Rattle.tree_topology.proofs.PortFacts.{port-leads, port-joined, port-is}
-use Rattle.tree_topology.proofs.PortLaws.{far-known, peer-port, peer-peer, ends-peers, behind-far, behind-own, behind-beyond, behind-one, behind-sides, behind-splits, behind-falls, first-port, path-begins, path-empty}
+use Rattle.tree_topology.specs.{Link, IsNode, Joins, IsTree, port_to, IsPort, far_node, peer_of, egress_ports, link_at, ends_of, HasPort, IsSound, walk_between, path_between, is_behind, count_behind, IsPropagated, HasBehind, HasPortLaws}
+use Rattle.tree_topology.specs.Topology.{Topology}
+use Rattle.tree_topology.proofs.{Links.joined-at, Links.joined-sym, Trees.walk-path, Trees.walk-begins, Trees.walk-last, Trees.side-far, RouteFacts.egress-push, PortFacts.port-leads, PortFacts.port-joined, PortFacts.port-is, PortLaws.far-known, PortLaws.peer-port, PortLaws.peer-peer, PortLaws.ends-peers, PortLaws.behind-far, PortLaws.behind-own, PortLaws.behind-beyond, PortLaws.behind-one, PortLaws.behind-sides, PortLaws.behind-splits, PortLaws.behind-falls, PortLaws.first-port, PortLaws.path-begins, PortLaws.path-empty}
 use Rattle.std.proofs.lemmas.Bool.{false≢true, false_from_ne_true}
 
 -- a port is an end of the link that joins its node with the far one

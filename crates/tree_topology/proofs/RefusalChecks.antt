@@ -1,36 +1,18 @@
 -- The refusal as a function is the one that fits.
 use Rattle.std.proofs.Common.{◌≡◌, ◌≢◌, ℕ, ◌+◌, ◌-◌, ◌<◌, ◌≤◌, Bool, true, false, not, ◌&&◌, ◌||◌, ◌==◌, List, [], ◌∷◌, inl, inr, Option, Some, None, refl, sym, ap, subst, ◌∙◌, length, get_or, take, leb-true, ltb-true, eqb-true, arith}
-use Rattle.std.proofs.lemmas.Bool.{and_parts, cases_lt, false≢true}
-use Rattle.std.proofs.lemmas.Bool.Decides.{nat_tests}
-use Rattle.std.proofs.lemmas.List.{length-take-le, get_or_default}
+use Rattle.std.proofs.lemmas.{Bool.and_parts, Bool.cases_lt, Bool.false≢true, Bool.Decides.nat_tests, List.length-take-le, List.get_or_default}
 use Rattle.std.specs.Prelude.{nat_le, nat_lt}
 use Rattle.std.specs.List.{list_any}
+use Rattle.srp_base.proofs.{Bools.held_from as not-flips, Arithmetic.is_same as eqb-same, Bools.not-true-false}
 use Rattle.srp_base.specs.Firsts.{first_where}
 use Rattle.srp_base.proofs.FirstLemmas.{where-some, where-none}
-use Rattle.tree_topology.specs.declared.graph.Link.{Link}
-use Rattle.tree_topology.specs.declared.graph.NodeKind.{NodeKind}
-use Rattle.tree_topology.specs.declared.graph.NodeKind.TheVariants.{Station, Bridge}
-use Rattle.tree_topology.specs.declared.graph.TreeErr.{TreeErr}
-use Rattle.tree_topology.specs.declared.graph.TreeErr.TheVariants.{NoMemory}
-use Rattle.tree_topology.specs.Graph.{IsNode, Joins, Joined, Connected, HasKnownEnds, HasNoSelfLink, IsGraph, IsTree}
-use Rattle.tree_topology.specs.Ports.{neighbours}
-use Rattle.tree_topology.specs.Walk.{component}
-use Rattle.tree_topology.specs.Refusal.{IsFirstLink, IsFirstNode, HasUnknownEnd, IsSelfLink, IsSecondLink, ClosesLoop, HasNoLoop, IsStationWithLinks, HasTooManyLinks, HasLeafStations, IsAccepted, IsRefusal, is_node, has_unknown_end, is_self_link, joins_both, is_second_link, closes_loop, is_unconnected, is_station, is_stray_station, has_too_many_links, refused_or, node_refusal, refusal}
-use Rattle.tree_topology.proofs.WalkBetween.{connected-from_component, component-walk}
-use Rattle.tree_topology.proofs.Forests.{tree-from_checks}
-use Rattle.tree_topology.proofs.Refusals.{accepted-refusal, refusals-same}
+use Rattle.tree_topology.specs.{Link, NodeKind, Station, Bridge, TreeErr, NoMemory, IsNode, Joins, Joined, Connected, HasKnownEnds, HasNoSelfLink, IsGraph, IsTree, neighbours, component, IsFirstLink, IsFirstNode, HasUnknownEnd, IsSelfLink, IsSecondLink, ClosesLoop, HasNoLoop, IsStationWithLinks, HasTooManyLinks, HasLeafStations, IsAccepted, IsRefusal, is_node, has_unknown_end, is_self_link, joins_both, is_second_link, closes_loop, is_unconnected, is_station, is_stray_station, has_too_many_links, refused_or, node_refusal, refusal}
+use Rattle.tree_topology.proofs.{WalkBetween.connected-from_component, WalkBetween.component-walk, Forests.tree-from_checks, Refusals.accepted-refusal, Refusals.refusals-same}
 
 -- ---- tests and the faults that they find
 
 not-found : (b : Bool) (Fault : Type 0) → (Fault → b ≡ true) → b ≡ false → ¬ Fault
 not-found b Fault finds e f = false≢true (sym e ∙ finds f)
-
-eqb-same : (x y : ℕ) → x ≡ y → (x == y) ≡ true
-eqb-same x y e = grind (arith, nat_tests)
-
-not-flips : (b : Bool) → not b ≡ true → b ≡ false
-not-flips false e = refl
-not-flips true e = sym e
 
 not-true : (b : Bool) → ¬ (b ≡ true) → not b ≡ true
 not-true true h = absurd (h refl)
@@ -60,10 +42,6 @@ unknown-end count earlier l e ends =
 
 end-unknown : (count : ℕ) (earlier : List Link) (l : Link) → HasUnknownEnd count earlier l → has_unknown_end count earlier l ≡ true
 end-unknown count earlier l f = not-true (is_node count l.a.0 && is_node count l.b.0) (λ t. f (both-nodes count l t))
-
-not-true-false : (b : Bool) → not b ≡ false → b ≡ true
-not-true-false true f = refl
-not-true-false false f = sym f
 
 joins-both : (x y : ℕ) (l : Link) → Joins l x y → joins_both x y l ≡ true
 joins-both x y l j = elim j [

@@ -1,17 +1,9 @@
 -- At most one refusal fits, and none fits an accepted tree.
 use Rattle.std.proofs.Common.{◌≡◌, ◌≢◌, ℕ, suc, zero, ◌<◌, ◌≤◌, List, [], ◌∷◌, inl, inr, refl, sym, ap, subst, ◌∙◌, length, get_or, take, arith}
 use Rattle.std.proofs.lemmas.Bool.{cases_lt}
-use Rattle.srp_base.specs.declared.numbers.LinkNo.{LinkNo}
-use Rattle.srp_base.specs.declared.numbers.NodeNo.{NodeNo}
-use Rattle.tree_topology.specs.declared.graph.Link.{Link}
-use Rattle.tree_topology.specs.declared.graph.NodeKind.{NodeKind}
-use Rattle.tree_topology.specs.declared.graph.TreeErr.{TreeErr}
-use Rattle.tree_topology.specs.declared.graph.TreeErr.TheVariants.{UnknownNode, SelfLink, SecondLink, Loop, Unconnected, StationWithLinks, TooManyLinks, NoMemory}
-use Rattle.tree_topology.specs.Graph.{Joined, IsWalk, IsPath, Connected, HasKnownEnds, HasNoSelfLink, HasNoSecondLink, IsTree}
-use Rattle.tree_topology.specs.Refusal.{IsFirstLink, IsFirstNode, HasUnknownEnd, IsSelfLink, IsSecondLink, ClosesLoop, HasNoLoop, IsStationWithLinks, HasTooManyLinks, HasLeafStations, HasCountedPorts, IsAccepted, IsRefusal}
-use Rattle.tree_topology.proofs.Walks.{walk-widen, path-from_walk}
-use Rattle.tree_topology.proofs.Links.{joined-take}
-use Rattle.tree_topology.proofs.Trees.{tree-connected}
+use Rattle.srp_base.specs.declared.{numbers.LinkNo.LinkNo, numbers.NodeNo.NodeNo}
+use Rattle.tree_topology.specs.{Link, NodeKind, TreeErr, UnknownNode, SelfLink, SecondLink, Loop, Unconnected, StationWithLinks, TooManyLinks, NoMemory, Joined, IsWalk, IsPath, Connected, HasKnownEnds, HasNoSelfLink, HasNoSecondLink, IsTree, IsFirstLink, IsFirstNode, HasUnknownEnd, IsSelfLink, IsSecondLink, ClosesLoop, HasNoLoop, IsStationWithLinks, HasTooManyLinks, HasLeafStations, HasCountedPorts, IsAccepted, IsRefusal}
+use Rattle.tree_topology.proofs.{Walks.walk-widen, Walks.path-from_walk, Links.joined-take, Trees.tree-connected}
 
 abbrev no_link : Link
 no_link = record { a = record { 0 = 0 }; b = record { 0 = 0 } }

@@ -1,24 +1,10 @@
 -- What the tables of a tree's parents and depths say of its walks.
 use Rattle.std.proofs.Common.{◌≡◌, ◌≢◌, ℕ, ◌+◌, ◌-◌, ◌<◌, ◌≤◌, Bool, true, false, not, ◌==◌, List, [], ◌∷◌, ◌++◌, inl, inr, refl, sym, ap, subst, ◌∙◌, length, get_or, reverse, arith}
-use Rattle.std.proofs.lemmas.Bool.{cases_eq, false≢true}
-use Rattle.std.proofs.lemmas.Bool.Decides.{nat_tests}
-use Rattle.std.proofs.lemmas.List.{append_assoc, reverse-append}
-use Rattle.std.proofs.lemmas.List.Sums.{position_or_len_is}
+use Rattle.std.proofs.lemmas.{Bool.cases_eq, Bool.false≢true, Bool.Decides.nat_tests, List.append_assoc, List.reverse-append, List.Sums.position_or_len_is}
 use Rattle.srp_base.specs.declared.numbers.EgressPort.{EgressPort}
-use Rattle.tree_topology.specs.declared.graph.Link.{Link}
-use Rattle.tree_topology.specs.declared.graph.NodeKind.{NodeKind}
-use Rattle.tree_topology.specs.Graph.{IsNode, Joined, IsWalk, IsTree}
-use Rattle.tree_topology.specs.Ports.{neighbours, index_in, port_to, IsPort, far_node, egress_ports, link_at}
-use Rattle.tree_topology.specs.Walk.{walk_between, path_between, begins_with, is_behind}
-use Rattle.tree_topology.specs.Routes.{Routed, IsRooted, IsRouted, ports_made}
+use Rattle.tree_topology.specs.{Link, NodeKind, IsNode, Joined, IsWalk, IsTree, neighbours, index_in, port_to, IsPort, far_node, egress_ports, link_at, walk_between, path_between, begins_with, is_behind, Routed, IsRooted, IsRouted, ports_made}
 use Rattle.tree_topology.proofs.Climbs as climbs
-use Rattle.tree_topology.proofs.Climbs.{walk-up, walk-down, not-top, parent-joined}
-use Rattle.tree_topology.proofs.Links.{joined-sym, joined-known}
-use Rattle.tree_topology.proofs.Trees.{walk-path, walk-joined, begins-same, side-far, side-near}
-use Rattle.tree_topology.proofs.WalkBetween.{within}
-use Rattle.tree_topology.proofs.PortFacts.{port-leads, port-joined}
-use Rattle.tree_topology.proofs.ListReads.{read-at}
-use Rattle.tree_topology.proofs.Refusals.{link-joined}
+use Rattle.tree_topology.proofs.{Climbs.walk-up, Climbs.walk-down, Climbs.not-top, Climbs.parent-joined, Links.joined-sym, Links.joined-known, Trees.walk-path, Trees.walk-joined, Trees.begins-same, Trees.side-far, Trees.side-near, WalkBetween.within, PortFacts.port-leads, PortFacts.port-joined, ListReads.read-at, Refusals.link-joined}
 
 -- the tables as functions
 rooted-by : (count : ℕ) (links : List Link) (parents depths : List ℕ) → IsRooted count links parents depths

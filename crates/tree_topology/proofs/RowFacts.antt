@@ -1,17 +1,9 @@
 -- The rows of neighbours, link by link.
 use Rattle.std.proofs.Common.{◌≡◌, ◌≢◌, ℕ, suc, zero, ◌+◌, ◌<◌, Bool, true, false, ◌==◌, ◌||◌, if◌then◌else◌, Option, Some, None, List, [], ◌∷◌, ◌++◌, ◌⊎◌, inl, inr, refl, sym, ap, subst, ◌∙◌, length, get_or, take, below_more, arith}
-use Rattle.std.proofs.lemmas.Bool.{cases_eq, eq-eqb, ne_eqb, false≢true}
-use Rattle.std.proofs.lemmas.List.{append-nil, take_more, length-set, get_or-set_same, get_or-set_other, get_or_default}
-use Rattle.std.proofs.lemmas.List.Elements.{filter_map-append, All-take}
+use Rattle.std.proofs.lemmas.{Bool.cases_eq, Bool.eq-eqb, Bool.ne_eqb, Bool.false≢true, List.append-nil, List.take_more, List.length-set, List.get_or-set_same, List.get_or-set_other, List.get_or_default, List.Elements.filter_map-append, List.Elements.All-take}
 use Rattle.std.specs.List.{list_any, cons_option}
-use Rattle.tree_topology.specs.declared.graph.Link.{Link}
-use Rattle.tree_topology.specs.declared.graph.NodeKind.{NodeKind}
-use Rattle.tree_topology.specs.Graph.{IsNode, Joins, Joined, HasKnownEnds, HasNoSelfLink, IsGraph}
-use Rattle.tree_topology.specs.Ports.{far_end, neighbours}
-use Rattle.tree_topology.specs.Refusal.{IsFirstLink, IsSecondLink}
-use Rattle.tree_topology.specs.Tables.{HasRows, with_neighbour, with_link}
-use Rattle.tree_topology.proofs.Links.{joined-sym}
-use Rattle.tree_topology.proofs.PortFacts.{far_end-joins, neighbour-joined, joined-neighbour}
+use Rattle.tree_topology.specs.{Link, NodeKind, IsNode, Joins, Joined, HasKnownEnds, HasNoSelfLink, IsGraph, far_end, neighbours, IsFirstLink, IsSecondLink, HasRows, with_neighbour, with_link}
+use Rattle.tree_topology.proofs.{Links.joined-sym, PortFacts.far_end-joins, PortFacts.neighbour-joined, PortFacts.joined-neighbour}
 
 -- no link before this place joins the same nodes as an earlier one
 abbrev pub IsApartTo : List Link → ℕ → Type 0

@@ -1,19 +1,8 @@
 -- The search from node 1, step by step.
 use Rattle.std.proofs.Common.{◌≡◌, ◌≢◌, ℕ, zero, suc, ◌+◌, ◌-◌, ◌<◌, ◌≤◌, ◌==◌, nat_lt, if◌then◌else◌, Bool, true, false, cond, List, [], ◌∷◌, ◌++◌, inl, inr, refl, sym, ap, subst, ◌∙◌, length, get_or, set, replicate, below_more, arith}
-use Rattle.std.proofs.lemmas.Bool.{cases_eq, cases_lt}
-use Rattle.std.proofs.lemmas.Bool.Decides.{nat_tests}
-use Rattle.std.proofs.lemmas.List.{length-set, length-replicate, get_or-set_same, get_or-set_other, length_push, get_or_append_left, get_or_push}
-use Rattle.std.proofs.lemmas.List.Folds.{sum_by-replicate}
-use Rattle.std.proofs.lemmas.List.Sums.{sum_by-set}
-use Rattle.tree_topology.specs.declared.graph.Link.{Link}
-use Rattle.tree_topology.specs.Graph.{IsNode, Joined, IsWalk, Connected, HasKnownEnds, HasNoSelfLink, IsGraph, IsTree}
-use Rattle.tree_topology.specs.Refusal.{HasNoLoop, IsFirstNode}
-use Rattle.tree_topology.proofs.Forests.{tree-from_checks}
-use Rattle.tree_topology.specs.Tables.{IsSpan, Grows, IsClosed, HasReachedAll}
-use Rattle.tree_topology.specs.Ports.{neighbours}
-use Rattle.tree_topology.proofs.PortFacts.{neighbour-joined, joined-neighbour}
-use Rattle.tree_topology.proofs.Walks.{reaches-step}
-use Rattle.tree_topology.proofs.Links.{joined-sym, joined-known, connected-through}
+use Rattle.std.proofs.lemmas.{Bool.cases_eq, Bool.cases_lt, Bool.Decides.nat_tests, List.length-set, List.length-replicate, List.get_or-set_same, List.get_or-set_other, List.length_push, List.get_or_append_left, List.get_or_push, List.Folds.sum_by-replicate, List.Sums.sum_by-set}
+use Rattle.tree_topology.specs.{Link, IsNode, Joined, IsWalk, Connected, HasKnownEnds, HasNoSelfLink, IsGraph, IsTree, HasNoLoop, IsFirstNode, IsSpan, Grows, IsClosed, HasReachedAll, neighbours}
+use Rattle.tree_topology.proofs.{Forests.tree-from_checks, PortFacts.neighbour-joined, PortFacts.joined-neighbour, Walks.reaches-step, Links.joined-sym, Links.joined-known, Links.connected-through}
 
 grows-same : (parents order : List ℕ) → Grows parents order parents order
 grows-same parents order = record {

@@ -1,16 +1,9 @@
 -- The walks of a tree: `walk_between` is the one straight walk, a link has each node on exactly one of
 -- its sides, and a walk turned round is the walk back.
 use Rattle.std.proofs.Common.{◌≡◌, ◌≢◌, ℕ, true, false, List, [], ◌∷◌, ◌++◌, refl, sym, ap, subst, ◌∙◌, reverse, arith}
-use Rattle.std.proofs.lemmas.Bool.{false≢true, false_from_ne_true}
-use Rattle.std.proofs.lemmas.Bool.Decides.{nat_tests}
-use Rattle.std.proofs.lemmas.List.{reverse-append}
-use Rattle.tree_topology.specs.declared.graph.Link.{Link}
-use Rattle.tree_topology.specs.Graph.{IsNode, Joined, IsWalk, IsAbsent, HasNoRepeat, IsPath, Connected, IsTree}
-use Rattle.tree_topology.specs.Walk.{walk_between, begins_with}
-use Rattle.tree_topology.proofs.Walks.{IsStraight, straight-path, walk-append}
-use Rattle.tree_topology.proofs.Links.{joined-sym, joined-known, joined-apart}
-use Rattle.tree_topology.proofs.Forests.{loop_free-tree, forest-from_tree}
-use Rattle.tree_topology.proofs.WalkBetween.{path-walk_between}
+use Rattle.std.proofs.lemmas.{Bool.false≢true, Bool.false_from_ne_true, Bool.Decides.nat_tests, List.reverse-append}
+use Rattle.tree_topology.specs.{Link, IsNode, Joined, IsWalk, IsAbsent, HasNoRepeat, IsPath, Connected, IsTree, walk_between, begins_with}
+use Rattle.tree_topology.proofs.{Walks.IsStraight, Walks.straight-path, Walks.walk-append, Links.joined-sym, Links.joined-known, Links.joined-apart, Forests.loop_free-tree, Forests.forest-from_tree, WalkBetween.path-walk_between}
 
 pub tree-connected : (count : ℕ) (links : List Link) → IsTree count links → (x y : ℕ) → IsNode count x → IsNode count y → Connected links x y
 tree-connected count links tree x y m n = let p = tree.one_path x y m n in (p.0, p.1.0)

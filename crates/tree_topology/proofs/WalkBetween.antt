@@ -1,13 +1,8 @@
 -- `component` tells which nodes links connect, and `walk_between` is a walk without a repeated node.
 use Rattle.std.proofs.Common.{◌≡◌, ◌≢◌, ℕ, List, [], ◌∷◌, ◌++◌, inl, inr, refl, sym, ap, subst, ◌∙◌, arith}
-use Rattle.std.proofs.lemmas.Bool.{cases_eq}
-use Rattle.std.proofs.lemmas.Bool.Decides.{nat_tests}
-use Rattle.tree_topology.specs.declared.graph.Link.{Link}
-use Rattle.tree_topology.specs.Graph.{Joins, Joined, IsWalk, IsAbsent, HasNoRepeat, IsPath, Connected}
-use Rattle.tree_topology.specs.Walk.{component, walk_between}
-use Rattle.tree_topology.proofs.Walks.{reaches-widen, reaches-step, walk-widen, walk-append}
-use Rattle.tree_topology.proofs.Links.{connected-sym, connected-through, connected-over}
-use Rattle.tree_topology.proofs.Forests.{IsForest}
+use Rattle.std.proofs.lemmas.{Bool.cases_eq, Bool.Decides.nat_tests}
+use Rattle.tree_topology.specs.{Link, Joins, Joined, IsWalk, IsAbsent, HasNoRepeat, IsPath, Connected, component, walk_between}
+use Rattle.tree_topology.proofs.{Walks.reaches-widen, Walks.reaches-step, Walks.walk-widen, Walks.walk-append, Links.connected-sym, Links.connected-through, Links.connected-over, Forests.IsForest}
 
 -- one link more makes the component of its far end that of its near end
 merged : (l : Link) (links : List Link) (x : ℕ) → component links x ≡ component links l.b.0 → component (l ∷ links) x ≡ component links l.a.0

@@ -2,7 +2,7 @@
 -- that never go straight back, of which a link between two components leaves at most one.
 use Rattle.std.proofs.Common.{◌≡◌, ◌≢◌, ℕ, List, [], ◌∷◌, ◌++◌, ◌⊎◌, inl, inr, refl, sym, ap, subst, ◌∙◌}
 use Rattle.std.proofs.lemmas.Bool.{cases_eq}
-use Rattle.tree_topology.specs.Graph.{IsWalk, IsAbsent, IsPath}
+use Rattle.tree_topology.specs.{IsWalk, IsAbsent, IsPath}
 
 -- a walk that never goes straight back to where it came from; before it one came from `p`
 abbrev pub IsStraight : (ℕ → ℕ → Type 0) → ℕ → ℕ → List ℕ → ℕ → Type 0

@@ -4,10 +4,7 @@
 --                                      --q2--> behind q2
 use Rattle.std.specs.Prelude.{◌≡◌, ◌≢◌, ◌⊎◌, ◌↔◌, ◌<◌, ℕ, Bool, [], ◌∷◌, ◌++◌, IsTrue, not, length}
 use Rattle.srp_base.specs.declared.numbers.EgressPort.{EgressPort}
-use Rattle.tree_topology.specs.Graph.{Joined}
-use Rattle.tree_topology.specs.Ports.{port_to, far_node, peer_of, ends_of}
-use Rattle.tree_topology.specs.Topology.{Topology, HasNode, HasLink, HasPort}
-use Rattle.tree_topology.specs.Walk.{path_between, is_behind, count_behind}
+use Rattle.tree_topology.specs.{Graph.Joined, Ports.port_to, Ports.far_node, Ports.peer_of, Ports.ends_of, Topology.Topology, Topology.HasNode, Topology.HasLink, Topology.HasPort, Walk.path_between, Walk.is_behind, Walk.count_behind}
 
 -- the port is the end `a` of the link of this number, or its end `b`
 abbrev pub IsEndOf : Topology → EgressPort → ℕ → Type 0

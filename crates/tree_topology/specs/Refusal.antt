@@ -4,14 +4,9 @@ use Rattle.std.specs.Prelude.{◌≡◌, ◌≢◌, ℕ, ◌+◌, ◌-◌, ◌�
 use Rattle.std.specs.List.{list_any}
 use Rattle.std.proofs.Common.{take, get_or}
 use Rattle.srp_base.specs.Firsts.{first_where}
-use Rattle.tree_topology.specs.declared.graph.Link.{Link}
-use Rattle.tree_topology.specs.declared.graph.NodeKind.{NodeKind}
-use Rattle.tree_topology.specs.declared.graph.NodeKind.TheVariants.{Station, Bridge}
-use Rattle.tree_topology.specs.declared.graph.TreeErr.{TreeErr}
+use Rattle.tree_topology.specs.declared.{graph.Link.Link, graph.NodeKind.NodeKind, graph.NodeKind.TheVariants.Station, graph.NodeKind.TheVariants.Bridge, graph.TreeErr.TreeErr}
 use Rattle.tree_topology.specs.declared.graph.TreeErr.TheVariants.{UnknownNode, SelfLink, SecondLink, Loop, Unconnected, StationWithLinks, TooManyLinks, NoMemory}
-use Rattle.tree_topology.specs.Graph.{IsNode, Joined, Connected, HasKnownEnds, HasNoSelfLink, IsGraph, IsTree}
-use Rattle.tree_topology.specs.Ports.{neighbours}
-use Rattle.tree_topology.specs.Walk.{component}
+use Rattle.tree_topology.specs.{Graph.IsNode, Graph.Joined, Graph.Connected, Graph.HasKnownEnds, Graph.HasNoSelfLink, Graph.IsGraph, Graph.IsTree, Ports.neighbours, Walk.component}
 
 -- the first link, counted from 1, at which a fault stands; a link is judged by those before it
 abbrev pub IsFirstLink : (List Link → Link → Type 0) → List Link → ℕ → Type 0

@@ -2,11 +2,8 @@
 use Rattle.std.specs.Prelude.{◌≡◌, ◌≢◌, ℕ, ◌+◌, ◌<◌, List, ◌++◌, length, reverse}
 use Rattle.std.proofs.Common.{get_or}
 use Rattle.srp_base.specs.declared.numbers.EgressPort.{EgressPort}
-use Rattle.tree_topology.specs.declared.graph.Link.{Link}
-use Rattle.tree_topology.specs.declared.graph.NodeKind.{NodeKind}
-use Rattle.tree_topology.specs.Graph.{IsNode, Joined}
-use Rattle.tree_topology.specs.Refusal.{IsAccepted}
-use Rattle.tree_topology.specs.Walk.{path_between}
+use Rattle.tree_topology.specs.declared.{graph.Link.Link, graph.NodeKind.NodeKind}
+use Rattle.tree_topology.specs.{Graph.IsNode, Graph.Joined, Refusal.IsAccepted, Walk.path_between}
 
 -- the kinds and links of a tree, with the parent and the depth of each node at the place of its number
 pub record Routed : Type 0 where

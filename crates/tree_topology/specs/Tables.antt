@@ -3,8 +3,7 @@ use Rattle.std.specs.Prelude.{◌≡◌, ◌≢◌, ℕ, ◌+◌, ◌<◌, ◌�
 use Rattle.std.proofs.Common.{get_or, set}
 use Rattle.tree_topology.specs.declared.graph.Link.{Link}
 use Rattle.std.specs.List.{count_by}
-use Rattle.tree_topology.specs.Graph.{IsNode, Joined, Connected}
-use Rattle.tree_topology.specs.Ports.{neighbours}
+use Rattle.tree_topology.specs.{Graph.IsNode, Graph.Joined, Graph.Connected, Ports.neighbours}
 
 -- row x has the neighbours of node x; row 0 has none
 pub record HasRows (count : ℕ) (links : List Link) (rows : List (List ℕ)) : Type 0 where

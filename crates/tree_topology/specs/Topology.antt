@@ -1,11 +1,8 @@
 -- A tree as contracts see it, and what its nodes, links and ports are.
 use Rattle.std.specs.Prelude.{ℕ, ◌≤◌, List, [], ◌∷◌, flat_map, length}
 use Rattle.srp_base.specs.declared.numbers.EgressPort.{EgressPort}
-use Rattle.tree_topology.specs.declared.graph.Link.{Link}
-use Rattle.tree_topology.specs.declared.graph.NodeKind.{NodeKind}
-use Rattle.tree_topology.specs.Graph.{IsNode}
-use Rattle.tree_topology.specs.Ports.{IsPort, port_to}
-use Rattle.tree_topology.specs.Refusal.{IsAccepted}
+use Rattle.tree_topology.specs.declared.{graph.Link.Link, graph.NodeKind.NodeKind}
+use Rattle.tree_topology.specs.{Graph.IsNode, Ports.IsPort, Ports.port_to, Refusal.IsAccepted}
 
 -- the kinds of the nodes and the links between them, both in the order of their numbers
 pub record Topology : Type 0 where

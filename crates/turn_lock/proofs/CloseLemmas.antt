@@ -3,24 +3,13 @@ use Rattle.std.proofs.Common.{◌≡◌, ◌==◌, ◌||◌, ◌⊎◌, inl, inr
 use mathlib.Core.List.{map-append}
 use Rattle.std.proofs.lemmas.List.{append_assoc}
 use Rattle.std.specs.List.{list_any}
+use Rattle.std.proofs.lemmas.Bool.{false_from_ne_true as is_clear}
+use Rattle.srp_base.proofs.Bools.{or_true as or_cases}
 use mathlib.Core.Option.{Option, some, some-injective}
 use lib.ListN.{get_elem?}
 use Rattle.atomic_table.specs.Table.{Final, Seen}
-use Rattle.turn_lock.specs.declared.board.Kept.{Kept}
-use Rattle.turn_lock.specs.declared.board.Known.{Known}
-use Rattle.turn_lock.specs.declared.board.View.{View}
-use Rattle.turn_lock.specs.declared.board.View.TheVariants.{Spent, Living}
-use Rattle.turn_lock.specs.History.{Log, last_state, IsHistory}
-use Rattle.turn_lock.specs.Rule.{tickets_at, tickets_of, ticket_count, at_home, HasEnded, IsInTurn}
-use Rattle.turn_lock.specs.Steps.{Seated}
-use Rattle.turn_lock.specs.Passes.{Lock, PassOf, is_given}
-use Rattle.turn_lock.specs.Closing.{HasCallsOf, HasClosed, HasEndedAll, ended_of, IsLast}
-use Rattle.turn_lock.proofs.SeatLemmas.{at_below, same_known}
-use Rattle.turn_lock.proofs.StepLemmas.{is_clear, not_both}
-
-or_cases : (a b : Bool) → (a || b) ≡ true → (a ≡ true) ⊎ (b ≡ true)
-or_cases true b e = inl refl
-or_cases false b e = inr e
+use Rattle.turn_lock.specs.{Kept, Known, View, Spent, Living, Log, last_state, IsHistory, tickets_at, tickets_of, ticket_count, at_home, HasEnded, IsInTurn, Seated, Lock, PassOf, is_given, HasCallsOf, HasClosed, HasEndedAll, ended_of, IsLast}
+use Rattle.turn_lock.proofs.{SeatLemmas.at_below, SeatLemmas.same_known, StepLemmas.not_both}
 
 module _ {A : Type 0} where
   -- an element that passes the test, with what holds of each

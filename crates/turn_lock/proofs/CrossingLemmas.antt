@@ -5,7 +5,7 @@ use denote.Param.Send.{IsSend, sendable, view_send}
 use denote.Param.SendFields.{as_row_send, declared_send}
 use Rattle.std.specs.contracts.snapshot.Snapshot as snapshots
 use Rattle.atomic_table.proofs.shared.Seat.TheSendSync as seats
-use Rattle.turn_lock.specs.declared.sequential.Sequential.{Ghosts}
+use Rattle.turn_lock.specs.{Ghosts}
 use Rattle.turn_lock.specs.contracts.board.Kept as kept
 use Rattle.turn_lock.proofs.board.Kept.TheSendSync as keeps
 use Rattle.turn_lock.specs.contracts.board.Terms as terms

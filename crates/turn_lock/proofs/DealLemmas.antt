@@ -5,18 +5,8 @@ use mathlib.Core.Option.{some, some-injective, some-ne-none}
 use lib.ListN.{get_elem?}
 use Rattle.atomic_table.specs.Table.{Splits, Joins, opening}
 use Rattle.atomic_table.proofs.Lists.{at_set, set_here, set_else, at_longer}
-use Rattle.turn_lock.specs.declared.board.Kept.{Kept}
-use Rattle.turn_lock.specs.declared.board.Known.{Known}
-use Rattle.turn_lock.specs.declared.board.Stage.TheVariants.{Idle}
-use Rattle.turn_lock.specs.declared.board.View.{View}
-use Rattle.turn_lock.specs.declared.board.View.TheVariants.{Spent, Living}
-use Rattle.turn_lock.specs.History.{Log, calls_of}
-use Rattle.turn_lock.specs.Rule.{tickets_at, first_view, HasEnded, IsTrue, IsInTurn}
-use Rattle.turn_lock.specs.Steps.{dealer, next_view, taker}
-use Rattle.turn_lock.proofs.HistoryLemmas.{nothing_said}
-use Rattle.turn_lock.proofs.SeatLemmas.{living_not_spent, same_known, tickets-set, tickets-append, at_below, all_ended_stay}
-use Rattle.turn_lock.proofs.MoveLemmas.{spent_stays}
-use Rattle.turn_lock.proofs.StepLemmas.{not_both}
+use Rattle.turn_lock.specs.{Kept, Known, Idle, View, Spent, Living, Log, calls_of, tickets_at, first_view, HasEnded, IsTrue, IsInTurn, dealer, next_view, taker}
+use Rattle.turn_lock.proofs.{HistoryLemmas.nothing_said, SeatLemmas.living_not_spent, SeatLemmas.same_known, SeatLemmas.tickets-set, SeatLemmas.tickets-append, SeatLemmas.at_below, SeatLemmas.all_ended_stay, MoveLemmas.spent_stays, StepLemmas.not_both}
 
 at_end : {A : Type 0} (views : List A) (a b : A) (j : ℕ) → get_elem? (views ++ a ∷ []) j ≡ some b → (get_elem? views j ≡ some b) ⊎ ((j ≡ length views) × (a ≡ b))
 at_end [] a b zero e = inr (refl, some-injective a b e)

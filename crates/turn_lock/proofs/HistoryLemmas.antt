@@ -1,8 +1,7 @@
 -- Facts on histories.
 use Rattle.std.proofs.Common.{◌≡◌, ◌==◌, ℕ, List, [], ◌∷◌, ◌++◌, sym, refl, ap, ◌∙◌, subst}
-use Rattle.std.proofs.lemmas.List.{append-nil, append_assoc}
-use Rattle.std.proofs.lemmas.List.Elements.{filter-append}
-use Rattle.turn_lock.specs.History.{Entry, Log, number_of, ask_of, answer_of, calls_of, BeginsWith, last_state, IsHistory}
+use Rattle.std.proofs.lemmas.{List.append-nil, List.append_assoc, List.Elements.filter-append}
+use Rattle.turn_lock.specs.{Entry, Log, number_of, ask_of, answer_of, calls_of, BeginsWith, last_state, IsHistory}
 
 module _ {A : Type 0} where
   abbrev IsCons : List A → Type 0

@@ -4,16 +4,8 @@ use mathlib.Core.Option.{Option, some}
 use lib.ListN.{get_elem?}
 use Rattle.atomic_table.specs.Table.{State}
 use Rattle.atomic_table.proofs.Lists.{at_set, set_else}
-use Rattle.turn_lock.specs.declared.board.Kept.{Kept}
-use Rattle.turn_lock.specs.declared.board.Known.{Known}
-use Rattle.turn_lock.specs.declared.board.Stage.{Stage}
-use Rattle.turn_lock.specs.declared.board.View.{View}
-use Rattle.turn_lock.specs.declared.board.View.TheVariants.{Spent, Living}
-use Rattle.turn_lock.specs.History.{Log, calls_of, BeginsWith, last_state, IsHistory}
-use Rattle.turn_lock.specs.Rule.{tickets_at, at_home, FitsStage, HasEnded, IsTrue, IsInTurn}
-use Rattle.turn_lock.specs.Steps.{at_stage, having_seen}
-use Rattle.turn_lock.proofs.HistoryLemmas.{calls_stay, begins_longer}
-use Rattle.turn_lock.proofs.SeatLemmas.{living_not_spent, same_known, tickets-set, at_below, all_ended_stay}
+use Rattle.turn_lock.specs.{Kept, Known, Stage, View, Spent, Living, Log, calls_of, BeginsWith, last_state, IsHistory, tickets_at, at_home, FitsStage, HasEnded, IsTrue, IsInTurn, at_stage, having_seen}
+use Rattle.turn_lock.proofs.{HistoryLemmas.calls_stay, HistoryLemmas.begins_longer, SeatLemmas.living_not_spent, SeatLemmas.same_known, SeatLemmas.tickets-set, SeatLemmas.at_below, SeatLemmas.all_ended_stay}
 
 module _ {S Ask Answer : Type 0} (does : S → Ask → Answer × S) (start : S) (passes : ℕ) where
   -- a seat that was taken in stays where it is while the living seat at `seat` moves

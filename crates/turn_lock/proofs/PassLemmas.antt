@@ -1,11 +1,7 @@
 -- Facts on passes.
 use Rattle.std.proofs.Common.{◌≡◌, ℕ, [], sym, ap, subst, Result, IfOk, OnErr}
-use Rattle.turn_lock.specs.declared.board.View.TheVariants.{Living}
-use Rattle.turn_lock.specs.History.{Log}
-use Rattle.turn_lock.specs.Steps.{Seated, having_seen}
-use Rattle.turn_lock.specs.Calls.{HasCalled, HasLooked}
+use Rattle.turn_lock.specs.{Living, Log, Seated, having_seen, HasCalled, HasLooked, IsPass, seen_by}
 use Rattle.turn_lock.specs.Turns.{Turns}
-use Rattle.turn_lock.specs.Passes.{IsPass, seen_by}
 
 module _ {S Ask Answer E : Type 0} (does : S → Ask → Answer × S) where
   -- after a turn the pass is one again, and has called or looked

@@ -4,13 +4,7 @@ use Rattle.std.proofs.Math.Nat.{mul-add-mod_self_right}
 use mathlib.Core.Option.{some, some-injective, some-ne-none}
 use lib.ListN.{get_elem?}
 use Rattle.atomic_table.proofs.Lists.{one_turn}
-use Rattle.turn_lock.specs.declared.board.Known.{Known}
-use Rattle.turn_lock.specs.declared.board.Stage.{Stage}
-use Rattle.turn_lock.specs.declared.board.Stage.TheVariants.{Idle, Waits, Holds}
-use Rattle.turn_lock.specs.declared.board.View.{View}
-use Rattle.turn_lock.specs.declared.board.View.TheVariants.{Spent, Living}
-use Rattle.turn_lock.specs.History.{Log, calls_of}
-use Rattle.turn_lock.specs.Rule.{tickets_at, tickets_of, ticket_count, HasEnded}
+use Rattle.turn_lock.specs.{Known, Stage, Idle, Waits, Holds, View, Spent, Living, Log, calls_of, tickets_at, tickets_of, ticket_count, HasEnded}
 use Rattle.turn_lock.proofs.HistoryLemmas.{calls_stay, begins_longer}
 
 pub next_mod : (a n : ℕ) → (a % n + 1) % n ≡ (a + 1) % n

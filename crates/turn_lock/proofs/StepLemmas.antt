@@ -1,23 +1,14 @@
 -- Each of the five kinds of step on a word keeps the rule of a lock's table.
 use Rattle.std.proofs.Common.{◌≡◌, ◌≢◌, ◌==◌, ℕ, ◌+◌, ◌%◌, ◌^◌, ◌<◌, ◌≤◌, List, [], ◌∷◌, ◌++◌, set, get_or, Bool, true, false, cond, eq-eqb, ne_eqb, sym, refl, ap, ◌∙◌, subst, arith}
 use Rattle.std.proofs.lemmas.List.{append-nil}
+use Rattle.std.proofs.lemmas.Bool.{false_from_ne_true as is_clear}
 use mathlib.Core.Logic.{dite}
 use mathlib.Core.Option.{Option, none, some}
 use native.Mathlib.Decide.{ℕ_discrete}
 use lib.ListN.{get_elem?}
 use Rattle.atomic_table.specs.Table.{State, step, keeps, takes, gives, Allows}
-use Rattle.turn_lock.specs.declared.board.Kept.{Kept}
-use Rattle.turn_lock.specs.declared.board.Known.{Known}
-use Rattle.turn_lock.specs.declared.board.Stage.{Stage}
-use Rattle.turn_lock.specs.declared.board.Stage.TheVariants.{Idle, Waits, Holds}
-use Rattle.turn_lock.specs.declared.board.View.{View}
-use Rattle.turn_lock.specs.declared.board.View.TheVariants.{Living}
-use Rattle.turn_lock.specs.History.{Log, calls_of, BeginsWith, last_state, IsHistory}
-use Rattle.turn_lock.specs.Rule.{tickets_at, ticket_count, at_home, FitsStage, IsInTurn}
-use Rattle.turn_lock.specs.Steps.{Seated, at_stage, having_seen, drew, looked, advanced, Took, Goes_on, Stands}
-use Rattle.turn_lock.proofs.HistoryLemmas.{begins_itself}
-use Rattle.turn_lock.proofs.SeatLemmas.{next_mod, one_ticket, few_tickets}
-use Rattle.turn_lock.proofs.MoveLemmas.{seat_moves}
+use Rattle.turn_lock.specs.{Kept, Known, Stage, Idle, Waits, Holds, View, Living, Log, calls_of, BeginsWith, last_state, IsHistory, tickets_at, ticket_count, at_home, FitsStage, IsInTurn, Seated, at_stage, having_seen, drew, looked, advanced, Took, Goes_on, Stands}
+use Rattle.turn_lock.proofs.{HistoryLemmas.begins_itself, SeatLemmas.next_mod, SeatLemmas.one_ticket, SeatLemmas.few_tickets, MoveLemmas.seat_moves}
 
 -- f, and at t the seat
 abbrev given_to : (ℕ → ℕ) → ℕ → ℕ → ℕ → ℕ
@@ -35,10 +26,6 @@ IsSet true = Unit {0}
 
 pub not_both : (b : Bool) → b ≡ true → b ≡ false → ⊥
 not_both b t f = subst IsSet (sym t ∙ f) tt
-
-pub is_clear : (b : Bool) → (b ≡ true → ⊥) → b ≡ false
-is_clear true not = absurd (not refl)
-is_clear false not = refl
 
 abbrev pub elim_waits : ℕ → Stage → ℕ
 elim_waits d Idle = d

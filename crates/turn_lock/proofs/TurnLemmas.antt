@@ -1,22 +1,11 @@
 -- The pieces of one turn, put together.
 use Rattle.std.proofs.Common.{◌≡◌, ◌≢◌, ◌==◌, ℕ, ◌%◌, ◌^◌, [], ◌∷◌, ◌++◌, Bool, cond, eq-eqb, ne_eqb, sym, refl, ap, ◌∙◌, subst, Result, Ok, Err, IfOk, OnErr}
-use Rattle.std.proofs.lemmas.List.{append-nil}
-use Rattle.std.proofs.lemmas.List.Elements.{filter-append}
+use Rattle.std.proofs.lemmas.{List.append-nil, List.Elements.filter-append}
 use mathlib.Core.Option.{none}
 use Rattle.atomic_table.specs.Table.{step}
-use Rattle.turn_lock.specs.declared.board.Kept.{Kept}
-use Rattle.turn_lock.specs.declared.board.Known.{Known}
-use Rattle.turn_lock.specs.declared.board.Stage.{Stage}
-use Rattle.turn_lock.specs.declared.board.Stage.TheVariants.{Waits, Holds}
-use Rattle.turn_lock.specs.declared.board.View.{View}
-use Rattle.turn_lock.specs.declared.board.View.TheVariants.{Living}
-use Rattle.turn_lock.specs.History.{Entry, Log, number_of, calls_of, BeginsWith, last_state, IsHistory}
-use Rattle.turn_lock.specs.Steps.{Seated, at_stage, having_seen, looked, Took, Goes_on, Stands}
-use Rattle.turn_lock.specs.Calls.{HasCalled, HasLooked}
-use Rattle.turn_lock.specs.Turns.{Rests, Awaits, Draws, Makes, Lends, Takes, IsReady, Turns, GivesOn}
-use Rattle.turn_lock.proofs.HistoryLemmas.{last-append, said_last}
-use Rattle.turn_lock.proofs.SeatLemmas.{known_or}
-use Rattle.turn_lock.proofs.StepLemmas.{elim_waits}
+use Rattle.turn_lock.specs.{Kept, Known, Stage, Waits, Holds, View, Living, Entry, Log, number_of, calls_of, BeginsWith, last_state, IsHistory, Seated, at_stage, having_seen, looked, Took, Goes_on, Stands, HasCalled, HasLooked, Rests, Awaits, Draws, Makes, Lends, Takes, IsReady, GivesOn}
+use Rattle.turn_lock.specs.Turns.{Turns}
+use Rattle.turn_lock.proofs.{HistoryLemmas.last-append, HistoryLemmas.said_last, SeatLemmas.known_or, StepLemmas.elim_waits}
 
 -- two seats that are one know the same
 pub one_known : {S Ask Answer C : Type 0} (known other : Known S Ask Answer) (c d : C) → let me : View S Ask Answer × C = (Living known, c) in me ≡ (Living other, d) → known ≡ other

@@ -1,12 +1,8 @@
 -- What is left of a lock once it is closed, or isn't.
 use Rattle.std.specs.Prelude.{◌≡◌, ◌==◌, ◌⊎◌, ℕ, ◌<◌, ◌≤◌, true, List, [], ◌++◌, map, All}
 use Rattle.std.specs.List.{list_any}
-use Rattle.turn_lock.specs.declared.board.Known.{Known}
-use Rattle.turn_lock.specs.declared.board.Stage.TheVariants.{Idle}
-use Rattle.turn_lock.specs.declared.board.View.TheVariants.{Living}
-use Rattle.turn_lock.specs.History.{Log, calls_of, BeginsWith, last_state, IsHistory}
-use Rattle.turn_lock.specs.Steps.{Seated}
-use Rattle.turn_lock.specs.Passes.{Lock, PassOf, is_given}
+use Rattle.turn_lock.specs.declared.{board.Known.Known, board.Stage.TheVariants.Idle, board.View.TheVariants.Living}
+use Rattle.turn_lock.specs.{History.Log, History.calls_of, History.BeginsWith, History.last_state, History.IsHistory, Steps.Seated, Passes.Lock, Passes.PassOf, Passes.is_given}
 
 module _ {Ask Answer : Type 0} where
   -- the history begins with what a pass has seen, and its entries of that pass's number are exactly the pass's calls

@@ -2,13 +2,8 @@
 use Rattle.std.specs.Prelude.{◌≡◌, ℕ, ◌≤◌, []}
 use Rattle.atomic_table.specs.Seated.{TableId}
 use Rattle.atomic_table.specs.declared.shared.Seat.{Seat}
-use Rattle.turn_lock.specs.declared.board.Kept.{Kept}
-use Rattle.turn_lock.specs.declared.board.Terms.{Terms}
-use Rattle.turn_lock.specs.declared.board.View.{View}
-use Rattle.turn_lock.specs.declared.board.View.TheVariants.{Living}
-use Rattle.turn_lock.specs.Passes.{Lock}
-use Rattle.turn_lock.specs.Rule.{dealt_known}
-use Rattle.turn_lock.specs.Turns.{IsBoard}
+use Rattle.turn_lock.specs.declared.{board.Kept.Kept, board.Terms.Terms, board.View.View, board.View.TheVariants.Living}
+use Rattle.turn_lock.specs.{Passes.Lock, Rule.dealt_known, Turns.IsBoard}
 
 module _ {S : Type 0} where
   -- the lock of a table

@@ -2,12 +2,8 @@
 use Rattle.std.specs.Prelude.{◌≡◌, ◌==◌, ℕ, zero, suc, ◌+◌, ◌<◌, ◌≤◌, Bool, true, false, List, [], ◌∷◌, ◌++◌}
 use Rattle.std.specs.List.{list_any}
 use Rattle.atomic_table.specs.Seated.{TableId}
-use Rattle.turn_lock.specs.declared.board.Known.{Known}
-use Rattle.turn_lock.specs.declared.board.Stage.TheVariants.{Idle}
-use Rattle.turn_lock.specs.declared.board.View.{View}
-use Rattle.turn_lock.specs.declared.board.View.TheVariants.{Spent, Living}
-use Rattle.turn_lock.specs.History.{Log}
-use Rattle.turn_lock.specs.Steps.{Seated}
+use Rattle.turn_lock.specs.declared.{board.Known.Known, board.Stage.TheVariants.Idle, board.View.View, board.View.TheVariants.Spent, board.View.TheVariants.Living}
+use Rattle.turn_lock.specs.{History.Log, Steps.Seated}
 
 -- a lock: what tells it from all others, the state that it began with, and its number of passes
 pub record Lock (S : Type 0) : Type 0 where

@@ -1,7 +1,6 @@
 -- Why a lock stays open.
 use Rattle.std.specs.Prelude.{◌≡◌, List}
-use Rattle.turn_lock.specs.declared.close.CloseErr.{CloseErr}
-use Rattle.turn_lock.specs.declared.close.CloseErr.TheVariants.{MissingPass, NoMemory}
+use Rattle.turn_lock.specs.declared.{close.CloseErr.CloseErr, close.CloseErr.TheVariants.MissingPass, close.CloseErr.TheVariants.NoMemory}
 use Rattle.turn_lock.specs.Passes.{Lock, PassOf, IsLowestMissing}
 
 module _ {S Ask Answer : Type 0} where

@@ -3,12 +3,8 @@ use Rattle.std.specs.Prelude.{◌≡◌, ℕ, ◌+◌, ◌%◌, ◌^◌, ◌<◌
 use mathlib.Core.Option.{Option, none, some}
 use lib.ListN.{get_elem?}
 use Rattle.atomic_table.specs.Table.{State}
-use Rattle.turn_lock.specs.declared.board.Kept.{Kept}
-use Rattle.turn_lock.specs.declared.board.Known.{Known}
-use Rattle.turn_lock.specs.declared.board.Stage.{Stage}
+use Rattle.turn_lock.specs.declared.{board.Kept.Kept, board.Known.Known, board.Stage.Stage, board.View.View, board.View.TheVariants.Spent, board.View.TheVariants.Living}
 use Rattle.turn_lock.specs.declared.board.Stage.TheVariants.{Idle, Waits, Holds}
-use Rattle.turn_lock.specs.declared.board.View.{View}
-use Rattle.turn_lock.specs.declared.board.View.TheVariants.{Spent, Living}
 use Rattle.turn_lock.specs.History.{Log, calls_of, BeginsWith, last_state, IsHistory}
 
 -- 1 for a stage with a ticket, 0 for the one without

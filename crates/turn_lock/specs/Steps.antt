@@ -1,12 +1,8 @@
 -- What each step on a lock's table tells the pass that makes it, and how a seat is cut in two or taken in.
 use Rattle.std.specs.Prelude.{◌≡◌, ◌≢◌, ℕ, ◌+◌, ◌%◌, ◌^◌, true, false, [], ◌∷◌, ◌++◌}
 use Rattle.atomic_table.specs.Table.{Me, Step}
-use Rattle.turn_lock.specs.declared.board.Kept.{Kept}
-use Rattle.turn_lock.specs.declared.board.Known.{Known}
-use Rattle.turn_lock.specs.declared.board.Stage.{Stage}
+use Rattle.turn_lock.specs.declared.{board.Kept.Kept, board.Known.Known, board.Stage.Stage, board.View.View, board.View.TheVariants.Spent, board.View.TheVariants.Living}
 use Rattle.turn_lock.specs.declared.board.Stage.TheVariants.{Idle, Waits, Holds}
-use Rattle.turn_lock.specs.declared.board.View.{View}
-use Rattle.turn_lock.specs.declared.board.View.TheVariants.{Spent, Living}
 use Rattle.turn_lock.specs.History.{Log, calls_of, BeginsWith, last_state, IsHistory}
 
 -- a seat: its view, and the slots that it has taken

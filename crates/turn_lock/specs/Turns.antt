@@ -1,13 +1,9 @@
 -- One turn at a lock's table, piece by piece: what a seat knows and holds before and after each.
 use Rattle.std.specs.Prelude.{◌≡◌, ℕ, ◌%◌, ◌^◌, [], ◌∷◌, ◌++◌, Result, IfOk, OnErr}
 use Rattle.atomic_table.specs.Seated.{TableId}
-use Rattle.turn_lock.specs.declared.board.Kept.{Kept}
-use Rattle.turn_lock.specs.declared.board.Known.{Known}
+use Rattle.turn_lock.specs.declared.{board.Kept.Kept, board.Known.Known, board.View.TheVariants.Living}
 use Rattle.turn_lock.specs.declared.board.Stage.TheVariants.{Idle, Waits, Holds}
-use Rattle.turn_lock.specs.declared.board.View.TheVariants.{Living}
-use Rattle.turn_lock.specs.History.{Log}
-use Rattle.turn_lock.specs.Calls.{HasCalled, HasLooked}
-use Rattle.turn_lock.specs.Steps.{Seated, at_stage, having_seen, Took, Goes_on}
+use Rattle.turn_lock.specs.{History.Log, Calls.HasCalled, Calls.HasLooked, Steps.Seated, Steps.at_stage, Steps.having_seen, Steps.Took, Steps.Goes_on}
 
 -- a lock's table has two words and one slot
 abbrev pub IsBoard : TableId → Type 0

@@ -1,11 +1,9 @@
 -- When a station of a network may be asked for something.
 use Rattle.std.proofs.Common.{◌≡◌, ◌-◌, Some, subst}
 use Rattle.srp_base.specs.declared.numbers.NodeNo.{NodeNo}
-use Rattle.tree_topology.specs.declared.graph.NodeKind.{NodeKind}
-use Rattle.tree_topology.specs.declared.graph.NodeKind.TheVariants.{Station}
+use Rattle.tree_topology.specs.declared.{graph.NodeKind.NodeKind, graph.NodeKind.TheVariants.Station}
 use Rattle.node_core.specs.State.{NodeState}
-use Rattle.world_core.specs.World.{WorldState, node_at}
-use Rattle.world_core.specs.Kept.{IsKeptWorld}
+use Rattle.world_core.specs.{World.WorldState, World.node_at, Kept.IsKeptWorld}
 use Rattle.std.specs.Prelude.{slice_get}
 
 -- a node that is a station is one by the tree

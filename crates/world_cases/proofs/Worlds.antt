@@ -1,16 +1,11 @@
 -- What the tests' own conditions rest on.
 use Rattle.std.proofs.Common.{◌≡◌, ℕ, ◌-◌, ◌<◌, ◌^◌, List, [], Some, refl, sym, ap, subst, arith}
-use Rattle.srp_base.specs.declared.numbers.Cs.{Cs}
-use Rattle.srp_base.specs.declared.ports.PortChange.{PortChange}
+use Rattle.srp_base.specs.declared.{numbers.Cs.Cs, ports.PortChange.PortChange}
 use Rattle.tree_topology.specs.Topology.{Topology}
 use Rattle.node_core.specs.State.{NodeState}
 use Rattle.std.specs.List.{AllByRecursion}
-use Rattle.world_core.specs.declared.events.WorldEvent.{WorldEvent}
-use Rattle.world_core.specs.declared.events.WorldEvent.TheVariants.{Clock}
-use Rattle.world_core.specs.World.{WorldState, node_at, CanHappen, CanAllHappen}
-use Rattle.world_core.specs.During.{IsAllowed, IsDuring}
-use Rattle.world_core.specs.Kept.{IsKeptWorld}
-use Rattle.world_core.specs.Timeline.{AreChanges}
+use Rattle.world_core.specs.declared.{events.WorldEvent.WorldEvent, events.WorldEvent.TheVariants.Clock}
+use Rattle.world_core.specs.{World.WorldState, World.node_at, World.CanHappen, World.CanAllHappen, During.IsAllowed, During.IsDuring, Kept.IsKeptWorld, Timeline.AreChanges}
 
 -- where the clock of node 1 is below 2^61, the clock goes on: all nodes have one clock
 pub clock_goes_on : (w : WorldState) (t : NodeState) → IsKeptWorld w → node_at (record { 0 = 1 }) w ≡ Some t → t.clock.0 < 2 ^ 61 → CanHappen Clock w

@@ -2,8 +2,7 @@
 
 ghost use Rattle.std.specs.Prelude.{IsTrue};
 ghost use Rattle.std.specs.List.{AllByRecursion};
-ghost use Rattle.world_core.specs.During.{IsAllowed};
-ghost use Rattle.world_core.specs.World.{CanAllHappen};
+ghost use Rattle.world_core.specs.{During.IsAllowed, World.CanAllHappen};
 
 use crate::world::{has_node, has_port};
 use node_core::{AppRequest, PortStep, Wire};

@@ -1,73 +1,36 @@
 -- What is in force at a port changes only where the port's node acts: where it makes a step other than Send.
 use Rattle.std.proofs.Common.{◌≡◌, ◌≢◌, inl, inr, ℕ, ◌+◌, ◌-◌, ◌≤◌, Bool, true, false, List, [], ◌∷◌, map, Option, Some, None, refl, sym, ap, ◌∙◌, arith}
-use Rattle.std.specs.Prelude.{filter, filter_map, slice_get, not, ◌==◌, ◌&&◌, ◌||◌, if◌then◌else◌, option_map}
-use Rattle.std.specs.List.{AllByRecursion, cons_option, list_any}
-use Rattle.std.specs.Option.{option_map_or}
-use Rattle.std.specs.Ordering.{nat_cmp}
+use Rattle.std.specs.Prelude.{filter, filter_map, slice_get, not, ◌==◌, ◌&&◌, if◌then◌else◌, option_map}
+use Rattle.std.specs.{List.AllByRecursion, List.cons_option, List.list_any, Option.option_map_or, Ordering.nat_cmp}
 use Rattle.std.proofs.lemmas.Bool.{cond-true, cond-false, cases_Bool, false≢true, eqb-false, not_from_false}
-use Rattle.srp_base.specs.declared.numbers.Cs.{Cs}
-use Rattle.srp_base.specs.declared.numbers.NodeNo.{NodeNo}
-use Rattle.srp_base.specs.declared.numbers.PortNo.{PortNo}
-use Rattle.srp_base.specs.declared.numbers.EgressPort.{EgressPort}
-use Rattle.srp_base.specs.declared.bandwidth.Class.TheVariants.{A, B}
-use Rattle.srp_base.specs.declared.mrp.App.{App}
-use Rattle.srp_base.specs.declared.mrp.App.TheVariants.{Mvrp, Msrp}
+use Rattle.std.proofs.lemmas.Bool.{or_parts as or_both}
+use Rattle.srp_base.specs.declared.{numbers.Cs.Cs, numbers.NodeNo.NodeNo, numbers.PortNo.PortNo, numbers.EgressPort.EgressPort, bandwidth.Class.TheVariants.A, bandwidth.Class.TheVariants.B, mrp.App.App, mrp.App.TheVariants.Mvrp, mrp.App.TheVariants.Msrp}
 use Rattle.applicant.specs.declared.AppEvent.{AppEvent}
 use Rattle.registrar.specs.Table.{is_registered_in}
 use Rattle.registrar.proofs.RegistrarLemmas.{leave_all_sent-registered}
 use Rattle.stream_importance.specs.declared.entry.Entry.{Entry}
-use Rattle.port_ledger.specs.Decision.{booked_of}
-use Rattle.port_ledger.specs.Book.{Book, booked_slope}
+use Rattle.port_ledger.specs.{Decision.booked_of, Book.Book, Book.booked_slope}
 use Rattle.mrp_participant.specs.declared.row.Row.{Row}
-use Rattle.mrp_participant.specs.Lookup.{key_of}
+use Rattle.mrp_participant.specs.{Lookup.key_of, Row.is_live, Row.applicant_takes, Sending.opportunity, Sending.before_opportunity, Sending.row_after, Sending.sent_row, State.is_active, State.after, State.takes, State.row_sent}
 use Rattle.applicant.specs.Table.{is_observer}
-use Rattle.mrp_participant.specs.Row.{is_live, applicant_takes}
-use Rattle.mrp_participant.specs.Sending.{opportunity, before_opportunity, row_after, sent_row}
-use Rattle.mrp_participant.specs.State.{is_active, after, takes, row_sent}
-use Rattle.mvrp.specs.Part.{Part, base, octets, sent_part}
+use Rattle.mvrp.specs.{Part.Part, Part.base, Part.octets, Part.sent_part, Side.Vlans, Side.has_own, Side.requested_vlans, Side.sent_vlans, Side.spoilt_vlans}
 use Rattle.attribute_propagation.specs.Ports.{place_of}
 use Rattle.flat_side.specs.Side.{with_part_at, with_part}
-use Rattle.mvrp.specs.Side.{Vlans, has_own, requested_vlans, sent_vlans, spoilt_vlans}
-use Rattle.msrp.specs.PortState.{PortState}
+use Rattle.msrp.specs.{PortState.PortState, Part.Part as SrpPart, Part.sent_part as srp_sent_part, Side.Streams, Side.requested_streams, Side.sent_streams, Side.spoilt_streams, Side.is_talk, Side.has_talk, Side.has_listen, Side.with_port, Side.with_part as with_srp_part, Side.with_port_at as streams_replaced, Stream.talk_of}
 use Rattle.msrp.specs.declared.asking.SrpRequest.{SrpRequest}
 use Rattle.msrp.specs.declared.asking.SrpRequest.TheVariants as asks
-use Rattle.msrp.specs.Part.{Part as SrpPart, sent_part as srp_sent_part}
-use Rattle.msrp.specs.Side.{Streams, requested_streams, sent_streams, spoilt_streams, is_talk, has_talk, has_listen, with_port, with_part as with_srp_part, with_port_at as streams_replaced}
-use Rattle.msrp.specs.Stream.{talk_of}
 use Rattle.tree_topology.specs.declared.graph.Link.{Link}
 use Rattle.tree_topology.specs.Topology.{Topology, HasNode, HasPort}
-use Rattle.topology_file.specs.declared.entries.StreamEntry.{StreamEntry}
-use Rattle.topology_file.specs.declared.entries.EventEntry.{EventEntry}
-use Rattle.topology_file.specs.declared.entries.EventKind.{EventKind}
+use Rattle.topology_file.specs.declared.{entries.StreamEntry.StreamEntry, entries.EventEntry.EventEntry, entries.EventKind.EventKind}
 use Rattle.topology_file.specs.declared.entries.EventKind.TheVariants as kinds
 use Rattle.topology_file.specs.Plan.{Plan}
-use Rattle.node_core.specs.declared.types.Wire.{Wire}
-use Rattle.node_core.specs.declared.types.AppRequest.{AppRequest}
+use Rattle.node_core.specs.declared.{types.Wire.Wire, types.AppRequest.AppRequest, types.NodeEvent.NodeEvent, types.NodeStep.NodeStep, types.PortStep.PortStep}
 use Rattle.node_core.specs.declared.types.AppRequest.TheVariants.{Declare, Withdraw, Talk, Hush, Listen, Unlisten}
-use Rattle.node_core.specs.declared.types.NodeEvent.{NodeEvent}
 use Rattle.node_core.specs.declared.types.NodeEvent.TheVariants as node_events
-use Rattle.node_core.specs.declared.types.NodeStep.{NodeStep}
-use Rattle.node_core.specs.declared.types.PortStep.{PortStep}
 use Rattle.node_core.specs.declared.types.PortStep.TheVariants.{Work, LeaveNow, LeaveAllNow, PeriodicNow, Due, Settle, Send}
-use Rattle.node_core.specs.Links.{lost_at, repeated_at, forged_at, spoilt_at}
-use Rattle.node_core.specs.State.{NodeState, of_part, of_port}
-use Rattle.node_core.specs.Step.{node_step, octets_to_say, sent_octets}
-use Rattle.world_core.specs.declared.events.WorldEvent.{WorldEvent}
-use Rattle.world_core.specs.declared.events.WorldEvent.TheVariants.{Request, Port, Lose, Repeat, Forge}
-use Rattle.world_core.specs.declared.journal.NodeSteps.{NodeSteps}
-use Rattle.world_core.specs.declared.journal.Tick.{Tick}
-use Rattle.world_core.specs.World.{WorldState, node_at, app_of, reaches, with_unsound_ends, with_loss, after_repeat, with_forgery, step_of_node, world_step, world_after}
-use Rattle.world_core.specs.Ticks.{event_of, scripted_from, with_event, stream_at, talker_of_entry, step_events, after_script, after_steps, is_send, IsLegalTick}
-use Rattle.world_core.specs.Reservation.{no_reservation, is_registered_row, registered_vids}
-use Rattle.world_core.specs.Timeline.{node_force, force_at}
-use Rattle.world_core.specs.History.{HasPortsOf, is_act, acts_at, has_acted}
-use Rattle.world_core.proofs.Nodes.{node_other, stepped_is}
-use Rattle.world_core.proofs.Reservations.{same_force, read_set, force_changed}
-use Rattle.world_core.proofs.Timelines.{after_both}
-
-or_both : (a b : Bool) → (a || b) ≡ false → (a ≡ false) × (b ≡ false)
-or_both true b e = absurd (false≢true (sym e))
-or_both false b e = (refl, e)
+use Rattle.node_core.specs.{Links.lost_at, Links.repeated_at, Links.forged_at, Links.spoilt_at, State.NodeState, State.of_part, State.of_port, Step.node_step, Step.octets_to_say, Step.sent_octets}
+use Rattle.world_core.specs.{WorldEvent, Request, Port, Lose, Repeat, Forge, NodeSteps, Tick, WorldState, node_at, app_of, reaches, with_unsound_ends, with_loss, after_repeat, with_forgery, step_of_node, world_step, world_after, event_of, scripted_from, with_event, stream_at, talker_of_entry, step_events, after_script, after_steps, is_send, IsLegalTick, no_reservation, is_registered_row, registered_vids, node_force, force_at, HasPortsOf, is_act, acts_at, has_acted}
+use Rattle.world_core.proofs.{Nodes.node_other, Nodes.stepped_is, Reservations.same_force, Reservations.read_set, Reservations.force_changed, Timelines.after_both}
 
 -- ---- a row that is sent is registered as before
 

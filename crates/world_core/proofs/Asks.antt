@@ -1,24 +1,17 @@
 -- What the application of a node asks for stays at each step of a port.
 use Rattle.std.proofs.Common.{◌≡◌, ℕ, List, [], ◌∷◌, refl}
 use Rattle.std.specs.Prelude.{slice_get, slice_set, Option, Some, None, Result, Ok, Err}
-use Rattle.srp_base.specs.declared.mrp.App.{App}
-use Rattle.srp_base.specs.declared.mrp.App.TheVariants.{Mvrp, Msrp}
+use Rattle.srp_base.specs.declared.{mrp.App.App, mrp.App.TheVariants.Mvrp, mrp.App.TheVariants.Msrp}
 use Rattle.mvrp_codec.specs.declared.pdu.MvrpPdu.{MvrpPdu}
 use Rattle.mvrp_codec.specs.Meaning.{mvrp_reading}
 use Rattle.msrp_codec.specs.declared.pdu.MsrpPdu.{MsrpPdu}
 use Rattle.msrp_codec.specs.Meaning.{msrp_reading}
-use Rattle.mvrp.specs.Part.{Part}
+use Rattle.mvrp.specs.{Part.Part, Side.Vlans}
 use Rattle.flat_side.specs.Side.{with_part}
-use Rattle.mvrp.specs.Side.{Vlans}
-use Rattle.msrp.specs.PortState.{PortState}
-use Rattle.msrp.specs.Side.{Streams, with_port}
-use Rattle.node_core.specs.declared.types.Wire.{Wire}
-use Rattle.node_core.specs.declared.types.NodeKey.TheVariants.{Vlan, Srp}
-use Rattle.node_core.specs.declared.types.PortStep.{PortStep}
+use Rattle.msrp.specs.{PortState.PortState, Side.Streams, Side.with_port}
+use Rattle.node_core.specs.declared.{types.Wire.Wire, types.NodeKey.TheVariants.Vlan, types.NodeKey.TheVariants.Srp, types.PortStep.PortStep}
 use Rattle.node_core.specs.declared.types.PortStep.TheVariants.{Work, LeaveNow, LeaveAllNow, PeriodicNow, Due, Settle, Send}
-use Rattle.node_core.specs.State.{NodeState, box_at}
-use Rattle.node_core.specs.Step.{port_step, after_work, worked_mvrp, worked_msrp, worked_app, octets_to_say, sent_octets}
-use Rattle.node_core.specs.Links.{spoilt_at}
+use Rattle.node_core.specs.{State.NodeState, State.box_at, Step.port_step, Step.after_work, Step.worked_mvrp, Step.worked_msrp, Step.worked_app, Step.octets_to_say, Step.sent_octets, Links.spoilt_at}
 
 -- the kind stays, and so does what the application asks for
 pub record SameKindAndAsks (s t : NodeState) : Type 0 where

@@ -3,34 +3,17 @@ use Rattle.std.proofs.Common.{◌≡◌, ◌+◌, ◌-◌, ℕ, zero, suc, Bool,
 use Rattle.std.specs.Prelude.{slice_get, Option, Some, None}
 use Rattle.std.specs.List.{AllByRecursion}
 use Rattle.std.proofs.Math.ListN.{length-set}
-use Rattle.srp_base.specs.declared.numbers.Cs.{Cs}
-use Rattle.srp_base.specs.declared.numbers.NodeNo.{NodeNo}
-use Rattle.srp_base.specs.declared.numbers.PortNo.{PortNo}
-use Rattle.srp_base.specs.declared.numbers.EgressPort.{EgressPort}
-use Rattle.srp_base.specs.declared.mrp.App.{App}
-use Rattle.srp_base.specs.declared.mrp.App.TheVariants.{Mvrp, Msrp}
-use Rattle.tree_topology.specs.Topology.{HasPort}
-use Rattle.tree_topology.specs.Ports.{peer_of}
+use Rattle.srp_base.proofs.Options.{one_some}
+use Rattle.srp_base.specs.declared.{numbers.Cs.Cs, numbers.NodeNo.NodeNo, numbers.PortNo.PortNo, numbers.EgressPort.EgressPort, mrp.App.App, mrp.App.TheVariants.Mvrp, mrp.App.TheVariants.Msrp}
+use Rattle.tree_topology.specs.{Topology.HasPort, Ports.peer_of}
 use Rattle.mrpdu_codec.specs.Octets.{AreOctets}
 use Rattle.mvrp.specs.Part.{Part}
 use Rattle.attribute_propagation.specs.Ports.{IsLinkPort, place_of}
 use Rattle.flat_side.specs.Side.{with_part, with_part_at}
-use Rattle.node_core.specs.declared.types.Wire.{Wire}
-use Rattle.node_core.specs.declared.types.AppRequest.{AppRequest}
-use Rattle.node_core.specs.declared.types.NodeEvent.{NodeEvent}
+use Rattle.node_core.specs.declared.{types.Wire.Wire, types.AppRequest.AppRequest, types.NodeEvent.NodeEvent, types.PortStep.PortStep}
 use Rattle.node_core.specs.declared.types.NodeEvent.TheVariants as node_events
-use Rattle.node_core.specs.declared.types.PortStep.{PortStep}
-use Rattle.node_core.specs.Wires.{IsShort, AreShort}
-use Rattle.node_core.specs.State.{NodeState, box_at, ports_of}
-use Rattle.node_core.specs.Step.{CanStep, node_step}
-use Rattle.node_core.specs.Links.{with_outbox, with_carried, lost_at, repeated_at, forged_at, spoilt_at}
-use Rattle.node_core.specs.Proper.{IsProperNode, IsProperWire, IsInRange, AreProperWires}
-use Rattle.world_core.specs.declared.events.WorldEvent.{WorldEvent}
-use Rattle.world_core.specs.declared.events.WorldEvent.TheVariants.{Request, Port, Lose, Repeat, Forge, Carry, Clock}
-use Rattle.world_core.specs.Marks.{MarksState}
-use Rattle.world_core.specs.World.{WorldState, node_at, with_changed, outbox, app_of, reaches, with_unsound_ends, with_loss, after_repeat, with_forgery, world_step, CanHappen, IsEventInRange, step_of_node}
-use Rattle.world_core.specs.Kept.{FitsTree}
-use Rattle.world_core.proofs.Lists.{one_some}
+use Rattle.node_core.specs.{Wires.IsShort, Wires.AreShort, State.NodeState, State.box_at, State.ports_of, Step.CanStep, Step.node_step, Links.with_outbox, Links.with_carried, Links.lost_at, Links.repeated_at, Links.forged_at, Links.spoilt_at, Proper.IsProperNode, Proper.IsProperWire, Proper.IsInRange, Proper.AreProperWires}
+use Rattle.world_core.specs.{WorldEvent, Request, Port, Lose, Repeat, Forge, Carry, Clock, MarksState, WorldState, node_at, with_changed, outbox, app_of, reaches, with_unsound_ends, with_loss, after_repeat, with_forgery, world_step, CanHappen, IsEventInRange, step_of_node, FitsTree}
 use Rattle.world_core.proofs.Nodes.{Base, IsOfSamePlace, base_changed, stepped_is, ticked_get, ticked_length, node_there, place_within, proper_at, outbox_is}
 
 -- the laws of a node, as its public laws say them

@@ -3,54 +3,22 @@ use Rattle.std.proofs.Common.{◌≡◌, ℕ, zero, suc, ◌+◌, ◌-◌, ◌*�
 use Rattle.std.specs.Prelude.{slice_get, Some, None, option_map, ◌==◌}
 use Rattle.std.specs.List.{cons_option}
 use Rattle.std.proofs.lemmas.Option.{slice_get_within}
-use Rattle.srp_base.specs.declared.bandwidth.Class.{Class}
-use Rattle.srp_base.specs.declared.numbers.Cs.{Cs}
-use Rattle.srp_base.specs.declared.numbers.EgressPort.{EgressPort}
-use Rattle.srp_base.specs.declared.numbers.BridgeId.{BridgeId}
-use Rattle.srp_base.specs.declared.ports.PortSetup.{PortSetup}
+use Rattle.srp_base.proofs.Lists.{mapped_length, all_each, at_each}
+use Rattle.srp_base.specs.declared.{bandwidth.Class.Class, numbers.Cs.Cs, numbers.EgressPort.EgressPort, numbers.BridgeId.BridgeId, ports.PortSetup.PortSetup}
 use Rattle.tree_topology.specs.declared.graph.NodeKind.{NodeKind}
-use Rattle.tree_topology.specs.Topology.{Topology, HasPort, IsSound}
-use Rattle.tree_topology.specs.Ports.{peer_of, far_end, neighbours}
-use Rattle.tree_topology.specs.PortLaws.{HasPortLaws}
-use Rattle.topology_file.specs.declared.entries.NodeEntry.{NodeEntry}
-use Rattle.topology_file.specs.declared.entries.LinkEntry.{LinkEntry}
-use Rattle.topology_file.specs.Plan.{Plan}
-use Rattle.topology_file.specs.Scenario.{KeepsRules, tree_links, ends_of_entry}
-use Rattle.mrp_participant.specs.Link.{LinkEvent}
-use Rattle.mrp_participant.specs.Link.EndEvent.{Declares}
-use Rattle.mrp_participant.specs.Link.LinkEvent.{AtNear}
-use Rattle.mrp_participant.specs.State.{State, new_state, declared_state}
-use Rattle.mrp_participant.specs.MarkedLink.{MarkedLink, AreMarkedDutiesMet, unmarked, new_marked_link, other_marked_view, after_marked_event}
-use Rattle.msrp_codec.specs.declared.pdu.MsrpKey.{MsrpKey}
-use Rattle.msrp_codec.specs.declared.pdu.MsrpContent.{MsrpContent}
+use Rattle.tree_topology.specs.{Topology.Topology, Topology.HasPort, Topology.IsSound, Ports.peer_of, Ports.far_end, Ports.neighbours, PortLaws.HasPortLaws}
+use Rattle.topology_file.specs.declared.{entries.NodeEntry.NodeEntry, entries.LinkEntry.LinkEntry}
+use Rattle.topology_file.specs.{Plan.Plan, Scenario.KeepsRules, Scenario.tree_links, Scenario.ends_of_entry}
+use Rattle.mrp_participant.specs.{Link.LinkEvent, Link.EndEvent.Declares, Link.LinkEvent.AtNear, State.State, State.new_state, State.declared_state, MarkedLink.MarkedLink, MarkedLink.AreMarkedDutiesMet, MarkedLink.unmarked, MarkedLink.new_marked_link, MarkedLink.other_marked_view, MarkedLink.after_marked_event}
+use Rattle.msrp_codec.specs.declared.{pdu.MsrpKey.MsrpKey, pdu.MsrpContent.MsrpContent}
 use Rattle.msrp_codec.specs.Content.{base_octets, octets_of}
-use Rattle.msrp.specs.PortState.{PortState}
-use Rattle.msrp.specs.Part.{Part as StreamPart, key_cmp, same_content}
+use Rattle.msrp.specs.{PortState.PortState, Part.Part as StreamPart, Part.key_cmp, Part.same_content, Domain.classes_of, Domain.domain_key, Domain.domain_content, Domain.domain_part, Side.new_port}
 use Rattle.msrp.specs.declared.domain.DomainSet.{DomainSet}
-use Rattle.msrp.specs.Domain.{classes_of, domain_key, domain_content, domain_part}
-use Rattle.msrp.specs.Side.{new_port}
 use Rattle.mvrp.specs.Part.{Part}
 use Rattle.attribute_propagation.specs.Ports.{place_of}
-use Rattle.node_core.specs.State.{NodeState, box_at, new_node}
-use Rattle.node_core.specs.Proper.{IsProperNode}
-use Rattle.world_core.specs.Start.{domain_set, setup_of, end_setup, setups_from, nodes_from, world_of}
-use Rattle.world_core.specs.World.{inbox, outbox}
-use Rattle.world_core.specs.Duty.{part_at}
-use Rattle.world_core.specs.Kept.{FitsTree, IsKeptWorld}
-use Rattle.world_core.proofs.Nodes.{Base, node_there, part_is, inbox_is, outbox_is}
-use Rattle.world_core.proofs.Lists.{all_each, at_each}
-use Rattle.world_core.specs.declared.marks.EndMark.{EndMark}
-use Rattle.world_core.specs.Marks.{mark_at, no_mark}
-use Rattle.world_core.proofs.EventSteps.{HasMarks}
-use Rattle.world_core.proofs.NewMarks.{mark_none, new_of}
-use Rattle.world_core.proofs.Views.{AppView, AreMet, Boxed, met_same}
-use Rattle.world_core.proofs.VlanSteps.{vlan_view}
-use Rattle.world_core.proofs.StreamSteps.{stream_view}
-use Rattle.world_core.proofs.Keeping.{kept_whole}
-
-mapped_length : {X Y : Type 0} (f : X → Y) (xs : List X) → length (map f xs) ≡ length xs
-mapped_length f [] = refl
-mapped_length f (x ∷ xs) = ap suc (mapped_length f xs)
+use Rattle.node_core.specs.{State.NodeState, State.box_at, State.new_node, Proper.IsProperNode}
+use Rattle.world_core.specs.{domain_set, setup_of, end_setup, setups_from, nodes_from, world_of, inbox, outbox, part_at, FitsTree, IsKeptWorld, EndMark, mark_at, no_mark}
+use Rattle.world_core.proofs.{Nodes.Base, Nodes.node_there, Nodes.part_is, Nodes.inbox_is, Nodes.outbox_is, EventSteps.HasMarks, NewMarks.mark_none, NewMarks.new_of, Views.AppView, Views.AreMet, Views.Boxed, Views.met_same, VlanSteps.vlan_view, StreamSteps.stream_view, Keeping.kept_whole}
 
 -- a port for each link of the node
 one_end : (n x : ℕ) (l : LinkEntry) (rest : List PortSetup) (others : List ℕ) → length rest ≡ length others

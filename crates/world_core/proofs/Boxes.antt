@@ -2,9 +2,9 @@
 use Rattle.std.proofs.Common.{◌≡◌, ◌≢◌, ℕ, zero, suc, List, [], ◌∷◌, refl, ap}
 use Rattle.std.specs.Prelude.{slice_get, slice_set, Option, Some}
 use Rattle.std.specs.Option.{option_map_or}
+use Rattle.srp_base.proofs.Lists.{get_set_other}
 use Rattle.node_core.specs.declared.types.Wire.{Wire}
 use Rattle.node_core.specs.State.{box_at}
-use Rattle.world_core.proofs.Lists.{get_set_other}
 
 pub box_other : (boxes : List (List Wire)) (at k : ℕ) (wires : List Wire) → at ≢ k → box_at k (slice_set boxes at wires) ≡ box_at k boxes
 box_other boxes at k wires ne = ap (λ (o : Option (List Wire)). option_map_or (λ wires. wires) o []) (get_set_other boxes at k wires ne)

@@ -1,49 +1,22 @@
 -- Only a Send puts a PDU in an outbox, and the carrying of all ports empties each.
-use Rattle.std.proofs.Common.{◌≡◌, ◌⊎◌, inl, inr, ℕ, zero, suc, ◌+◌, ◌-◌, ◌<◌, Bool, true, false, ◌||◌, List, [], ◌∷◌, ◌++◌, length, map, refl, sym, ap, subst, ◌∙◌, arith}
+use Rattle.std.proofs.Common.{◌≡◌, ◌⊎◌, inl, inr, ℕ, zero, suc, ◌+◌, ◌-◌, ◌<◌, Bool, true, false, List, [], ◌∷◌, ◌++◌, length, map, refl, sym, ap, subst, ◌∙◌, arith}
 use Rattle.std.specs.Prelude.{slice_get, slice_set, slice_index_or, Option, Some, None, option_map, ◌==◌, if◌then◌else◌, IfSome}
-use Rattle.std.specs.Option.{option_map_or}
-use Rattle.std.specs.List.{AllByRecursion, flat_map, list_any}
-use Rattle.srp_base.specs.declared.numbers.NodeNo.{NodeNo}
-use Rattle.srp_base.specs.declared.numbers.EgressPort.{EgressPort}
-use Rattle.srp_base.specs.declared.ports.PortSetup.{PortSetup}
-use Rattle.srp_base.specs.declared.mrp.App.{App}
-use Rattle.srp_base.specs.declared.mrp.App.TheVariants.{Mvrp, Msrp}
+use Rattle.std.specs.{Option.option_map_or, List.AllByRecursion, List.flat_map, List.list_any}
+use Rattle.std.proofs.lemmas.Bool.{or_parts as neither}
+use Rattle.srp_base.proofs.Lists.{get_set, each_append}
+use Rattle.srp_base.specs.declared.{numbers.NodeNo.NodeNo, numbers.EgressPort.EgressPort, ports.PortSetup.PortSetup, mrp.App.App, mrp.App.TheVariants.Mvrp, mrp.App.TheVariants.Msrp}
 use Rattle.tree_topology.specs.declared.graph.Link.{Link}
-use Rattle.tree_topology.specs.Graph.{Joined}
-use Rattle.tree_topology.specs.Topology.{Topology, HasPort, IsSound, link_ports}
-use Rattle.tree_topology.specs.Ports.{port_to, peer_of}
-use Rattle.tree_topology.specs.PortLaws.{HasPortLaws}
-use Rattle.topology_file.specs.declared.entries.NodeEntry.{NodeEntry}
-use Rattle.topology_file.specs.declared.entries.StreamEntry.{StreamEntry}
-use Rattle.topology_file.specs.declared.entries.EventEntry.{EventEntry}
-use Rattle.topology_file.specs.declared.entries.EventKind.{EventKind}
+use Rattle.tree_topology.specs.{Graph.Joined, Topology.Topology, Topology.HasPort, Topology.IsSound, Topology.link_ports, Ports.port_to, Ports.peer_of, PortLaws.HasPortLaws}
+use Rattle.topology_file.specs.declared.{entries.NodeEntry.NodeEntry, entries.StreamEntry.StreamEntry, entries.EventEntry.EventEntry, entries.EventKind.EventKind}
 use Rattle.topology_file.specs.declared.entries.EventKind.TheVariants as kinds
 use Rattle.topology_file.specs.Plan.{Plan}
 use Rattle.attribute_propagation.specs.Ports.{place_of}
-use Rattle.node_core.specs.declared.types.NodeStep.{NodeStep}
-use Rattle.node_core.specs.declared.types.NodeKey.TheVariants.{Vlan, Srp}
+use Rattle.node_core.specs.declared.{types.NodeStep.NodeStep, types.NodeKey.TheVariants.Vlan, types.NodeKey.TheVariants.Srp, types.PortStep.PortStep, types.Wire.Wire}
 use Rattle.node_core.specs.declared.types.NodeEvent.TheVariants as node_events
-use Rattle.node_core.specs.declared.types.PortStep.{PortStep}
 use Rattle.node_core.specs.declared.types.PortStep.TheVariants.{Work, LeaveNow, LeaveAllNow, PeriodicNow, Due, Settle, Send}
-use Rattle.node_core.specs.declared.types.Wire.{Wire}
-use Rattle.node_core.specs.State.{NodeState, box_at}
-use Rattle.node_core.specs.Step.{node_step, port_step, after_work, worked_app}
-use Rattle.node_core.specs.Links.{with_outbox, with_carried, lost_at, repeated_at, forged_at, spoilt_at}
-use Rattle.world_core.specs.declared.events.WorldEvent.{WorldEvent}
-use Rattle.world_core.specs.declared.events.WorldEvent.TheVariants.{Request, Port, Lose, Repeat, Forge, Carry, Clock}
-use Rattle.world_core.specs.declared.journal.NodeSteps.{NodeSteps}
-use Rattle.world_core.specs.declared.journal.Tick.{Tick}
-use Rattle.world_core.specs.World.{WorldState, node_at, with_node, with_changed, outbox, app_of, reaches, with_unsound_ends, with_loss, after_repeat, with_forgery, after_carrying, world_step, world_after}
-use Rattle.world_core.specs.Start.{world_of, nodes_from}
-use Rattle.world_core.specs.Ticks.{event_of, stream_at, with_event, scripted_from, script_at, step_events, closing_events, tick_events, after_script, after_steps, is_send}
-use Rattle.world_core.specs.During.{IsDuring}
-use Rattle.world_core.specs.Carrying.{NothingWaits, has_send}
-use Rattle.world_core.proofs.Lists.{get_set}
-use Rattle.world_core.proofs.Nodes.{stepped_is}
-use Rattle.world_core.proofs.StepBoxes.{asked_boxes, spoilt_boxes}
-use Rattle.world_core.proofs.Reservations.{read_map}
-use Rattle.world_core.proofs.Happenings.{carried_none}
-use Rattle.world_core.proofs.Runs.{after_append, each_append, trees_stay}
+use Rattle.node_core.specs.{State.NodeState, State.box_at, Step.node_step, Step.port_step, Step.after_work, Step.worked_app, Links.with_outbox, Links.with_carried, Links.lost_at, Links.repeated_at, Links.forged_at, Links.spoilt_at}
+use Rattle.world_core.specs.{WorldEvent, Request, Port, Lose, Repeat, Forge, Carry, Clock, NodeSteps, Tick, WorldState, node_at, with_node, with_changed, outbox, app_of, reaches, with_unsound_ends, with_loss, after_repeat, with_forgery, after_carrying, world_step, world_after, world_of, nodes_from, event_of, stream_at, with_event, scripted_from, script_at, step_events, closing_events, tick_events, after_script, after_steps, is_send, IsDuring, NothingWaits, has_send}
+use Rattle.world_core.proofs.{Nodes.stepped_is, StepBoxes.asked_boxes, StepBoxes.spoilt_boxes, Reservations.read_map, Happenings.carried_none, Runs.after_append, Runs.trees_stay}
 
 -- ---- at a node
 
@@ -208,12 +181,6 @@ script_sends_none links streams t n (e ∷ entries) = by (e.tick == t) (script_s
         (if b then with_event n (event_of links streams e.kind) (scripted_from links streams t (n + 1) entries) else scripted_from links streams t (n + 1) entries))
     by true rest = with_sends_none n (event_of links streams e.kind) (scripted_from links streams t (n + 1) entries) (kind_sends_none links streams e.kind) rest
     by false rest = rest
-
--- steps among which none is Send
-neither : (a b : Bool) → (a || b) ≡ false → (a ≡ false) × (b ≡ false)
-neither false false isnt = (refl, refl)
-neither false true isnt = cc
-neither true b isnt = cc
 
 made_send_none : (n : NodeNo) (made : List NodeStep) → list_any (λ (st : NodeStep). is_send st.step) made ≡ false → AllByRecursion SendsNothing (map (λ (st : NodeStep). Port n st.port st.step) made)
 made_send_none n [] isnt = tt

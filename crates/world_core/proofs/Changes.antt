@@ -1,33 +1,18 @@
 -- Each change of a timeline says what was in force at a moment of the run, so that its slopes are within the limits.
 use Rattle.std.proofs.Common.{◌≡◌, ℕ, zero, suc, ◌+◌, ◌<◌, ◌≤◌, inl, inr, true, List, [], ◌∷◌, ◌++◌, length, map, take, drop, Option, Some, None, refl, sym, ap, subst, ◌∙◌, arith, append_assoc}
 use Rattle.std.specs.Prelude.{All, nat_le, slice_get}
-use Rattle.std.specs.Option.{option_map_or}
-use Rattle.std.specs.List.{AllByRecursion}
-use Rattle.std.proofs.lemmas.Bool.{cond-true, cond-false, cases_Bool, le-leb, lt-leb, false≢true}
-use Rattle.std.proofs.lemmas.Option.{none-some, same_Some}
-use Rattle.std.proofs.lemmas.List.{take_at}
-use Rattle.std.proofs.lemmas.List.Elements.{All-from_recursion, recursion_from_All}
-use Rattle.srp_base.specs.declared.numbers.EgressPort.{EgressPort}
-use Rattle.srp_base.specs.declared.bandwidth.Class.TheVariants.{A, B}
-use Rattle.srp_base.specs.declared.ports.PortChange.{PortChange}
+use Rattle.std.specs.{Option.option_map_or, List.AllByRecursion}
+use Rattle.std.proofs.lemmas.{Bool.cond-true, Bool.cond-false, Bool.cases_Bool, Bool.le-leb, Bool.lt-leb, Bool.false≢true, Option.none-some, Option.same_Some, List.take_at, List.Elements.All-from_recursion, List.Elements.recursion_from_All}
+use Rattle.srp_base.proofs.Lists.{within, Each-map as each_weaker}
+use Rattle.srp_base.specs.declared.{numbers.EgressPort.EgressPort, bandwidth.Class.TheVariants.A, bandwidth.Class.TheVariants.B, ports.PortChange.PortChange}
 use Rattle.tree_topology.specs.Topology.{HasPort}
-use Rattle.frame_flow.specs.Force.{is_port, changes_at, last_upto, in_force}
-use Rattle.frame_flow.specs.Given.{IsEarlier}
+use Rattle.frame_flow.specs.{Force.is_port, Force.changes_at, Force.last_upto, Force.in_force, Given.IsEarlier}
 use Rattle.topology_file.specs.Plan.{Plan}
 use Rattle.attribute_propagation.specs.Ports.{place_of}
 use Rattle.node_core.specs.State.{NodeState, slope_at}
-use Rattle.world_core.specs.declared.events.WorldEvent.{WorldEvent}
-use Rattle.world_core.specs.declared.journal.Tick.{Tick}
-use Rattle.world_core.specs.World.{WorldState, node_at, world_after}
-use Rattle.world_core.specs.Start.{world_of}
-use Rattle.world_core.specs.Ticks.{script_at, step_events, after_steps, closing_events, tick_events}
-use Rattle.world_core.specs.Moments.{events_from, IsMoment}
-use Rattle.world_core.specs.Limits.{caps_at, booked_at_port, IsWithinLimits}
-use Rattle.world_core.specs.Reservation.{Reservation, no_reservation, said_by}
-use Rattle.world_core.specs.Timeline.{node_force, force_at, world_after_ticks, IsAfterSteps, IsTimelineOf}
-use Rattle.world_core.proofs.Lists.{within}
-use Rattle.world_core.proofs.PortOrder.{AreInOrder, port_itself, same_port, before_other, earlier_is, order_from_pairs, at_append, each_weaker, upto_append}
-use Rattle.world_core.proofs.Timelines.{after_both}
+use Rattle.world_core.specs.{WorldEvent, Tick, WorldState, node_at, world_after, world_of, script_at, step_events, after_steps, closing_events, tick_events, events_from, IsMoment, caps_at, booked_at_port, IsWithinLimits, no_reservation, said_by, node_force, force_at, world_after_ticks, IsAfterSteps, IsTimelineOf}
+use Rattle.world_core.specs.Reservation.{Reservation}
+use Rattle.world_core.proofs.{PortOrder.AreInOrder, PortOrder.port_itself, PortOrder.same_port, PortOrder.before_other, PortOrder.earlier_is, PortOrder.order_from_pairs, PortOrder.at_append, PortOrder.upto_append, Timelines.after_both}
 
 -- ---- a change is in force in its own tick
 

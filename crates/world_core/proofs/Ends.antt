@@ -3,23 +3,13 @@
 use Rattle.std.proofs.Common.{◌≡◌, ◌≢◌, ◌⊎◌, inl, inr, ℕ, ◌-◌, ◌<◌, List, ◌++◌, refl, sym, ap, subst, ◌∙◌, arith}
 use Rattle.std.specs.Prelude.{Some, option_map, IsTrue}
 use Rattle.srp_base.specs.declared.numbers.EgressPort.{EgressPort}
-use Rattle.tree_topology.specs.Topology.{Topology, HasPort}
-use Rattle.tree_topology.specs.Ports.{peer_of}
-use Rattle.tree_topology.specs.PortLaws.{HasPortLaws}
-use Rattle.tree_topology.specs.Walk.{is_behind}
-use Rattle.mrp_participant.specs.MarkedLink.{MarkedLink, AreMarkedDutiesMet, other_marked_view}
-use Rattle.mrp_participant.specs.State.{State}
+use Rattle.tree_topology.specs.{Topology.Topology, Topology.HasPort, Ports.peer_of, PortLaws.HasPortLaws, Walk.is_behind}
+use Rattle.mrp_participant.specs.{MarkedLink.MarkedLink, MarkedLink.AreMarkedDutiesMet, MarkedLink.other_marked_view, State.State}
 use Rattle.attribute_propagation.specs.Ports.{place_of}
 use Rattle.node_core.specs.declared.types.Wire.{Wire}
-use Rattle.node_core.specs.Proper.{IsProperNode}
-use Rattle.node_core.specs.State.{NodeState, box_at, ports_of}
-use Rattle.world_core.specs.World.{WorldState, node_at, with_changed, inbox, outbox}
-use Rattle.world_core.specs.declared.marks.EndMark.{EndMark}
-use Rattle.world_core.specs.Marks.{MarksState, BothMarks, mark_at}
-use Rattle.world_core.specs.Duty.{part_at, marked_link}
-use Rattle.world_core.proofs.Lists.{decide_port, same_numbers}
-use Rattle.world_core.proofs.Views.{AppView, AreMet, Met, Boxed, KeepsLink, met_same}
-use Rattle.world_core.proofs.Nodes.{Base, SameAt, SameAtPort, same_port, node_same, same_tree, node_there, part_there, part_is, inbox_is, outbox_is}
+use Rattle.node_core.specs.{Proper.IsProperNode, State.NodeState, State.box_at, State.ports_of}
+use Rattle.world_core.specs.{WorldState, node_at, with_changed, inbox, outbox, EndMark, MarksState, BothMarks, mark_at, part_at, marked_link}
+use Rattle.world_core.proofs.{Lists.decide_port, Lists.same_numbers, Views.AppView, Views.AreMet, Views.Met, Views.Boxed, Views.KeepsLink, Views.met_same, Nodes.Base, Nodes.SameAt, Nodes.SameAtPort, Nodes.same_port, Nodes.node_same, Nodes.same_tree, Nodes.node_there, Nodes.part_there, Nodes.part_is, Nodes.inbox_is, Nodes.outbox_is}
 
 module _ (tree : Topology) (laws : HasPortLaws tree) where
   -- a port's peer is at another node

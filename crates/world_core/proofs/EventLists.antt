@@ -2,9 +2,7 @@
 use Rattle.std.proofs.Common.{◌≡◌, ℕ, zero, suc, ◌+◌, ◌<◌, ◌≤◌, List, [], ◌∷◌, ◌++◌, length, take, drop, get_or, refl, sym, ap, subst, ◌∙◌, append_assoc, arith}
 use Rattle.std.proofs.Math.Seq.{drop-cons, take-suc}
 use Rattle.std.proofs.lemmas.List.{append-nil}
-use Rattle.world_core.specs.declared.events.WorldEvent.{WorldEvent}
-use Rattle.world_core.specs.declared.events.WorldReply.{WorldReply}
-use Rattle.world_core.specs.World.{WorldState, Happened, world_step, world_after, replies_to, CanHappen, CanAllHappen}
+use Rattle.world_core.specs.{WorldEvent, WorldReply, WorldState, Happened, world_step, world_after, replies_to, CanHappen, CanAllHappen}
 use Rattle.world_core.proofs.Runs.{after_append}
 
 -- the first i events have led from a network to another, with these answers

@@ -1,34 +1,21 @@
 -- One of a list of nodes becomes another: the list then, and where ports stand in it.
 use Rattle.std.proofs.Common.{◌≡◌, ℕ, zero, suc, ◌+◌, ◌-◌, ◌∷◌, Bool, true, false, List, [], length, map, take, refl, sym, ap, subst, ◌∙◌, arith}
-use Rattle.std.specs.Prelude.{◌<◌, ◌≤◌, nat_le, slice_get, slice_set, Option, Some, None, option_map, Result, Ok, Err, OnOk, OnErr, if◌then◌else◌}
-use Rattle.std.proofs.lemmas.Option.{slice_get_within, slice_get_read}
-use Rattle.std.proofs.lemmas.Bool.{lt-ltb}
-use Rattle.std.proofs.lemmas.List.{append-nil, map-set}
-use Rattle.std.specs.List.{AllByRecursion}
-use Rattle.std.specs.Option.{option_map_or}
+use Rattle.std.specs.Prelude.{◌<◌, ◌≤◌, nat_le, slice_get, slice_set, Option, Some, None, option_map, Result, Ok, Err, OnErr, if◌then◌else◌}
+use Rattle.std.proofs.lemmas.{Option.slice_get_within, Option.slice_get_read, Bool.lt-ltb, List.append-nil, List.map-set}
+use Rattle.std.specs.{List.AllByRecursion, Option.option_map_or}
 use Rattle.std.proofs.Math.ListN.{length-set, get_or}
-use Rattle.srp_base.specs.declared.numbers.NodeNo.{NodeNo}
-use Rattle.srp_base.specs.declared.numbers.EgressPort.{EgressPort}
-use Rattle.srp_base.specs.declared.mrp.App.{App}
-use Rattle.srp_base.specs.declared.mrp.App.TheVariants.{Mvrp, Msrp}
+use Rattle.srp_base.proofs.Lists.{set_set, get_set, get-set_same as get_set_same}
+use Rattle.srp_base.specs.declared.{numbers.NodeNo.NodeNo, numbers.EgressPort.EgressPort, mrp.App.App, mrp.App.TheVariants.Mvrp, mrp.App.TheVariants.Msrp}
 use Rattle.mvrp.specs.Part.{Part}
-use Rattle.tree_topology.specs.Topology.{Topology}
-use Rattle.tree_topology.specs.Ports.{peer_of}
+use Rattle.tree_topology.specs.{Topology.Topology, Ports.peer_of}
 use Rattle.attribute_propagation.specs.Ports.{IsLinkPort, place_of}
 use Rattle.flat_side.specs.Side.{with_part_at, with_part}
-use Rattle.node_core.specs.declared.types.NodeEvent.{NodeEvent}
-use Rattle.node_core.specs.declared.types.StepReply.{StepReply}
-use Rattle.node_core.specs.declared.types.Wire.{Wire}
-use Rattle.node_core.specs.Holding.{NodeHolding, states_in}
-use Rattle.node_core.specs.State.{NodeState, box_at, ports_of}
-use Rattle.node_core.proofs.Boxes.{set_set, set_same}
-use Rattle.node_core.specs.Step.{Stepped, node_step}
-use Rattle.node_core.specs.Links.{with_outbox, with_carried, has_index, has_place, forged_at, spoilt_at}
-use Rattle.world_core.specs.Marks.{MarksState}
-use Rattle.world_core.specs.World.{WorldState, Happened, world_with, after_step, step_of_node, StandsAt, nodes_with, with_changed, outbox, app_of, reaches, with_unsound_ends, with_forgery, after_carrying}
-use Rattle.world_core.specs.declared.events.WorldReply.TheVariants.{Step, Done, Missed}
-use Rattle.world_core.proofs.Boxes.{box_none}
-use Rattle.world_core.proofs.Lists.{set_each, get_set, get_set_same}
+use Rattle.node_core.specs.declared.{types.NodeEvent.NodeEvent, types.StepReply.StepReply, types.Wire.Wire}
+use Rattle.node_core.specs.{Holding.NodeHolding, Holding.states_in, State.NodeState, State.box_at, State.ports_of, Step.Stepped, Step.node_step, Links.with_outbox, Links.with_carried, Links.has_index, Links.has_place, Links.forged_at, Links.spoilt_at}
+use Rattle.node_core.proofs.Boxes.{set_same}
+use Rattle.world_core.specs.{MarksState, WorldState, Happened, world_with, after_step, step_of_node, StandsAt, nodes_with, with_changed, outbox, app_of, reaches, with_unsound_ends, with_forgery, after_carrying, Step, Done}
+use Rattle.world_core.specs.declared.events.WorldReply.TheVariants.{Missed}
+use Rattle.world_core.proofs.{Boxes.box_none, Lists.set_each}
 
 -- ---- the states of the nodes where the node at a place has changed in its place
 
@@ -297,14 +284,6 @@ empty_there p nodes a ea s is = by (slice_get nodes (p.node.0 - 1)) refl (ap (λ
         ∙ box_none t.outboxes (place_of p.port)
 
 -- ---- what holds of a list's becoming another holds where it is so
-
-pub on_ok : {A E P Q : Type 0} (r : Result A E) → (P → Q) → OnOk r P → OnOk r Q
-on_ok (Ok a) f h = f h
-on_ok (Err e) f h = h
-
-pub on_err : {A E P : Type 0} (r : Result A E) → P → OnErr r P
-on_err (Ok a) h = tt
-on_err (Err e) h = h
 
 pub still_on_err : {A E P Q : Type 0} (r : Result A E) → (P → Q) → OnErr r P → OnErr r Q
 still_on_err (Ok a) f h = tt

@@ -1,31 +1,18 @@
 -- The changes of a run in a list for each port: what is joined of them, and what noting makes of them.
 use Rattle.std.proofs.Common.{◌≡◌, ℕ, zero, suc, ◌+◌, ◌-◌, ◌<◌, ◌≤◌, Bool, true, false, cond, List, [], ◌∷◌, ◌++◌, length, get_or, set, map, take, inl, inr, Option, Some, None, refl, sym, ap, subst, ◌∙◌, arith}
 use Rattle.std.specs.Prelude.{flat_map, ◌==◌, ◌&&◌, ◌||◌, nat_le}
-use Rattle.std.specs.List.{AllByRecursion, range_with_len, list_any}
-use Rattle.std.specs.Option.{option_map_or}
-use Rattle.std.specs.Cmp.Lexicographic.{pointwise_decides}
-use Rattle.std.proofs.lemmas.Bool.{cond-true, cond-false, cond_both, cases_Bool, eqb-true, eq-eqb, and_from, le-leb}
-use Rattle.std.proofs.lemmas.List.{take_more, map-append}
-use Rattle.std.proofs.lemmas.List.Concat.{flat_map-append}
-use Rattle.std.proofs.lemmas.List.Folds.{list_any-append}
-use Rattle.std.proofs.lemmas.List.Elements.{recursion_from_All}
-use Rattle.srp_base.specs.declared.numbers.NodeNo.{NodeNo}
-use Rattle.srp_base.specs.declared.numbers.EgressPort.{EgressPort}
-use Rattle.srp_base.specs.declared.ports.PortChange.{PortChange}
+use Rattle.std.specs.{List.AllByRecursion, List.range_with_len, List.list_any, Option.option_map_or, Cmp.Lexicographic.pointwise_decides}
+use Rattle.std.proofs.lemmas.{Bool.cond-true, Bool.cond-false, Bool.cond_both, Bool.cases_Bool, Bool.eqb-true, Bool.eq-eqb, Bool.and_from, Bool.le-leb, List.take_more, List.map-append, List.Concat.flat_map-append, List.Folds.list_any-append, List.Elements.recursion_from_All}
+use Rattle.srp_base.proofs.Lists.{each_append, Each-map as each_weaker, each_filter, range-push as range_push}
+use Rattle.srp_base.specs.declared.{numbers.NodeNo.NodeNo, numbers.EgressPort.EgressPort, ports.PortChange.PortChange}
 use Rattle.tree_topology.specs.declared.graph.Link.{Link}
-use Rattle.tree_topology.specs.Topology.{Topology, HasNode, HasPort}
-use Rattle.tree_topology.specs.Ports.{neighbours}
-use Rattle.frame_flow.specs.Force.{is_port, changes_at, last_upto, in_force}
-use Rattle.frame_flow.specs.Copies.{ports_at, port_of}
+use Rattle.tree_topology.specs.{Topology.Topology, Topology.HasNode, Topology.HasPort, Ports.neighbours}
+use Rattle.frame_flow.specs.{Force.is_port, Force.changes_at, Force.last_upto, Force.in_force, Copies.ports_at, Copies.port_of}
 use Rattle.attribute_propagation.specs.Ports.{place_of}
 use Rattle.node_core.specs.State.{NodeState}
-use Rattle.world_core.specs.declared.journal.NodeSteps.{NodeSteps}
-use Rattle.world_core.specs.World.{WorldState, node_at}
-use Rattle.world_core.specs.Reservation.{Reservation, no_reservation, said_by, is_same, are_same_streams, are_same_vids, change_of}
-use Rattle.world_core.specs.Timeline.{node_force, force_at, lacking, changes_noted, tree_ports, with_notes, AreChanges, Says}
-use Rattle.world_core.specs.History.{by_port, joined_ports, all_changes_of, IsByPort, ComeUpTo, is_act, acts_at, has_acted, act_noted, acts_noted, node_noted, ports_noted}
-use Rattle.world_core.proofs.PortOrder.{AreAt, each_append, each_weaker, each_filter, are_at, flat_at, same_flat, one_more_from}
-use Rattle.world_core.proofs.Noting.{same_stream, same_vid, tree_ports_ascend, has_port_in, each_port_has, lacking_at, lacks_none, range_push}
+use Rattle.world_core.specs.{NodeSteps, WorldState, node_at, no_reservation, said_by, is_same, are_same_streams, are_same_vids, change_of, node_force, force_at, lacking, changes_noted, tree_ports, with_notes, AreChanges, Says, by_port, joined_ports, all_changes_of, IsByPort, ComeUpTo, is_act, acts_at, has_acted, act_noted, acts_noted, node_noted, ports_noted}
+use Rattle.world_core.specs.Reservation.{Reservation}
+use Rattle.world_core.proofs.{PortOrder.AreAt, PortOrder.are_at, PortOrder.flat_at, PortOrder.same_flat, PortOrder.one_more_from, Noting.same_stream, Noting.same_vid, Noting.tree_ports_ascend, Noting.has_port_in, Noting.each_port_has, Noting.lacking_at, Noting.lacks_none}
 
 -- ---- lists for each port
 

@@ -2,14 +2,10 @@
 use Rattle.std.proofs.Common.{◌≡◌, ℕ, suc, ◌+◌, ◌-◌, ◌<◌, Bool, true, List, ◌∷◌, length, drop, get_or, ap, sym, ◌∙◌, arith}
 use Rattle.std.specs.Prelude.{◌&&◌}
 use Rattle.std.specs.List.{list_all}
-use Rattle.std.proofs.lemmas.List.{drop_more}
-use Rattle.std.proofs.lemmas.List.Folds.{list_all-map}
-use Rattle.srp_base.specs.declared.numbers.NodeNo.{NodeNo}
-use Rattle.srp_base.specs.declared.mrp.App.TheVariants.{Mvrp, Msrp}
-use Rattle.node_core.specs.Holding.{NodeHolding, states_in}
-use Rattle.node_core.specs.State.{NodeState, is_still_node, ports_of}
-use Rattle.world_core.specs.Marks.{MarksState}
-use Rattle.world_core.specs.World.{are_nodes_sound, are_ports_sound, is_sound_in}
+use Rattle.std.proofs.lemmas.{List.drop_more, List.Folds.list_all-map}
+use Rattle.srp_base.specs.declared.{numbers.NodeNo.NodeNo, mrp.App.TheVariants.Mvrp, mrp.App.TheVariants.Msrp}
+use Rattle.node_core.specs.{Holding.NodeHolding, Holding.states_in, State.NodeState, State.is_still_node, State.ports_of}
+use Rattle.world_core.specs.{MarksState, are_nodes_sound, are_ports_sound, is_sound_in}
 use Rattle.world_core.proofs.Happenings.{state_is}
 
 -- whether both applications at a port of a node are sound

@@ -1,18 +1,9 @@
 -- Each event of a network, and each list of events, keeps what every network keeps.
 use Rattle.std.proofs.Common.{List, [], ◌∷◌}
 use Rattle.std.specs.List.{AllByRecursion}
-use Rattle.tree_topology.specs.Topology.{Topology, IsSound}
-use Rattle.tree_topology.specs.PortLaws.{HasPortLaws}
-use Rattle.world_core.specs.declared.events.WorldEvent.{WorldEvent}
-use Rattle.world_core.specs.World.{WorldState, world_step, world_after, CanHappen, CanAllHappen, IsEventInRange}
-use Rattle.world_core.specs.Duty.{AreVlanDutiesMet, AreStreamDutiesMet}
-use Rattle.world_core.specs.Kept.{IsKeptWorld}
-use Rattle.world_core.proofs.Nodes.{Base}
-use Rattle.world_core.proofs.BaseSteps.{NodeLaws, base_event}
-use Rattle.world_core.proofs.EventSteps.{HasMarks, met_event}
-use Rattle.world_core.proofs.MarkEvents.{marks_event}
-use Rattle.world_core.proofs.VlanSteps.{VlanLaws, vlan_view, vlan_links, vlan_facts}
-use Rattle.world_core.proofs.StreamSteps.{StreamLaws, stream_view, stream_links, stream_facts}
+use Rattle.tree_topology.specs.{Topology.Topology, Topology.IsSound, PortLaws.HasPortLaws}
+use Rattle.world_core.specs.{WorldEvent, WorldState, world_step, world_after, CanHappen, CanAllHappen, IsEventInRange, AreVlanDutiesMet, AreStreamDutiesMet, IsKeptWorld}
+use Rattle.world_core.proofs.{Nodes.Base, BaseSteps.NodeLaws, BaseSteps.base_event, EventSteps.HasMarks, EventSteps.met_event, MarkEvents.marks_event, VlanSteps.VlanLaws, VlanSteps.vlan_view, VlanSteps.vlan_links, VlanSteps.vlan_facts, StreamSteps.StreamLaws, StreamSteps.stream_view, StreamSteps.stream_links, StreamSteps.stream_facts}
 
 pub base_kept : (w : WorldState) → IsKeptWorld w → Base w
 base_kept w kept = record { tree = kept.tree; many = kept.many; nodes = kept.nodes; clock = kept.clock }

@@ -1,17 +1,13 @@
 -- The last of the changes at a port, among changes that ascend.
 use Rattle.std.proofs.Common.{◌≡◌, ℕ, zero, suc, ◌+◌, ◌<◌, ◌≤◌, inl, inr, true, false, cond, List, [], ◌∷◌, ◌++◌, length, get_or, take, Some, refl, sym, ◌∙◌, ap, subst, arith}
 use Rattle.std.specs.Prelude.{All, AllPairs, not, nat_lt, ◌==◌, ◌&&◌}
-use Rattle.std.specs.List.{AllWithin}
-use Rattle.std.specs.List.Sorted.{IsPartitionedBy}
-use Rattle.std.proofs.lemmas.Bool.{cond-true, cases_Bool, cases_lt, cases_eq, eqb-true, ltb-true, or_cases, and_parts, false≢true, not_from_false, not-true}
-use Rattle.std.proofs.lemmas.List.{take_more, get_or-take, length-take, get_or_default}
-use Rattle.std.proofs.lemmas.List.Elements.{recursion_from_All, All-from_all_within}
-use Rattle.srp_base.specs.declared.numbers.EgressPort.{EgressPort}
-use Rattle.srp_base.specs.declared.ports.PortChange.{PortChange}
-use Rattle.frame_flow.specs.Force.{is_port, changes_at, in_force}
-use Rattle.frame_flow.specs.Given.{IsEarlier}
-use Rattle.world_core.specs.Merging.{precedes}
-use Rattle.world_core.proofs.PortOrder.{IsBefore, before_along, after_other, same_port, is_same_port, earlier_is, each_weaker, kept_none, at_append, precedes_before, one_more_from}
+use Rattle.std.specs.{List.AllWithin, List.Sorted.IsPartitionedBy}
+use Rattle.std.proofs.lemmas.{Bool.cond-true, Bool.cases_Bool, Bool.cases_lt, Bool.cases_eq, Bool.eqb-true, Bool.ltb-true, Bool.or_cases, Bool.and_parts, Bool.false≢true, Bool.not_from_false, Bool.not-true, List.take_more, List.get_or-take, List.length-take, List.get_or_default, List.Elements.recursion_from_All, List.Elements.All-from_all_within}
+use Rattle.srp_base.proofs.Lists.{Each-map as each_weaker}
+use Rattle.srp_base.specs.declared.{numbers.EgressPort.EgressPort, ports.PortChange.PortChange}
+use Rattle.frame_flow.specs.{Force.is_port, Force.changes_at, Force.in_force, Given.IsEarlier}
+use Rattle.world_core.specs.{precedes}
+use Rattle.world_core.proofs.PortOrder.{IsBefore, before_along, after_other, same_port, is_same_port, earlier_is, kept_none, at_append, precedes_before, one_more_from}
 
 before_from : (p q : EgressPort) → precedes p q ≡ true → IsBefore p q
 before_from p q is =

@@ -2,13 +2,8 @@
 use Rattle.std.proofs.Common.{◌≡◌, ℕ, zero, suc, ◌+◌, ◌-◌, ◌*◌, ◌≤◌, Bool, true, false, ◌||◌, if◌then◌else◌, List, [], ◌∷◌, ◌++◌, map, filter, refl, sym, ap, subst, ◌∙◌, arith}
 use Rattle.std.specs.Prelude.{slice_get, slice_set, Option, Some, None, option_map, ◌==◌}
 use Rattle.std.specs.Option.{option_map_or}
-use Rattle.srp_base.specs.declared.numbers.Cs.{Cs}
-use Rattle.srp_base.specs.declared.numbers.BridgeId.{BridgeId}
-use Rattle.srp_base.specs.declared.bandwidth.Class.{Class}
-use Rattle.srp_base.specs.declared.bandwidth.Class.TheVariants.{A, B}
-use Rattle.srp_base.specs.declared.ports.PortSetup.{PortSetup}
-use Rattle.srp_base.specs.declared.mrp.App.{App}
-use Rattle.srp_base.specs.declared.mrp.App.TheVariants.{Mvrp, Msrp}
+use Rattle.srp_base.proofs.Lists.{at_each, within}
+use Rattle.srp_base.specs.declared.{numbers.Cs.Cs, numbers.BridgeId.BridgeId, bandwidth.Class.Class, bandwidth.Class.TheVariants.A, bandwidth.Class.TheVariants.B, ports.PortSetup.PortSetup, mrp.App.App, mrp.App.TheVariants.Mvrp, mrp.App.TheVariants.Msrp}
 use Rattle.stream_importance.specs.declared.slope.Caps.{Caps}
 use Rattle.port_ledger.specs.Book.{Book, IsKept as IsKeptBook, booked_slope}
 use Rattle.tree_topology.specs.Topology.{HasPort}
@@ -16,28 +11,12 @@ use Rattle.topology_file.specs.declared.entries.LinkEntry.{LinkEntry}
 use Rattle.topology_file.specs.Plan.{Plan}
 use Rattle.attribute_propagation.specs.Ports.{place_of}
 use Rattle.msrp.specs.declared.domain.DomainSet.{DomainSet}
-use Rattle.msrp.specs.PortState.{PortState}
-use Rattle.msrp.specs.Proper.{Setup, setup_of as port_setup}
-use Rattle.msrp.specs.Side.{IsPort, new_port}
+use Rattle.msrp.specs.{PortState.PortState, Proper.Setup, Proper.setup_of as port_setup, Side.IsPort, Side.new_port}
 use Rattle.node_core.specs.declared.types.NodeEvent.{NodeEvent}
 use Rattle.node_core.specs.declared.types.NodeEvent.TheVariants as node_events
-use Rattle.node_core.specs.Links.{spoilt_at}
-use Rattle.node_core.specs.Proper.{port_setups}
-use Rattle.node_core.specs.State.{NodeState, slope_at}
-use Rattle.node_core.specs.Step.{node_step}
-use Rattle.world_core.specs.declared.events.WorldEvent.{WorldEvent}
-use Rattle.world_core.specs.declared.events.WorldEvent.TheVariants.{Request, Port as PortEvent, Lose, Repeat, Forge, Carry, Clock}
-use Rattle.world_core.specs.Kept.{IsKeptWorld}
-use Rattle.world_core.specs.Limits.{is_link_of, links_of, caps_of_link, no_caps, caps_at, booked_at_port, IsWithinLimits}
-use Rattle.world_core.specs.Start.{domain_set, setup_of, end_setup, setups_from, world_of}
-use Rattle.world_core.specs.World.{WorldState}
-use Rattle.world_core.proofs.Lists.{at_each, within, set_at}
-use Rattle.world_core.proofs.Beginnings.{new_at}
-use Rattle.world_core.proofs.EachNode.{AllNodes, IsOfSides, KeepsOwn}
-use Rattle.world_core.proofs.Keeping.{base_kept}
-use Rattle.world_core.proofs.Nodes.{node_there, place_within, proper_at}
-use Rattle.world_core.proofs.StreamSteps.{calling, spoilt_is}
-use Rattle.world_core.proofs.Views.{unsound}
+use Rattle.node_core.specs.{Links.spoilt_at, Proper.port_setups, State.NodeState, State.slope_at, Step.node_step}
+use Rattle.world_core.specs.{WorldEvent, Request, Port as PortEvent, Lose, Repeat, Forge, Carry, Clock, IsKeptWorld, is_link_of, links_of, caps_of_link, no_caps, caps_at, booked_at_port, IsWithinLimits, domain_set, setup_of, end_setup, setups_from, world_of, WorldState}
+use Rattle.world_core.proofs.{Lists.set_at, Beginnings.new_at, EachNode.AllNodes, EachNode.IsOfSides, EachNode.KeepsOwn, Keeping.base_kept, Nodes.node_there, Nodes.place_within, Nodes.proper_at, StreamSteps.calling, StreamSteps.spoilt_is, Views.unsound}
 
 -- what the ports of a node may give away, by how they are set up
 abbrev caps_in : NodeState → List Caps

@@ -1,30 +1,16 @@
 -- What a node's step makes of a participant, of the boxes at its port and of the marks, keeps what the port's link does, in any
 -- application: a call of the participant, the receipt of the front PDU, and the sending of one.
-use Rattle.std.proofs.Common.{◌≡◌, Bool, true, false, ◌&&◌, ◌||◌, if◌then◌else◌, ℕ, zero, suc, ◌+◌, ◌-◌, List, [], ◌∷◌, ◌++◌, fold, refl, sym, ap, subst, ◌∙◌, append_assoc, arith}
+use Rattle.std.proofs.Common.{◌≡◌, Bool, true, false, ◌&&◌, ◌||◌, if◌then◌else◌, ℕ, ◌+◌, ◌-◌, List, [], ◌∷◌, ◌++◌, fold, refl, sym, ap, subst, ◌∙◌, append_assoc, arith}
 use Rattle.std.specs.Prelude.{Option, Some, None, option_map, filter_map, ◌==◌}
 use Rattle.std.specs.List.{cons_option}
-use Rattle.std.proofs.lemmas.Bool.Decides.{nat_tests}
-use Rattle.std.proofs.lemmas.List.{append-nil}
-use Rattle.std.proofs.lemmas.List.Elements.{filter_map-append}
-use Rattle.srp_base.specs.declared.numbers.Cs.{Cs}
-use Rattle.srp_base.specs.declared.mrp.App.{App}
-use Rattle.mrp_participant.specs.State.{State, Messages, is_active, is_silent, declared_state, withdrawn_state, due_state, left_state, leave_all_state, periodic_state, received_state, sent_state, sent_messages}
-use Rattle.mrp_participant.specs.Link.EndEvent.{Declares, Withdraws, Leaves, Fires, FiresLeaveAll, FiresPeriodic, Sends, Receives}
-use Rattle.mrp_participant.specs.Link.LinkEvent.{AtNear}
-use Rattle.mrp_participant.specs.MarkedLink.{Mark, MarkedLink, IsNoMore, IsClear, AreMarkedDutiesMet, is_nothing, mark_sending, mark_sent, seen_state}
+use Rattle.std.proofs.lemmas.{Bool.Decides.nat_tests, List.append-nil, List.Elements.filter_map-append}
+use Rattle.srp_base.proofs.{Bools.first_holds as and_first, Bools.or-map_right as or_either, Lists.mapped}
+use Rattle.srp_base.specs.declared.{numbers.Cs.Cs}
+use Rattle.mrp_participant.specs.{State.State, State.Messages, State.is_active, State.is_silent, State.declared_state, State.withdrawn_state, State.due_state, State.left_state, State.leave_all_state, State.periodic_state, State.received_state, State.sent_state, State.sent_messages, Link.EndEvent.Declares, Link.EndEvent.Withdraws, Link.EndEvent.Leaves, Link.EndEvent.Fires, Link.EndEvent.FiresLeaveAll, Link.EndEvent.FiresPeriodic, Link.EndEvent.Sends, Link.EndEvent.Receives, Link.LinkEvent.AtNear, MarkedLink.Mark, MarkedLink.MarkedLink, MarkedLink.AreMarkedDutiesMet, MarkedLink.is_nothing, MarkedLink.mark_sending, MarkedLink.mark_sent, MarkedLink.seen_state}
 use Rattle.node_core.specs.declared.types.Wire.{Wire}
-use Rattle.node_core.specs.Leaving.{has_leave_all}
-use Rattle.node_core.specs.State.{NodeState, box_at}
-use Rattle.world_core.specs.declared.marks.EndMark.{EndMark}
-use Rattle.world_core.specs.Marks.{BothMarks, is_same_app, count_of, after_saying, after_hearing_of, after_taking, with_fewer, both_sent, both_took}
-use Rattle.world_core.specs.Duty.{IsLinkMet, flags_of, marked_link}
-use Rattle.world_core.proofs.Counts.{one_of, count_append, none_said}
-use Rattle.world_core.proofs.Views.{AppView, LinkLaws, Met, Boxed, KeepsLink, both_heard, both_same, says_leave_all, met_same}
-use Rattle.world_core.proofs.SameSaid.{SaysSame, says_same_duties}
-
--- what was there has become something else
-pub mapped : {X : Type 0} (f : X → X) (o : Option X) (x y : X) → o ≡ Some x → option_map f o ≡ Some y → f x ≡ y
-mapped f o x y old new = cc (ap (option_map f) old)
+use Rattle.node_core.specs.{Leaving.has_leave_all, State.NodeState, State.box_at}
+use Rattle.world_core.specs.{BothMarks, is_same_app, count_of, after_saying, after_hearing_of, both_sent, both_took, flags_of}
+use Rattle.world_core.proofs.{Counts.one_of, Counts.count_append, Counts.none_said, Views.AppView, Views.LinkLaws, Views.Met, Views.Boxed, Views.KeepsLink, Views.both_same, Views.says_leave_all, Views.met_same, SameSaid.SaysSame, SameSaid.says_same_duties}
 
 -- ---- numbers and tests, on plain variables
 
@@ -40,10 +26,6 @@ none_fewer a e = omega (arith, e)
 one_more : (a b c : ℕ) → a ≡ b → c ≡ b + 1 → a + 1 ≡ c
 one_more a b c e f = omega (arith, e, f)
 
-and_first : (a b : Bool) → (a && b) ≡ true → a ≡ true
-and_first true b h = refl
-and_first false b h = cc
-
 and_second : (a b : Bool) → (a && b) ≡ true → b ≡ true
 and_second true b h = h
 and_second false b h = cc
@@ -52,10 +34,6 @@ and_swapped : (c l l' : Bool) → l ≡ l' → ((c && l) && c) ≡ true → (l' 
 and_swapped true true l' e h = sym (ap (λ (b : Bool). b && true) e)
 and_swapped true false l' e h = cc
 and_swapped false l l' e h = cc
-
-or_either : (a b b' : Bool) → (b ≡ true → b' ≡ true) → (a || b) ≡ true → (a || b') ≡ true
-or_either true b b' f h = refl
-or_either false b b' f h = f h
 
 or_dropped : (a b : Bool) → (b ≡ true → a ≡ true) → (a || b) ≡ true → a ≡ true
 or_dropped true b f h = refl

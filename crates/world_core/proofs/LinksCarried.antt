@@ -1,15 +1,12 @@
 -- The carrying at the end of a tick, link by link.
-use Rattle.std.proofs.Common.{◌≡◌, ℕ, zero, suc, ◌+◌, ◌-◌, ◌<◌, ◌≤◌, List, [], ◌∷◌, length, map, drop, get_or, refl, sym, ap, ◌∙◌, arith}
+use Rattle.std.proofs.Common.{◌≡◌, ℕ, suc, ◌+◌, ◌-◌, ◌<◌, ◌≤◌, List, [], ◌∷◌, length, map, drop, get_or, sym, ap, ◌∙◌, arith}
 use Rattle.std.specs.List.{flat_map}
 use Rattle.std.proofs.Math.Seq.{drop-cons}
+use Rattle.srp_base.proofs.Lists.{drop_none as drop_all}
 use Rattle.srp_base.specs.declared.numbers.EgressPort.{EgressPort}
 use Rattle.tree_topology.specs.declared.graph.Link.{Link}
-use Rattle.tree_topology.specs.Topology.{Topology, link_ports}
-use Rattle.tree_topology.specs.Ports.{port_to, ends_of}
-use Rattle.world_core.specs.declared.events.WorldEvent.TheVariants.{Carry}
-use Rattle.world_core.specs.declared.events.WorldReply.{WorldReply}
-use Rattle.world_core.specs.World.{WorldState, Happened, world_step, world_after}
-use Rattle.world_core.specs.Carrying.{carried_ends}
+use Rattle.tree_topology.specs.{Topology.Topology, Topology.link_ports, Ports.port_to, Ports.ends_of}
+use Rattle.world_core.specs.{Carry, WorldReply, WorldState, Happened, world_step, world_after, carried_ends}
 
 -- both ends of a link, one after the other
 pub both_carried : (tree : Topology) (n : ℕ) (ends : EgressPort × EgressPort) (w v u : WorldState) (first second : WorldReply) → ends ≡ ends_of tree.links n
@@ -42,12 +39,6 @@ one_carried n start w v lt after tree c =
           ∙ (ap (λ (ls : List Link). world_after (map Carry (ports ls)) w) (sym cut) ∙ c.after);
       tree = tree ∙ c.tree;
     }
-
-drop_all : {X : Type 0} (xs : List X) (i : ℕ) → length xs ≤ i → drop i xs ≡ []
-drop_all [] zero le = refl
-drop_all [] (suc i) le = refl
-drop_all (x ∷ xs) zero le = absurd (omega (arith, le))
-drop_all (x ∷ xs) (suc i) le = drop_all xs i (omega (arith, le))
 
 pub all_carried : (n : ℕ) (start w : WorldState) → length start.tree.links ≤ n → IsCarriedTo n start w → w ≡ world_after (map Carry (link_ports start.tree)) start
 all_carried n start w le c =

@@ -1,32 +1,17 @@
 -- Each event of a network keeps that its marks are those of its tree.
 use Rattle.std.proofs.Common.{◌≡◌, Bool, true, false, ◌&&◌, [], refl, sym, ap, subst, ◌∙◌}
 use Rattle.std.specs.Prelude.{slice_get, Option, Some, None}
-use Rattle.srp_base.specs.declared.numbers.EgressPort.{EgressPort}
-use Rattle.srp_base.specs.declared.mrp.App.{App}
-use Rattle.tree_topology.specs.Topology.{HasPort}
-use Rattle.tree_topology.specs.Ports.{peer_of}
-use Rattle.tree_topology.specs.PortLaws.{HasPortLaws}
+use Rattle.srp_base.specs.declared.{numbers.EgressPort.EgressPort, mrp.App.App}
+use Rattle.tree_topology.specs.{Topology.HasPort, Ports.peer_of, PortLaws.HasPortLaws}
 use Rattle.attribute_propagation.specs.Ports.{place_of}
-use Rattle.node_core.specs.declared.types.Wire.{Wire}
-use Rattle.node_core.specs.declared.types.NodeEvent.{NodeEvent}
+use Rattle.node_core.specs.declared.{types.Wire.Wire, types.NodeEvent.NodeEvent, types.PortStep.PortStep}
 use Rattle.node_core.specs.declared.types.NodeEvent.TheVariants as node_events
-use Rattle.node_core.specs.declared.types.PortStep.{PortStep}
 use Rattle.node_core.specs.declared.types.PortStep.TheVariants as steps
 use Rattle.node_core.specs.declared.types.StepReply.TheVariants.{Nothing, Discarded, Received, Fired, Settled, Silent, Sent, Taken}
-use Rattle.node_core.specs.Leaving.{has_leave_all}
-use Rattle.node_core.specs.Links.{with_outbox, with_carried}
-use Rattle.node_core.specs.State.{NodeState}
-use Rattle.node_core.specs.Step.{node_step}
-use Rattle.world_core.specs.declared.events.WorldEvent.{WorldEvent}
-use Rattle.world_core.specs.declared.events.WorldEvent.TheVariants.{Request, Port, Lose, Repeat, Forge, Carry, Clock}
-use Rattle.world_core.specs.declared.events.WorldReply.{WorldReply}
-use Rattle.world_core.specs.declared.events.WorldReply.TheVariants.{Step, Done, Missed}
-use Rattle.world_core.specs.Marks.{MarksState, IsOfTree, mark_at, both_sent, both_took, both_lost, both_copied, both_forged}
-use Rattle.world_core.specs.World.{WorldState, with_changed, inbox, outbox, app_of, reaches, step_of_node, has_leave_all_next, marks_taking, marks_sending, marks_stepping, marks_losing, marks_copying, marks_forging, world_step, CanHappen}
-use Rattle.world_core.proofs.Nodes.{same_tree, same_marks, stepped_is}
-use Rattle.world_core.proofs.MarkSteps.{are_changed}
-use Rattle.world_core.proofs.EventSteps.{HasMarks}
-use Rattle.world_core.proofs.Runs.{tree_stays}
+use Rattle.node_core.specs.{Leaving.has_leave_all, Links.with_outbox, Links.with_carried, State.NodeState, Step.node_step}
+use Rattle.world_core.specs.{WorldEvent, Request, Port, Lose, Repeat, Forge, Carry, Clock, WorldReply, Step, Done, MarksState, IsOfTree, mark_at, both_sent, both_took, both_lost, both_copied, both_forged, WorldState, with_changed, inbox, outbox, app_of, reaches, step_of_node, has_leave_all_next, marks_taking, marks_sending, marks_stepping, marks_losing, marks_copying, marks_forging, world_step, CanHappen}
+use Rattle.world_core.specs.declared.events.WorldReply.TheVariants.{Missed}
+use Rattle.world_core.proofs.{Nodes.same_tree, Nodes.same_marks, Nodes.stepped_is, MarkSteps.are_changed, EventSteps.HasMarks, Runs.tree_stays}
 
 -- these marks are those of a network's tree
 record AreOf (w : WorldState) (m : MarksState) : Type 0 where

@@ -2,19 +2,12 @@
 use Rattle.std.proofs.Common.{◌≡◌, ◌≢◌, ◌⊎◌, inl, inr, ℕ, zero, suc, ◌+◌, ◌-◌, Bool, true, false, if◌then◌else◌, List, [], ◌∷◌, refl, sym, ap, subst, ◌∙◌, arith}
 use Rattle.std.specs.Prelude.{slice_get, slice_set, Option, Some, None}
 use Rattle.std.specs.Option.{option_map_or, option_and_then}
-use Rattle.srp_base.specs.declared.numbers.EgressPort.{EgressPort}
-use Rattle.srp_base.specs.declared.mrp.App.{App}
-use Rattle.srp_base.specs.declared.mrp.App.TheVariants.{Mvrp, Msrp}
-use Rattle.tree_topology.specs.Topology.{Topology, HasPort}
-use Rattle.tree_topology.specs.Ports.{peer_of}
-use Rattle.tree_topology.specs.PortLaws.{HasPortLaws}
+use Rattle.srp_base.proofs.{Arithmetic.decide, Lists.get_set, Lists.get_set_other}
+use Rattle.srp_base.specs.declared.{numbers.EgressPort.EgressPort, mrp.App.App, mrp.App.TheVariants.Mvrp, mrp.App.TheVariants.Msrp}
+use Rattle.tree_topology.specs.{Topology.Topology, Topology.HasPort, Ports.peer_of, PortLaws.HasPortLaws}
 use Rattle.attribute_propagation.specs.Ports.{place_of}
-use Rattle.world_core.specs.declared.marks.EndMark.{EndMark}
-use Rattle.world_core.specs.declared.marks.EndMarks.{EndMarks}
-use Rattle.world_core.specs.Marks.{MarksState, BothMarks, IsOfTree, is_same_app, of_app, with_app, no_mark, end_in, mark_in, mark_at, row_with, ends_with, with_mark, with_both}
-use Rattle.world_core.proofs.Lists.{decide, decide_port, get_set, get_set_other}
-use Rattle.world_core.proofs.Counts.{app_is}
-use Rattle.world_core.proofs.Ends.{other_end, other_place}
+use Rattle.world_core.specs.{EndMark, EndMarks, MarksState, BothMarks, IsOfTree, is_same_app, of_app, with_app, no_mark, end_in, mark_in, mark_at, row_with, ends_with, with_mark, with_both}
+use Rattle.world_core.proofs.{Lists.decide_port, Counts.app_is, Ends.other_end, Ends.other_place}
 
 -- ---- one end
 

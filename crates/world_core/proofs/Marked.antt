@@ -2,35 +2,19 @@
 use Rattle.std.proofs.Common.{◌≡◌, ℕ, zero, suc, ◌+◌, ◌-◌, ◌<◌, ◌≤◌, Bool, true, false, ◌&&◌, if◌then◌else◌, List, [], ◌∷◌, ◌++◌, length, length-append, refl, sym, ap, subst, ◌∙◌, arith}
 use Rattle.std.specs.Prelude.{slice_get, Option, Some, None, IfSome, option_map, ◌^◌}
 use Rattle.std.specs.Option.{option_map_or}
-use Rattle.srp_base.specs.declared.numbers.EgressPort.{EgressPort}
-use Rattle.srp_base.specs.declared.mrp.App.{App}
-use Rattle.srp_base.specs.declared.mrp.App.TheVariants.{Mvrp, Msrp}
-use Rattle.tree_topology.specs.Topology.{Topology, HasPort}
-use Rattle.tree_topology.specs.Ports.{peer_of}
-use Rattle.tree_topology.specs.PortLaws.{HasPortLaws}
+use Rattle.srp_base.proofs.Lists.{within}
+use Rattle.srp_base.specs.declared.{numbers.EgressPort.EgressPort, mrp.App.App, mrp.App.TheVariants.Mvrp, mrp.App.TheVariants.Msrp}
+use Rattle.tree_topology.specs.{Topology.Topology, Topology.HasPort, Ports.peer_of, PortLaws.HasPortLaws}
 use Rattle.mrp_participant.specs.State.{State}
 use Rattle.msrp.specs.PortState.{PortState}
 use Rattle.attribute_propagation.specs.Ports.{place_of}
-use Rattle.node_core.specs.declared.types.Wire.{Wire}
+use Rattle.node_core.specs.declared.{types.Wire.Wire, types.PortStep.PortStep}
 use Rattle.node_core.specs.declared.types.NodeEvent.TheVariants as node_events
-use Rattle.node_core.specs.declared.types.PortStep.{PortStep}
-use Rattle.node_core.specs.Leaving.{has_leave_all, is_leave_all_at}
-use Rattle.node_core.specs.Proper.{IsProperNode}
-use Rattle.node_core.specs.State.{NodeState, ports_of}
+use Rattle.node_core.specs.{Leaving.has_leave_all, Leaving.is_leave_all_at, Proper.IsProperNode, State.NodeState, State.ports_of}
 use Rattle.world_core.specs.declared.events.WorldEvent.TheVariants as events
-use Rattle.world_core.specs.declared.events.WorldReply.{WorldReply}
-use Rattle.world_core.specs.declared.events.WorldReply.TheVariants.{Done, Missed}
-use Rattle.world_core.specs.Kept.{IsKeptWorld}
-use Rattle.world_core.specs.Marking.{is_done}
-use Rattle.world_core.specs.Marks.{MarksState, is_same_app, mark_at, count_of, with_both, both_took}
-use Rattle.world_core.specs.World.{WorldState, Happened, node_at, has_leave_all_next, inbox, outbox, app_of, step_of_node, after_port, marks_taking, marks_stepping, marks_losing, marks_copying, marks_forging, with_loss, after_repeat, with_forgery, with_marks, reaches, world_step}
-use Rattle.world_core.proofs.Counts.{app_same, count_append, count_some}
-use Rattle.world_core.proofs.Keeping.{base_kept}
-use Rattle.world_core.proofs.Lists.{within}
-use Rattle.world_core.proofs.Nodes.{node_there, part_there, part_is}
-use Rattle.world_core.proofs.StreamSteps.{stream_view}
-use Rattle.world_core.proofs.Views.{AppView, AreMet}
-use Rattle.world_core.proofs.VlanSteps.{vlan_view}
+use Rattle.world_core.specs.{WorldReply, Done, IsKeptWorld, is_done, MarksState, is_same_app, mark_at, count_of, with_both, both_took, WorldState, Happened, node_at, has_leave_all_next, inbox, outbox, app_of, step_of_node, after_port, marks_taking, marks_stepping, marks_losing, marks_copying, marks_forging, with_loss, after_repeat, with_forgery, with_marks, reaches, world_step}
+use Rattle.world_core.specs.declared.events.WorldReply.TheVariants.{Missed}
+use Rattle.world_core.proofs.{Counts.app_same, Counts.count_append, Counts.count_some, Keeping.base_kept, Nodes.node_there, Nodes.part_there, Nodes.part_is, StreamSteps.stream_view, Views.AppView, Views.AreMet, VlanSteps.vlan_view}
 
 abbrev world : Topology → List NodeState → MarksState → WorldState
 world tree nodes m = record { tree = tree; nodes = nodes; marks = m }

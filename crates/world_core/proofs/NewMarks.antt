@@ -2,17 +2,11 @@
 use Rattle.std.proofs.Common.{◌≡◌, ℕ, zero, suc, ◌+◌, ◌-◌, ◌<◌, ◌≤◌, List, [], ◌∷◌, ◌++◌, length, replicate, drop, refl, sym, ap, subst, ◌∙◌, append_assoc, arith}
 use Rattle.std.specs.Prelude.{slice_get, Option, Some, None}
 use Rattle.std.specs.Option.{option_map_or, option_and_then}
-use Rattle.srp_base.specs.declared.numbers.EgressPort.{EgressPort}
-use Rattle.srp_base.specs.declared.mrp.App.{App}
-use Rattle.srp_base.specs.declared.mrp.App.TheVariants.{Mvrp, Msrp}
-use Rattle.tree_topology.specs.declared.graph.Link.{Link}
-use Rattle.tree_topology.specs.declared.graph.NodeKind.{NodeKind}
-use Rattle.tree_topology.specs.Topology.{Topology, HasPort}
-use Rattle.tree_topology.specs.Ports.{neighbours}
+use Rattle.srp_base.specs.declared.{numbers.EgressPort.EgressPort, mrp.App.App, mrp.App.TheVariants.Mvrp, mrp.App.TheVariants.Msrp}
+use Rattle.tree_topology.specs.declared.{graph.Link.Link, graph.NodeKind.NodeKind}
+use Rattle.tree_topology.specs.{Topology.Topology, Topology.HasPort, Ports.neighbours}
 use Rattle.attribute_propagation.specs.Ports.{place_of}
-use Rattle.world_core.specs.declared.marks.EndMark.{EndMark}
-use Rattle.world_core.specs.declared.marks.EndMarks.{EndMarks}
-use Rattle.world_core.specs.Marks.{IsOfTree, of_app, no_mark, no_marks, rows_from, new_marks, mark_at}
+use Rattle.world_core.specs.{EndMark, EndMarks, IsOfTree, of_app, no_mark, no_marks, rows_from, new_marks, mark_at}
 
 none_in : (app : App) (n at : ℕ) → option_map_or (of_app app) (slice_get (replicate n no_marks) at) no_mark ≡ no_mark
 none_in app zero at = refl

@@ -2,22 +2,17 @@
 use Rattle.std.proofs.Common.{◌≡◌, ℕ, Bool, true, false, List, [], ◌∷◌, map, refl, sym, ap, subst, ◌∙◌}
 use Rattle.std.specs.Prelude.{slice_get, Some}
 use Rattle.std.specs.List.{AllByRecursion}
-use Rattle.srp_base.specs.declared.numbers.Cs.{Cs}
-use Rattle.srp_base.specs.declared.numbers.BridgeId.{BridgeId}
-use Rattle.srp_base.specs.declared.ports.PortSetup.{PortSetup}
+use Rattle.srp_base.specs.declared.{numbers.Cs.Cs, numbers.BridgeId.BridgeId, ports.PortSetup.PortSetup}
 use Rattle.tree_topology.specs.declared.graph.NodeKind.{NodeKind}
-use Rattle.topology_file.specs.declared.entries.DomainWord.{DomainWord}
+use Rattle.topology_file.specs.declared.{entries.DomainWord.DomainWord, entries.NodeEntry.NodeEntry}
 use Rattle.topology_file.specs.declared.entries.DomainWord.TheVariants as words
-use Rattle.topology_file.specs.declared.entries.NodeEntry.{NodeEntry}
 use Rattle.topology_file.specs.Plan.{Plan}
 use Rattle.mrp_participant.specs.State.{new_state}
 use Rattle.mvrp.specs.Part.{Part}
-use Rattle.msrp.specs.PortState.{PortState}
-use Rattle.msrp.specs.Domain.{domain_part}
-use Rattle.msrp.specs.Side.{new_port}
+use Rattle.msrp.specs.{PortState.PortState, Domain.domain_part, Side.new_port}
 use Rattle.node_core.specs.declared.types.Wire.{Wire}
 use Rattle.node_core.specs.State.{NodeState, new_node}
-use Rattle.world_core.specs.Start.{domain_set, setups_from, world_of, domain_rows, HasRowsAlone, IsAtStart}
+use Rattle.world_core.specs.{domain_set, setups_from, world_of, domain_rows, HasRowsAlone, IsAtStart}
 use Rattle.world_core.proofs.Beginnings.{new_at}
 
 -- what is made of each port

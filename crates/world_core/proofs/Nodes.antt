@@ -3,24 +3,17 @@ use Rattle.std.proofs.Common.{◌≡◌, ◌≢◌, ◌⊎◌, inl, inr, ℕ, ze
 use Rattle.std.specs.Prelude.{slice_get, slice_set, Option, Some, None, option_map}
 use Rattle.std.specs.Option.{option_map_or, option_and_then}
 use Rattle.std.proofs.Math.ListN.{length-set}
-use Rattle.srp_base.specs.declared.numbers.NodeNo.{NodeNo}
-use Rattle.srp_base.specs.declared.numbers.EgressPort.{EgressPort}
-use Rattle.tree_topology.specs.Topology.{HasPort, IsSound}
-use Rattle.tree_topology.specs.Ports.{neighbours}
+use Rattle.srp_base.proofs.{Arithmetic.decide, Lists.get_set, Lists.get_set_other, Lists.within}
+use Rattle.srp_base.specs.declared.{numbers.NodeNo.NodeNo, numbers.EgressPort.EgressPort}
+use Rattle.tree_topology.specs.{Topology.HasPort, Topology.IsSound, Ports.neighbours}
 use Rattle.mrp_participant.specs.State.{State}
 use Rattle.attribute_propagation.specs.Ports.{place_of}
-use Rattle.node_core.specs.declared.types.Wire.{Wire}
-use Rattle.node_core.specs.State.{NodeState, box_at, ports_of}
-use Rattle.node_core.specs.Proper.{IsProperNode}
-use Rattle.node_core.specs.Step.{node_step}
-use Rattle.node_core.specs.declared.types.NodeEvent.{NodeEvent}
+use Rattle.node_core.specs.declared.{types.Wire.Wire, types.NodeEvent.NodeEvent}
+use Rattle.node_core.specs.{State.NodeState, State.box_at, State.ports_of, Proper.IsProperNode, Step.node_step}
 use Rattle.node_core.specs.declared.types.NodeEvent.TheVariants as node_events
 use Rattle.world_core.specs.declared.events.WorldReply.TheVariants.{Missed}
-use Rattle.world_core.specs.World.{WorldState, node_at, with_changed, after_step, step_of_node, inbox, outbox}
-use Rattle.world_core.specs.Duty.{part_at}
-use Rattle.world_core.specs.Kept.{FitsTree}
-use Rattle.world_core.proofs.Views.{AppView}
-use Rattle.world_core.proofs.Lists.{decide, get_set, get_set_other, set_each, within}
+use Rattle.world_core.specs.{WorldState, node_at, with_changed, after_step, step_of_node, inbox, outbox, part_at, FitsTree}
+use Rattle.world_core.proofs.{Views.AppView, Lists.set_each}
 
 module _ (n : NodeNo) (change : NodeState → NodeState) (w : WorldState) where
   -- the node itself, and the others

@@ -1,20 +1,10 @@
 -- A legal run with what it has noted, and one tick more.
 use Rattle.std.proofs.Common.{◌≡◌, ℕ, suc, ◌+◌, false, List, [], ◌∷◌, ◌++◌, length, map, sym, ap, subst, ◌∙◌, arith}
 use Rattle.std.proofs.lemmas.List.{length_push}
-use Rattle.srp_base.specs.declared.numbers.EgressPort.{EgressPort}
-use Rattle.srp_base.specs.declared.ports.PortChange.{PortChange}
+use Rattle.srp_base.specs.declared.{numbers.EgressPort.EgressPort, ports.PortChange.PortChange}
 use Rattle.tree_topology.specs.Topology.{Topology, HasPort}
 use Rattle.topology_file.specs.Plan.{Plan}
-use Rattle.world_core.specs.declared.events.WorldEvent.{WorldEvent}
-use Rattle.world_core.specs.declared.journal.NodeSteps.{NodeSteps}
-use Rattle.world_core.specs.declared.journal.Tick.{Tick}
-use Rattle.world_core.specs.World.{WorldState, world_after}
-use Rattle.world_core.specs.Start.{world_of}
-use Rattle.world_core.specs.Ticks.{script_at, step_events, after_script, after_steps, closing_events, tick_events, IsLegalTick, LeadTo}
-use Rattle.world_core.specs.During.{IsDuring}
-use Rattle.world_core.specs.Timeline.{force_at, with_notes, AreChanges, Says, SaysFrom, world_after_ticks, IsTimelineOf}
-use Rattle.world_core.specs.History.{has_acted, acts_noted}
-use Rattle.world_core.specs.NotedRuns.{IsNotedRun}
+use Rattle.world_core.specs.{WorldEvent, NodeSteps, Tick, WorldState, world_after, world_of, script_at, step_events, after_script, after_steps, closing_events, tick_events, IsLegalTick, LeadTo, IsDuring, force_at, with_notes, AreChanges, Says, SaysFrom, world_after_ticks, IsTimelineOf, has_acted, acts_noted, IsNotedRun}
 use Rattle.world_core.proofs.Runs.{after_append}
 
 -- what this rests on, as the public laws say it

@@ -1,35 +1,18 @@
 -- What the noting of a tick makes of changes: they stay in order, and say from that tick on what is in force.
 use Rattle.std.proofs.Common.{◌≡◌, ℕ, zero, suc, ◌+◌, ◌<◌, ◌≤◌, inl, inr, true, false, List, [], ◌∷◌, ◌++◌, length, map, None, refl, sym, ◌∙◌, ap, subst, arith, append-nil, append_assoc}
 use Rattle.std.specs.Prelude.{flat_map, ◌==◌, ◌&&◌}
-use Rattle.std.specs.List.{AllByRecursion, range_with_len}
-use Rattle.std.specs.Cmp.Lexicographic.{pointwise_decides}
-use Rattle.std.proofs.lemmas.Bool.{cond-true, cond-false, cond_both, cases_Bool, eqb-true, eqb-false, eq-eqb, and_parts}
-use Rattle.std.proofs.lemmas.List.{map-append}
-use Rattle.std.proofs.lemmas.List.Concat.{flat_map-append}
-use Rattle.std.proofs.lemmas.List.Elements.{All-from_recursion, recursion_from_All}
-use Rattle.srp_base.specs.declared.numbers.EgressPort.{EgressPort}
-use Rattle.srp_base.specs.declared.numbers.StreamId.{StreamId}
-use Rattle.srp_base.specs.declared.ports.PortChange.{PortChange}
+use Rattle.std.specs.{List.AllByRecursion, List.range_with_len, Cmp.Lexicographic.pointwise_decides}
+use Rattle.std.proofs.lemmas.{Bool.cond-true, Bool.cond-false, Bool.cond_both, Bool.cases_Bool, Bool.eqb-true, Bool.eqb-false, Bool.eq-eqb, Bool.and_parts, List.map-append, List.Concat.flat_map-append, List.Elements.All-from_recursion, List.Elements.recursion_from_All}
+use Rattle.srp_base.proofs.{Lists.range-push as range_push, Lists.each_of_map, Arithmetic.numbers as each_of_range, Lists.each_append, Lists.Each-map as each_weaker, Lists.each_filter}
+use Rattle.srp_base.specs.declared.{numbers.EgressPort.EgressPort, numbers.StreamId.StreamId, ports.PortChange.PortChange}
 use Rattle.tree_topology.specs.declared.graph.Link.{Link}
-use Rattle.tree_topology.specs.Topology.{Topology, HasPort}
-use Rattle.tree_topology.specs.Ports.{neighbours}
-use Rattle.frame_flow.specs.Force.{is_port, changes_at, in_force}
-use Rattle.frame_flow.specs.Copies.{ports_at, port_of}
-use Rattle.frame_flow.specs.Given.{IsEarlier}
-use Rattle.world_core.specs.Reservation.{Reservation, said_by, are_same_streams, are_same_vids, is_same, change_of}
-use Rattle.world_core.specs.Timeline.{lacking, changes_noted, tree_ports, AreChanges}
-use Rattle.world_core.specs.Merging.{changes_among}
-use Rattle.world_core.proofs.PortOrder.{IsBefore, Ascend, IsIn, AreAt, AreInOrder, each_append, each_weaker, each_flat, each_filter, order_filter, order_from_pairs, pairs_from_order, earlier_tick, are_at, flat_at, flat_order, port_by_port, merged_flat, upto_all, one_more_before, one_more_from}
+use Rattle.tree_topology.specs.{Topology.Topology, Topology.HasPort, Ports.neighbours}
+use Rattle.frame_flow.specs.{Force.is_port, Force.changes_at, Force.in_force, Copies.ports_at, Copies.port_of, Given.IsEarlier}
+use Rattle.world_core.specs.Reservation.{Reservation}
+use Rattle.world_core.specs.{said_by, are_same_streams, are_same_vids, is_same, change_of, lacking, changes_noted, tree_ports, AreChanges, changes_among}
+use Rattle.world_core.proofs.PortOrder.{IsBefore, Ascend, IsIn, AreAt, AreInOrder, each_flat, order_filter, order_from_pairs, pairs_from_order, earlier_tick, are_at, flat_at, flat_order, port_by_port, merged_flat, upto_all, one_more_before, one_more_from}
 
 -- ---- the ports of a tree
-
-pub each_of_range : (P : ℕ → Type 0) (a n : ℕ) → ((k : ℕ) → a ≤ k → k < a + n → P k) → AllByRecursion P (range_with_len a n)
-each_of_range P a zero h = tt
-each_of_range P a (suc n) h = (h a (omega arith) (omega arith), each_of_range P (a + 1) n (λ k from below. h k (omega (arith, from)) (omega (arith, below))))
-
-each_of_map : {X Y : Type 0} (P : Y → Type 0) (f : X → Y) (xs : List X) → AllByRecursion (λ x. P (f x)) xs → AllByRecursion P (map f xs)
-each_of_map P f [] h = tt
-each_of_map P f (x ∷ xs) h = (h.0, each_of_map P f xs h.1)
 
 ports_ascend : (x a n : ℕ) → Ascend (map (port_of x) (range_with_len a n))
 ports_ascend x a zero = tt
@@ -262,9 +245,6 @@ range_pushed a zero = ap (λ (k : ℕ). k ∷ []) (let e : a ≡ a + 0 = omega a
 range_pushed a (suc n) =
     ap (λ (ks : List ℕ). a ∷ ks) (range_pushed (a + 1) n)
     ∙ ap (λ (k : ℕ). (a ∷ range_with_len (a + 1) n) ++ k ∷ []) (let e : a + 1 + n ≡ a + suc n = omega arith in e)
-
-pub range_push : (a n : ℕ) → range_with_len a (n + 1) ≡ range_with_len a n ++ (a + n) ∷ []
-range_push a n = ap (range_with_len a) (let e : n + 1 ≡ suc n = omega arith in e) ∙ range_pushed a n
 
 flat_one : {X : Type 0} (f : X → List PortChange) (x : X) → flat_map f (x ∷ []) ≡ f x
 flat_one f x = append-nil (f x)

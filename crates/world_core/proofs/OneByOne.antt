@@ -1,52 +1,18 @@
 -- The legal steps of a tick are those that are made one by one, and there are such.
-use Rattle.std.proofs.Common.{◌≡◌, ◌≢◌, ◌⊎◌, inl, inr, ℕ, zero, suc, ◌+◌, ◌-◌, ◌<◌, ◌≤◌, Bool, true, false, List, [], ◌∷◌, ◌++◌, length, map, refl, sym, ap, subst, ◌∙◌, arith}
+use Rattle.std.proofs.Common.{◌≡◌, ◌≢◌, ◌⊎◌, inl, inr, ℕ, zero, suc, ◌+◌, ◌-◌, ◌<◌, ◌≤◌, Bool, List, [], ◌∷◌, ◌++◌, length, map, refl, sym, ap, subst, ◌∙◌, arith}
 use Rattle.std.specs.Prelude.{slice_get, slice_set, Option, Some, option_map, ◌==◌, if◌then◌else◌, filter}
-use Rattle.std.specs.Option.{option_map_or}
-use Rattle.std.specs.List.{AllByRecursion, range_with_len}
-use Rattle.std.proofs.lemmas.List.{append-nil}
-use Rattle.std.proofs.lemmas.List.FromFn.{length-map-range_with_len, get_or-map-range_with_len}
-use Rattle.std.proofs.lemmas.Option.{slice_get_within, slice_get-get_or}
-use Rattle.std.proofs.lemmas.Bool.Decides.{nat_tests}
-use Rattle.srp_base.specs.declared.numbers.NodeNo.{NodeNo}
-use Rattle.srp_base.specs.declared.numbers.PortNo.{PortNo}
-use Rattle.srp_base.specs.declared.numbers.EgressPort.{EgressPort}
-use Rattle.tree_topology.specs.Topology.{Topology, HasPort}
-use Rattle.tree_topology.specs.Ports.{neighbours}
+use Rattle.std.specs.{Option.option_map_or, List.AllByRecursion, List.range_with_len}
+use Rattle.std.proofs.lemmas.{List.append-nil, List.FromFn.length-map-range_with_len, List.FromFn.get_or-map-range_with_len, Option.slice_get_within, Option.slice_get-get_or}
+use Rattle.srp_base.proofs.{Arithmetic.is_same, Lists.each_more, Arithmetic.is_other, Lists.length_set, Arithmetic.decide, Lists.get_set, Lists.get-set_same as get_set_same, Lists.get_set_other, Lists.each_of, Lists.at_each, Lists.within, Options.one_some}
+use Rattle.srp_base.specs.declared.{numbers.NodeNo.NodeNo, numbers.PortNo.PortNo, numbers.EgressPort.EgressPort}
+use Rattle.tree_topology.specs.{Topology.Topology, Topology.HasPort, Ports.neighbours}
 use Rattle.attribute_propagation.specs.Ports.{IsLinkPort, place_of}
 use Rattle.node_core.specs.declared.types.NodeEvent.TheVariants as node_events
-use Rattle.node_core.specs.declared.types.NodeStep.{NodeStep}
-use Rattle.node_core.specs.declared.types.PortStep.{PortStep}
-use Rattle.node_core.specs.State.{NodeState, ports_of, job_list}
-use Rattle.node_core.specs.Step.{node_step}
-use Rattle.world_core.specs.declared.events.WorldEvent.{WorldEvent}
-use Rattle.world_core.specs.declared.events.WorldEvent.TheVariants.{Port}
-use Rattle.world_core.specs.declared.events.WorldReply.{WorldReply}
-use Rattle.world_core.specs.declared.events.WorldReply.TheVariants.{Step, Missed}
-use Rattle.world_core.specs.declared.journal.NodeSteps.{NodeSteps}
-use Rattle.world_core.specs.World.{WorldState, node_at, after_step, world_step, world_after, replies_to}
-use Rattle.world_core.specs.Ticks.{step_events, step_replies, steps_at_port, steps_of, jobs_of, AscendByNode}
-use Rattle.world_core.specs.During.{IsDuring, IsAllowed}
-use Rattle.world_core.specs.Apart.{events_of, replies_of, HavePorts}
-use Rattle.world_core.specs.OneByOne.{node_jobs, MakeLeft, steps_before, MakeAll}
-use Rattle.world_core.proofs.Lists.{decide, same_numbers, get_set, get_set_same, get_set_other, each_of, at_each, within, one_some}
-use Rattle.world_core.proofs.Nodes.{node_same, node_other, stepped_is}
-use Rattle.world_core.proofs.OwnSteps.{replies_append}
-use Rattle.world_core.proofs.Runs.{after_append}
-
-is_same : (x y : ℕ) → x ≡ y → (x == y) ≡ true
-is_same x y e = grind (arith, nat_tests, e)
-
-is_other : (x y : ℕ) → x ≢ y → (x == y) ≡ false
-is_other x y ne = grind (arith, nat_tests, ne)
-
-length_set : {X : Type 0} (xs : List X) (i : ℕ) (y : X) → length (slice_set xs i y) ≡ length xs
-length_set [] i y = refl
-length_set (x ∷ xs) zero y = refl
-length_set (x ∷ xs) (suc i) y = ap suc (length_set xs i y)
-
-each_more : {X : Type 0} (P Q : X → Type 0) (xs : List X) → ((x : X) → P x → Q x) → AllByRecursion P xs → AllByRecursion Q xs
-each_more P Q [] f h = tt
-each_more P Q (x ∷ xs) f h = (f x h.0, each_more P Q xs f h.1)
+use Rattle.node_core.specs.declared.{types.NodeStep.NodeStep, types.PortStep.PortStep}
+use Rattle.node_core.specs.{State.NodeState, State.ports_of, State.job_list, Step.node_step}
+use Rattle.world_core.specs.{WorldEvent, Port, WorldReply, Step, NodeSteps, WorldState, node_at, after_step, world_step, world_after, replies_to, step_events, step_replies, steps_at_port, steps_of, jobs_of, AscendByNode, IsDuring, IsAllowed, events_of, replies_of, HavePorts, node_jobs, MakeLeft, steps_before, MakeAll}
+use Rattle.world_core.specs.declared.events.WorldReply.TheVariants.{Missed}
+use Rattle.world_core.proofs.{Lists.same_numbers, Nodes.node_same, Nodes.node_other, Nodes.stepped_is, OwnSteps.replies_append, Runs.after_append}
 
 -- two lists in two parts each, of which the first are as long as one another
 same_parts : {X : Type 0} (a b c d : List X) → length a ≡ length b → a ++ c ≡ b ++ d → (a ≡ b) × (c ≡ d)

@@ -1,43 +1,20 @@
 -- Nodes that make their steps apart: a network with one more such node, with all of them, and what is kept.
-use Rattle.std.proofs.Common.{◌≡◌, ◌≢◌, ℕ, zero, suc, ◌-◌, ◌<◌, ◌≤◌, Bool, false, List, [], ◌∷◌, ◌++◌, refl, sym, ap, subst, ◌∙◌, arith}
+use Rattle.std.proofs.Common.{◌≡◌, ◌-◌, ◌<◌, ◌≤◌, false, List, [], ◌∷◌, ◌++◌, refl, sym, ap, subst, ◌∙◌, arith}
 use Rattle.std.specs.Prelude.{slice_get, slice_set, Option, Some}
-use Rattle.std.specs.Option.{option_map_or}
-use Rattle.std.specs.List.{AllByRecursion}
-use Rattle.srp_base.specs.declared.numbers.NodeNo.{NodeNo}
-use Rattle.srp_base.specs.declared.numbers.EgressPort.{EgressPort}
+use Rattle.std.specs.{Option.option_map_or, List.AllByRecursion}
+use Rattle.srp_base.proofs.Lists.{set_set as set_twice, set-same as set_same, get_set, get_set_other, each_append}
+use Rattle.srp_base.specs.declared.{numbers.NodeNo.NodeNo, numbers.EgressPort.EgressPort}
 use Rattle.tree_topology.specs.Topology.{Topology, HasPort}
 use Rattle.attribute_propagation.specs.Ports.{place_of}
 use Rattle.node_core.specs.declared.types.NodeEvent.TheVariants as node_events
-use Rattle.node_core.specs.declared.types.NodeStep.{NodeStep}
-use Rattle.node_core.specs.declared.types.PortStep.{PortStep}
+use Rattle.node_core.specs.declared.{types.NodeStep.NodeStep, types.PortStep.PortStep, types.StepReply.StepReply}
 use Rattle.node_core.specs.declared.types.PortStep.TheVariants.{Work, LeaveNow, LeaveAllNow, PeriodicNow, Due, Settle, Send}
-use Rattle.node_core.specs.declared.types.StepReply.{StepReply}
-use Rattle.node_core.specs.Leaving.{is_leave_all_at}
-use Rattle.node_core.specs.State.{NodeState, box_at}
-use Rattle.node_core.specs.Step.{node_step}
-use Rattle.world_core.specs.declared.events.WorldEvent.{WorldEvent}
-use Rattle.world_core.specs.declared.events.WorldEvent.TheVariants.{Request, Port, Lose, Repeat, Forge, Carry, Clock}
-use Rattle.world_core.specs.declared.events.WorldReply.{WorldReply}
-use Rattle.world_core.specs.declared.events.WorldReply.TheVariants.{Step, Missed}
-use Rattle.world_core.specs.declared.journal.NodeSteps.{NodeSteps}
-use Rattle.world_core.specs.Marks.{MarksState}
-use Rattle.world_core.specs.World.{WorldState, Happened, node_at, nodes_with, after_step, after_port, step_of_node, marks_taking, marks_sending, marks_stepping, world_step, world_after, replies_to, CanHappen, CanAllHappen, IsEventInRange}
-use Rattle.world_core.specs.Ticks.{step_events, step_replies, AscendByNode}
-use Rattle.world_core.specs.Apart.{events_of, replies_of, HavePorts, stepped_node, node_after, HaveOwnReplies, marks_of_step, marks_of_steps, after_own, nodes_after, marks_of_nodes, after_nodes, HasMade, AreMadeApart}
-use Rattle.world_core.proofs.Lists.{get_set, get_set_other}
-use Rattle.world_core.proofs.Runs.{tree_stays, after_append, each_append}
+use Rattle.node_core.specs.{Leaving.is_leave_all_at, State.NodeState, State.box_at, Step.node_step}
+use Rattle.world_core.specs.{WorldEvent, Request, Port, Lose, Repeat, Forge, Carry, Clock, WorldReply, Step, NodeSteps, MarksState, WorldState, Happened, node_at, after_step, after_port, step_of_node, marks_taking, marks_sending, marks_stepping, world_step, world_after, replies_to, CanHappen, CanAllHappen, IsEventInRange, step_events, step_replies, AscendByNode, events_of, replies_of, HavePorts, stepped_node, node_after, HaveOwnReplies, marks_of_step, marks_of_steps, after_own, nodes_after, marks_of_nodes, after_nodes, HasMade, AreMadeApart}
+use Rattle.world_core.specs.declared.events.WorldReply.TheVariants.{Missed}
+use Rattle.world_core.proofs.Runs.{tree_stays, after_append}
 
 -- ---- places of a list
-
-set_same : {X : Type 0} (xs : List X) (i : ℕ) (x : X) → slice_get xs i ≡ Some x → slice_set xs i x ≡ xs
-set_same [] i x is = refl
-set_same (y ∷ xs) zero x is = let same : y ≡ x = cc in ap (λ z. z ∷ xs) (sym same)
-set_same (y ∷ xs) (suc i) x is = ap (λ zs. y ∷ zs) (set_same xs i x is)
-
-set_twice : {X : Type 0} (xs : List X) (i : ℕ) (x y : X) → slice_set (slice_set xs i x) i y ≡ slice_set xs i y
-set_twice [] i x y = refl
-set_twice (z ∷ xs) zero x y = refl
-set_twice (z ∷ xs) (suc i) x y = ap (λ zs. z ∷ zs) (set_twice xs i x y)
 
 -- ---- one step
 

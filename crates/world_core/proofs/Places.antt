@@ -1,32 +1,21 @@
 -- What each port may give away is below the rate of its link.
 use Rattle.std.proofs.Common.{◌≡◌, ◌≢◌, ℕ, zero, suc, ◌+◌, ◌-◌, ◌*◌, ◌/◌, ◌<◌, ◌≤◌, ◌⊎◌, inl, inr, true, false, cond, List, [], ◌∷◌, length, get_or, map, take, Option, Some, None, refl, sym, ap, subst, ◌∙◌, arith}
 use Rattle.std.specs.Prelude.{All, filter, slice_get, not, ◌==◌}
-use Rattle.std.specs.Option.{option_map_or}
-use Rattle.std.specs.List.{AllByRecursion, cons_option, range_with_len, position_or_len}
-use Rattle.std.proofs.lemmas.Bool.{cond-true, cond-false, cases_Bool, eqb-true, eq-eqb, ne_eqb, or_left, or_right, or_from, not_from_true, not_from_false}
-use Rattle.std.proofs.lemmas.Option.{none-some, same_Some}
-use Rattle.std.proofs.lemmas.List.{length-map}
-use Rattle.std.proofs.lemmas.List.Elements.{All-from_recursion, All-weaker}
-use Rattle.srp_base.specs.declared.numbers.EgressPort.{EgressPort}
-use Rattle.srp_base.specs.declared.bandwidth.Rate.{Rate}
+use Rattle.std.specs.{Option.option_map_or, List.AllByRecursion, List.cons_option, List.range_with_len}
+use Rattle.std.proofs.lemmas.{Bool.cond-true, Bool.cond-false, Bool.cases_Bool, Bool.eqb-true, Bool.eq-eqb, Bool.ne_eqb, Bool.or_left, Bool.or_right, Bool.or_from, Bool.not_from_false, Option.none-some, Option.same_Some, List.length-map, List.Elements.All-from_recursion, List.Elements.All-weaker}
+use Rattle.srp_base.proofs.{Lists.at_place, Lists.within, Lists.Each-map as each_weaker, Arithmetic.numbers as each_of_range}
+use Rattle.srp_base.specs.declared.{numbers.EgressPort.EgressPort, bandwidth.Rate.Rate, ports.PortChange.PortChange}
 use Rattle.srp_base.specs.declared.bandwidth.Rate.TheVariants.{M100, G1, G10}
-use Rattle.srp_base.specs.declared.ports.PortChange.{PortChange}
 use Rattle.stream_importance.specs.declared.slope.Caps.{Caps}
 use Rattle.srp_base.specs.Bandwidth.{bits_of}
 use Rattle.tree_topology.specs.declared.graph.Link.{Link}
-use Rattle.tree_topology.specs.Topology.{Topology}
-use Rattle.tree_topology.specs.Graph.{Joins, Joined}
-use Rattle.tree_topology.specs.Ports.{far_end, neighbours, index_in, port_to, link_at}
+use Rattle.tree_topology.specs.{Topology.Topology, Graph.Joins, Graph.Joined, Ports.far_end, Ports.neighbours, Ports.index_in, Ports.port_to, Ports.link_at}
 use Rattle.topology_file.specs.declared.entries.LinkEntry.{LinkEntry}
-use Rattle.topology_file.specs.Plan.{Plan}
-use Rattle.topology_file.specs.Scenario.{KeepsRules, ends_of_entry, tree_links}
+use Rattle.topology_file.specs.{Plan.Plan, Scenario.KeepsRules, Scenario.ends_of_entry, Scenario.tree_links}
 use Rattle.frame_flow.specs.declared.place.Place.{Place}
-use Rattle.frame_flow.specs.Copies.{places_of_link, all_places}
-use Rattle.frame_flow.specs.Given.{HasSlopesBelow}
-use Rattle.world_core.specs.Limits.{is_link_of, links_of, caps_of_link, no_caps, caps_at}
-use Rattle.world_core.proofs.Lists.{within}
-use Rattle.world_core.proofs.PortOrder.{each_flat, each_weaker}
-use Rattle.world_core.proofs.Noting.{each_of_range}
+use Rattle.frame_flow.specs.{Copies.places_of_link, Copies.all_places, Given.HasSlopesBelow}
+use Rattle.world_core.specs.{is_link_of, links_of, caps_of_link, no_caps, caps_at}
+use Rattle.world_core.proofs.PortOrder.{each_flat}
 
 -- ---- a link among those of its end
 
@@ -42,11 +31,6 @@ joined_back [] x y h = absurd h
 joined_back (l ∷ links) x y (inl (inl h)) = inl (inr h)
 joined_back (l ∷ links) x y (inl (inr h)) = inl (inl h)
 joined_back (l ∷ links) x y (inr h) = inr (joined_back links x y h)
-
--- what stands in front of a link's place among those of its end
-at_place : (o : Option ℕ) (us : List ℕ) (v : ℕ) → o ≡ Some v → position_or_len (λ u. u == v) (cons_option o us) ≡ 0
-at_place None us v is = absurd (none-some v is)
-at_place (Some u) us v is = cond-false (not (u == v)) (1 + position_or_len (λ w. w == v) us) 0 (not_from_true (u == v) (eq-eqb u v (same_Some u v is)))
 
 far_of_a : (l : LinkEntry) → far_end l.a.0 (ends_of_entry l) ≡ Some l.b.0
 far_of_a l = cond-true (l.a.0 == l.a.0) (Some l.b.0) (cond (l.b.0 == l.a.0) (Some l.a.0) None) (eq-eqb l.a.0 l.a.0 refl)

@@ -2,14 +2,11 @@
 use Rattle.std.proofs.Common.{◌≡◌, ℕ, zero, suc, ◌<◌, ◌≤◌, ◌⊎◌, inl, inr, Bool, true, false, cond, List, [], ◌∷◌, ◌++◌, Option, Some, None, refl, sym, ◌∙◌, ap, subst, arith, append_assoc, append-nil}
 use Rattle.std.specs.Prelude.{AllPairs, filter, flat_map, nat_lt, nat_le, ◌==◌, ◌&&◌, not}
 use Rattle.std.specs.List.{AllByRecursion}
-use Rattle.std.proofs.lemmas.Bool.{cond-true, cond-false, cases_Bool, eqb-true, eq-eqb, ne_eqb, lt-ltb, le-ltb, le-leb, lt-leb, and_parts, and_from, and_left, and_right, or_left, or_right, or_from, false≢true, not_from_false, not_from_true}
-use Rattle.std.proofs.lemmas.List.Elements.{All-from_recursion, recursion_from_All, filter-append}
-use Rattle.std.proofs.lemmas.List.Kept.{AllPairs-cons}
-use Rattle.srp_base.specs.declared.numbers.EgressPort.{EgressPort}
-use Rattle.srp_base.specs.declared.ports.PortChange.{PortChange}
-use Rattle.frame_flow.specs.Force.{is_port, changes_at, last_upto, in_force}
-use Rattle.frame_flow.specs.Given.{IsEarlier}
-use Rattle.world_core.specs.Merging.{precedes, front_before, rest_from, changes_among}
+use Rattle.std.proofs.lemmas.{Bool.cond-true, Bool.cond-false, Bool.cases_Bool, Bool.eqb-true, Bool.eq-eqb, Bool.ne_eqb, Bool.lt-ltb, Bool.le-ltb, Bool.le-leb, Bool.lt-leb, Bool.and_parts, Bool.and_from, Bool.and_left, Bool.and_right, Bool.or_left, Bool.or_right, Bool.or_from, Bool.false≢true, Bool.not_from_false, Bool.not_from_true, List.Elements.All-from_recursion, List.Elements.recursion_from_All, List.Elements.filter-append, List.Kept.AllPairs-cons}
+use Rattle.srp_base.proofs.Lists.{each_append, each_filter, Each-map as each_weaker}
+use Rattle.srp_base.specs.declared.{numbers.EgressPort.EgressPort, ports.PortChange.PortChange}
+use Rattle.frame_flow.specs.{Force.is_port, Force.changes_at, Force.last_upto, Force.in_force, Given.IsEarlier}
+use Rattle.world_core.specs.{precedes, front_before, rest_from, changes_among}
 
 -- ---- ports in order
 
@@ -79,25 +76,9 @@ earlier_tick c d e lt = inr (ap (λ (p : EgressPort). p.node.0) e, inr (ap (λ (
 
 -- ---- facts of each
 
-pub each_append : {X : Type 0} (P : X → Type 0) (xs ys : List X) → AllByRecursion P xs → AllByRecursion P ys → AllByRecursion P (xs ++ ys)
-each_append P [] ys h k = k
-each_append P (x ∷ xs) ys h k = (h.0, each_append P xs ys h.1 k)
-
-pub each_weaker : {X : Type 0} (P Q : X → Type 0) → ((x : X) → P x → Q x) → (xs : List X) → AllByRecursion P xs → AllByRecursion Q xs
-each_weaker P Q weaker [] h = tt
-each_weaker P Q weaker (x ∷ xs) h = (weaker x h.0, each_weaker P Q weaker xs h.1)
-
 pub each_flat : {X Y : Type 0} (P : Y → Type 0) (Q : X → Type 0) (g : X → List Y) → ((x : X) → Q x → AllByRecursion P (g x)) → (xs : List X) → AllByRecursion Q xs → AllByRecursion P (flat_map g xs)
 each_flat P Q g each [] h = tt
 each_flat P Q g each (x ∷ xs) h = each_append P (g x) (flat_map g xs) (each x h.0) (each_flat P Q g each xs h.1)
-
-pub each_filter : {X : Type 0} (P : X → Type 0) (t : X → Bool) (xs : List X) → AllByRecursion P xs → AllByRecursion P (filter t xs)
-each_filter P t [] h = tt
-each_filter P t (x ∷ xs) h =
-    elim (cases_Bool (t x)) [
-      | inl is ↦ subst (AllByRecursion P) (sym (cond-true (t x) (x ∷ filter t xs) (filter t xs) is)) (h.0, each_filter P t xs h.1)
-      | inr nay ↦ subst (AllByRecursion P) (sym (cond-false (t x) (x ∷ filter t xs) (filter t xs) nay)) (each_filter P t xs h.1)
-    ]
 
 pub order_filter : (t : PortChange → Bool) (xs : List PortChange) → AreInOrder xs → AreInOrder (filter t xs)
 order_filter t [] h = tt

@@ -3,38 +3,23 @@ use Rattle.std.proofs.Common.{◌≡◌, ℕ, zero, suc, ◌+◌, ◌-◌, ◌<�
 use Rattle.std.specs.Prelude.{Bool, slice_get, slice_set, IfSome}
 use Rattle.std.proofs.lemmas.Option.{none-some}
 use Rattle.std.specs.Option.{option_map_or}
-use Rattle.srp_base.specs.declared.numbers.EgressPort.{EgressPort}
-use Rattle.srp_base.specs.declared.numbers.NodeNo.{NodeNo}
-use Rattle.srp_base.specs.declared.numbers.StreamId.{StreamId}
-use Rattle.srp_base.specs.declared.numbers.BridgeId.{BridgeId}
-use Rattle.srp_base.specs.declared.numbers.Cs.{Cs}
-use Rattle.srp_base.specs.declared.ports.PortSetup.{PortSetup}
-use Rattle.srp_base.specs.declared.bandwidth.Class.TheVariants.{A, B}
+use Rattle.srp_base.proofs.Lists.{within}
+use Rattle.srp_base.specs.declared.{numbers.EgressPort.EgressPort, numbers.NodeNo.NodeNo, numbers.StreamId.StreamId, numbers.BridgeId.BridgeId, numbers.Cs.Cs, ports.PortSetup.PortSetup, bandwidth.Class.TheVariants.A, bandwidth.Class.TheVariants.B}
 use Rattle.stream_importance.specs.declared.entry.Entry.{Entry}
-use Rattle.port_ledger.specs.Decision.{booked_of}
-use Rattle.port_ledger.specs.Book.{Book, booked_slope}
+use Rattle.port_ledger.specs.{Decision.booked_of, Book.Book, Book.booked_slope}
 use Rattle.tree_topology.specs.declared.graph.NodeKind.{NodeKind}
-use Rattle.tree_topology.specs.Topology.{Topology, link_ports}
-use Rattle.tree_topology.specs.Ports.{peer_of}
+use Rattle.tree_topology.specs.{Topology.Topology, Topology.link_ports, Ports.peer_of}
 use Rattle.topology_file.specs.declared.entries.NodeEntry.{NodeEntry}
 use Rattle.topology_file.specs.Plan.{Plan}
 use Rattle.mvrp.specs.Part.{Part}
 use Rattle.attribute_propagation.specs.Ports.{place_of}
 use Rattle.mrp_participant.specs.State.{new_state}
-use Rattle.msrp.specs.PortState.{PortState}
+use Rattle.msrp.specs.{PortState.PortState, Side.new_port, Side.clocked_port}
 use Rattle.msrp.specs.declared.domain.DomainSet.{DomainSet}
-use Rattle.msrp.specs.Side.{new_port, clocked_port}
-use Rattle.node_core.specs.State.{NodeState, new_node}
-use Rattle.node_core.specs.Step.{clocked_node, node_step}
+use Rattle.node_core.specs.{State.NodeState, State.new_node, Step.clocked_node, Step.node_step, Links.with_outbox, Links.with_carried}
 use Rattle.node_core.specs.declared.types.NodeEvent.TheVariants as node_events
-use Rattle.node_core.specs.Links.{with_outbox, with_carried}
-use Rattle.world_core.specs.declared.events.WorldEvent.TheVariants.{Carry, Clock}
-use Rattle.world_core.specs.World.{WorldState, node_at, with_node, with_changed, outbox, after_carrying, after_clock, world_after}
-use Rattle.world_core.specs.Start.{world_of, domain_set, nodes_from, setups_from}
-use Rattle.world_core.specs.Ticks.{closing_events}
-use Rattle.world_core.specs.Reservation.{Reservation, no_reservation, booked_streams, registered_vids, reservation_of}
-use Rattle.world_core.specs.Timeline.{node_force, force_at}
-use Rattle.world_core.proofs.Lists.{within}
+use Rattle.world_core.specs.{Carry, Clock, WorldState, node_at, with_node, with_changed, outbox, after_carrying, after_clock, world_after, world_of, domain_set, nodes_from, setups_from, closing_events, no_reservation, booked_streams, registered_vids, reservation_of, node_force, force_at}
+use Rattle.world_core.specs.Reservation.{Reservation}
 
 -- ---- what is read at a place of a list
 

@@ -1,58 +1,23 @@
 -- Each event of a legal run may happen in its turn.
-use Rattle.std.proofs.Common.{◌≡◌, ◌⊎◌, inl, inr, ℕ, zero, suc, ◌+◌, ◌-◌, ◌<◌, ◌≤◌, ◌^◌, Bool, true, false, ◌&&◌, ◌||◌, List, [], ◌∷◌, ◌++◌, length, map, take, get_or, refl, sym, ap, subst, ◌∙◌, arith}
+use Rattle.std.proofs.Common.{◌≡◌, ◌⊎◌, inl, inr, ℕ, zero, suc, ◌+◌, ◌-◌, ◌<◌, ◌≤◌, ◌^◌, Bool, true, false, ◌&&◌, List, [], ◌∷◌, ◌++◌, length, map, take, get_or, refl, sym, ap, subst, ◌∙◌, arith}
 use Rattle.std.specs.Prelude.{slice_get, Option, Some, None, option_map, IfSome, ◌==◌}
 use Rattle.std.specs.List.{AllByRecursion, flat_map, list_any}
-use Rattle.std.proofs.lemmas.Bool.Decides.{nat_tests}
-use Rattle.std.proofs.lemmas.Option.{slice_get_within}
-use Rattle.srp_base.specs.declared.numbers.Cs.{Cs}
-use Rattle.srp_base.specs.declared.numbers.NodeNo.{NodeNo}
-use Rattle.srp_base.specs.declared.numbers.PortNo.{PortNo}
-use Rattle.srp_base.specs.declared.numbers.EgressPort.{EgressPort}
-use Rattle.srp_base.specs.declared.mrp.App.{App}
-use Rattle.srp_base.specs.declared.mrp.App.TheVariants.{Mvrp, Msrp}
-use Rattle.tree_topology.specs.declared.graph.Link.{Link}
-use Rattle.tree_topology.specs.declared.graph.NodeKind.{NodeKind}
-use Rattle.tree_topology.specs.declared.graph.NodeKind.TheVariants.{Station, Bridge}
-use Rattle.tree_topology.specs.Graph.{Joins, Joined}
-use Rattle.tree_topology.specs.Topology.{Topology, HasPort, IsSound, link_ports}
-use Rattle.tree_topology.specs.Ports.{port_to, peer_of}
-use Rattle.tree_topology.specs.PortLaws.{HasPortLaws}
-use Rattle.topology_file.specs.declared.entries.NodeEntry.{NodeEntry}
-use Rattle.topology_file.specs.declared.entries.LinkEntry.{LinkEntry}
-use Rattle.topology_file.specs.declared.entries.StreamEntry.{StreamEntry}
-use Rattle.topology_file.specs.declared.entries.EventEntry.{EventEntry}
-use Rattle.topology_file.specs.declared.entries.EventKind.{EventKind}
+use Rattle.std.proofs.lemmas.{Option.slice_get_within}
+use Rattle.srp_base.proofs.{Bools.or_true, Lists.each_append, Lists.all_taken as each_take, Bools.both as and_true, Arithmetic.same_where_equal as same_number, Options.one_some, Lists.all_each, Lists.at_each, Lists.within}
+use Rattle.srp_base.specs.declared.{numbers.Cs.Cs, numbers.NodeNo.NodeNo, numbers.PortNo.PortNo, numbers.EgressPort.EgressPort, mrp.App.App, mrp.App.TheVariants.Mvrp, mrp.App.TheVariants.Msrp}
+use Rattle.tree_topology.specs.declared.{graph.Link.Link, graph.NodeKind.NodeKind, graph.NodeKind.TheVariants.Station, graph.NodeKind.TheVariants.Bridge}
+use Rattle.tree_topology.specs.{Graph.Joins, Graph.Joined, Topology.Topology, Topology.HasPort, Topology.IsSound, Topology.link_ports, Ports.port_to, Ports.peer_of, PortLaws.HasPortLaws, Refusal.is_station}
+use Rattle.topology_file.specs.declared.{entries.NodeEntry.NodeEntry, entries.LinkEntry.LinkEntry, entries.StreamEntry.StreamEntry, entries.EventEntry.EventEntry, entries.EventKind.EventKind}
 use Rattle.topology_file.specs.declared.entries.EventKind.TheVariants as kinds
-use Rattle.tree_topology.specs.Refusal.{is_station}
-use Rattle.topology_file.specs.Entries.{joins_both}
-use Rattle.topology_file.specs.Plan.{Plan}
-use Rattle.topology_file.specs.Scenario.{KeepsRules, HasStreamForm, node_kinds, tree_links}
-use Rattle.topology_file.specs.Kinds.{IsKnownKind, IsStationNumber, IsStreamNumber}
+use Rattle.topology_file.specs.{Entries.joins_both, Plan.Plan, Scenario.KeepsRules, Scenario.HasStreamForm, Scenario.node_kinds, Scenario.tree_links, Kinds.IsKnownKind, Kinds.IsStationNumber, Kinds.IsStreamNumber}
 use Rattle.attribute_propagation.specs.Ports.{place_of}
 use Rattle.msrp_codec.specs.FirstValue.{IsTalker}
-use Rattle.node_core.specs.declared.types.AppRequest.{AppRequest}
-use Rattle.node_core.specs.declared.types.Wire.{Wire}
+use Rattle.node_core.specs.declared.{types.AppRequest.AppRequest, types.Wire.Wire, types.NodeEvent.NodeEvent, types.NodeStep.NodeStep, types.PortStep.PortStep}
 use Rattle.node_core.specs.declared.types.AppRequest.TheVariants.{Talk, Hush, Listen, Unlisten}
-use Rattle.node_core.specs.declared.types.NodeEvent.{NodeEvent}
 use Rattle.node_core.specs.declared.types.NodeEvent.TheVariants as node_events
-use Rattle.node_core.specs.declared.types.NodeStep.{NodeStep}
-use Rattle.node_core.specs.declared.types.PortStep.{PortStep}
-use Rattle.node_core.specs.State.{NodeState}
-use Rattle.node_core.specs.Step.{node_step}
-use Rattle.node_core.specs.Links.{with_outbox, with_carried, lost_at, repeated_at, forged_at, spoilt_at}
-use Rattle.world_core.specs.declared.events.WorldEvent.{WorldEvent}
-use Rattle.world_core.specs.declared.events.WorldEvent.TheVariants.{Request, Port, Lose, Repeat, Forge, Carry, Clock}
-use Rattle.world_core.specs.declared.journal.NodeSteps.{NodeSteps}
-use Rattle.world_core.specs.declared.journal.Tick.{Tick}
-use Rattle.world_core.specs.World.{WorldState, with_changed, step_of_node, outbox, app_of, reaches, with_unsound_ends, with_loss, after_repeat, with_forgery, world_step, world_after, CanHappen, CanAllHappen, IsEventInRange}
-use Rattle.world_core.specs.Start.{world_of}
-use Rattle.world_core.specs.Ticks.{talker_of_entry, stream_at, event_of, with_event, scripted_from, script_at, step_events, tick_events, IsLegalTick, LeadTo}
-use Rattle.world_core.specs.During.{IsDuring, IsAllowed, NamesNeighbours}
-use Rattle.world_core.specs.Moments.{IsMoment, events_from}
-use Rattle.world_core.specs.Kept.{IsKeptWorld}
-use Rattle.world_core.proofs.Lists.{one_some, all_each, at_each, within}
-use Rattle.world_core.proofs.Nodes.{same_tree, stepped_is, ticked_get}
-use Rattle.world_core.proofs.EachNode.{AllNodes, IsOfSides, KeepsOwn, all_keep}
+use Rattle.node_core.specs.{State.NodeState, Step.node_step, Links.with_outbox, Links.with_carried, Links.lost_at, Links.repeated_at, Links.forged_at, Links.spoilt_at}
+use Rattle.world_core.specs.{WorldEvent, Request, Port, Lose, Repeat, Forge, Carry, Clock, NodeSteps, Tick, WorldState, with_changed, step_of_node, outbox, app_of, reaches, with_unsound_ends, with_loss, after_repeat, with_forgery, world_step, world_after, CanHappen, CanAllHappen, IsEventInRange, world_of, talker_of_entry, stream_at, event_of, with_event, scripted_from, script_at, step_events, tick_events, IsLegalTick, LeadTo, IsDuring, IsAllowed, NamesNeighbours, IsMoment, events_from, IsKeptWorld}
+use Rattle.world_core.proofs.{Nodes.same_tree, Nodes.stepped_is, Nodes.ticked_get, EachNode.AllNodes, EachNode.IsOfSides, EachNode.KeepsOwn, EachNode.all_keep}
 
 -- ---- the tree stays, and every clock at each event but the clock's
 
@@ -116,10 +81,6 @@ can_append : (es fs : List WorldEvent) (w : WorldState) → CanAllHappen es w �
 can_append [] fs w c d = d
 can_append (e ∷ es) fs w c d = (c.0, can_append es fs (world_step e w).0 c.1 d)
 
-pub each_append : {X : Type 0} (P : X → Type 0) (xs ys : List X) → AllByRecursion P xs → AllByRecursion P ys → AllByRecursion P (xs ++ ys)
-each_append P [] ys h k = k
-each_append P (x ∷ xs) ys h k = (h.0, each_append P xs ys h.1 k)
-
 pub after_append : (es fs : List WorldEvent) (w : WorldState) → world_after fs (world_after es w) ≡ world_after (es ++ fs) w
 after_append [] fs w = refl
 after_append (e ∷ es) fs w = after_append es fs (world_step e w).0
@@ -149,17 +110,6 @@ station_kind : (nodes : List NodeEntry) (i : ℕ) → i < length nodes → ((d :
 station_kind [] i lt h = absurd (omega arith)
 station_kind (n ∷ nodes) zero lt h = ap Some (a_station n.kind (h n))
 station_kind (n ∷ nodes) (suc i) lt h = let less : i < length nodes = omega arith in station_kind nodes i less h
-
-or_true : (a b : Bool) → (a || b) ≡ true → (a ≡ true) ⊎ (b ≡ true)
-or_true true b h = inl refl
-or_true false b h = inr h
-
-and_true : (a b : Bool) → (a && b) ≡ true → (a ≡ true) × (b ≡ true)
-and_true true b h = (refl, h)
-and_true false b h = cc
-
-pub same_number : (x y : ℕ) → (x == y) ≡ true → x ≡ y
-same_number x y h = grind (arith, nat_tests, h)
 
 -- a link that joins two nodes joins them the other way round
 link_joins : (l : LinkEntry) (x y : ℕ) → joins_both x y l ≡ true → Joins (record { a = l.a; b = l.b }) y x
@@ -389,11 +339,6 @@ pub can_take : (n : ℕ) (es : List WorldEvent) (w : WorldState) → CanAllHappe
 can_take zero es w can = tt
 can_take (suc n) [] w can = tt
 can_take (suc n) (e ∷ es) w can = (can.0, can_take n es (world_step e w).0 can.1)
-
-pub each_take : {X : Type 0} (P : X → Type 0) (n : ℕ) (xs : List X) → AllByRecursion P xs → AllByRecursion P (take n xs)
-each_take P zero xs h = tt
-each_take P (suc n) [] h = tt
-each_take P (suc n) (x ∷ xs) h = (h.0, each_take P n xs h.1)
 
 -- ---- one tick more
 

@@ -4,10 +4,7 @@ use Rattle.std.proofs.Common.{◌≡◌, Bool, true, false, ◌||◌, if◌then�
 use Rattle.std.specs.Prelude.{Option, None}
 use Rattle.std.specs.declared.cmp.Ordering.{Ordering}
 use Rattle.srp_base.specs.declared.mrp.MrpEvent.{MrpEvent}
-use Rattle.mrp_participant.specs.Lookup.{find, same}
-use Rattle.mrp_participant.specs.Duty.{OwesOf, held_in, held_after_event, held_hearing, held_after, hears, has_leave_all}
-use Rattle.mrp_participant.specs.State.{State, Messages}
-use Rattle.mrp_participant.specs.Link.{AreDutiesMet}
+use Rattle.mrp_participant.specs.{Lookup.find, Lookup.same, Duty.OwesOf, Duty.held_in, Duty.held_after_event, Duty.held_hearing, Duty.held_after, Duty.hears, Duty.has_leave_all, State.State, State.Messages, Link.AreDutiesMet}
 
 -- two lists of messages say the same of each key
 pub record SaysSame {K C : Type 0} (cmp : K → K → Ordering) (m n : Messages K C) : Type 0 where

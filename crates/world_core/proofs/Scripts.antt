@@ -1,30 +1,15 @@
 -- The events of one tick in a file: from the cursor on, until one of a later tick comes.
-use Rattle.std.proofs.Common.{◌≡◌, ◌≢◌, ℕ, zero, suc, ◌+◌, ◌<◌, ◌≤◌, Bool, true, false, List, [], ◌∷◌, ◌++◌, length, map, drop, get_or, refl, sym, ap, subst, ◌∙◌, append_assoc, arith}
-use Rattle.std.specs.Prelude.{slice_get, Option, Some, None, ◌==◌, if◌then◌else◌, IfSome}
+use Rattle.std.proofs.Common.{◌≡◌, ◌≢◌, ℕ, zero, suc, ◌+◌, ◌<◌, ◌≤◌, Bool, List, [], ◌∷◌, ◌++◌, length, map, drop, get_or, refl, sym, ap, subst, ◌∙◌, append_assoc, arith}
+use Rattle.std.specs.Prelude.{slice_get, Option, Some, None, if◌then◌else◌, IfSome}
 use Rattle.std.specs.List.Sorted.{IsNonDecreasing}
 use Rattle.std.proofs.Math.Seq.{drop-cons}
-use Rattle.std.proofs.lemmas.Bool.Decides.{nat_tests}
-use Rattle.std.proofs.lemmas.List.{append-nil, length-map}
-use Rattle.std.proofs.lemmas.Option.{slice_get_within, slice_get_read}
+use Rattle.std.proofs.lemmas.{List.append-nil, List.length-map, Option.slice_get_within, Option.slice_get_read}
+use Rattle.srp_base.proofs.Arithmetic.{is_same as same_is, is_other as other_is}
 use Rattle.tree_topology.specs.declared.graph.Link.{Link}
-use Rattle.topology_file.specs.declared.entries.EventEntry.{EventEntry}
-use Rattle.topology_file.specs.declared.entries.StreamEntry.{StreamEntry}
+use Rattle.topology_file.specs.declared.{entries.EventEntry.EventEntry, entries.StreamEntry.StreamEntry, entries.EventKind.EventKind}
 use Rattle.tree_topology.specs.Topology.{Topology}
-use Rattle.topology_file.specs.declared.entries.EventKind.{EventKind}
 use Rattle.topology_file.specs.Plan.{Plan}
-use Rattle.world_core.specs.declared.events.WorldEvent.{WorldEvent}
-use Rattle.world_core.specs.declared.events.WorldReply.{WorldReply}
-use Rattle.world_core.specs.World.{WorldState, world_step, world_after, replies_to}
-use Rattle.world_core.specs.Ticks.{event_of, with_event, scripted_from, script_at, after_script}
-use Rattle.world_core.specs.During.{IsDuring, IsAllowed}
-use Rattle.world_core.specs.Cursor.{IsCursor}
-use Rattle.world_core.specs.Script.{answers_to, answer_of, after_entry}
-
-pub same_is : (x y : ℕ) → x ≡ y → (x == y) ≡ true
-same_is x y e = grind (arith, nat_tests, e)
-
-pub other_is : (x y : ℕ) → x ≢ y → (x == y) ≡ false
-other_is x y ne = grind (arith, nat_tests, ne)
+use Rattle.world_core.specs.{WorldEvent, WorldReply, WorldState, world_step, world_after, replies_to, event_of, with_event, scripted_from, script_at, after_script, IsDuring, IsAllowed, IsCursor, answers_to, answer_of, after_entry}
 
 -- ---- entries of one tick
 

@@ -3,22 +3,12 @@ use Rattle.std.proofs.Common.{◌≡◌, ℕ, ◌-◌, ◌+◌, List, [], ◌∷
 use Rattle.std.specs.Prelude.{◌<◌, ◌≤◌, ◌^◌, length, slice_get, Some, Result, Ok, Err, IfOk, OnErr}
 use Rattle.std.specs.List.{AllByRecursion}
 use Rattle.std.proofs.lemmas.Option.{slice_get_within}
-use Rattle.srp_base.specs.declared.numbers.Cs.{Cs}
-use Rattle.srp_base.specs.declared.numbers.NodeNo.{NodeNo}
-use Rattle.srp_base.specs.declared.numbers.EgressPort.{EgressPort}
-use Rattle.tree_topology.specs.Topology.{Topology, HasPort}
-use Rattle.tree_topology.specs.Ports.{peer_of}
-use Rattle.tree_topology.specs.PortLaws.{HasPortLaws}
+use Rattle.srp_base.specs.declared.{numbers.Cs.Cs, numbers.NodeNo.NodeNo, numbers.EgressPort.EgressPort}
+use Rattle.tree_topology.specs.{Topology.Topology, Topology.HasPort, Ports.peer_of, PortLaws.HasPortLaws}
 use Rattle.node_core.specs.State.{NodeState}
 use Rattle.node_core.specs.declared.types.AppRequest.{AppRequest}
-use Rattle.world_core.specs.declared.events.WorldEvent.{WorldEvent}
-use Rattle.world_core.specs.declared.events.WorldEvent.TheVariants.{Request, Clock}
-use Rattle.world_core.specs.declared.events.WorldReply.{WorldReply}
-use Rattle.world_core.specs.Marks.{MarksState}
-use Rattle.world_core.specs.World.{WorldState, Happened, StandsAt, node_at, CanHappen}
-use Rattle.world_core.specs.Kept.{IsKeptWorld}
-use Rattle.world_core.proofs.Nodes.{node_there, place_within}
-use Rattle.world_core.proofs.Keeping.{base_kept}
+use Rattle.world_core.specs.{WorldEvent, Request, Clock, WorldReply, MarksState, WorldState, Happened, StandsAt, node_at, CanHappen, IsKeptWorld}
+use Rattle.world_core.proofs.{Nodes.node_there, Nodes.place_within, Keeping.base_kept}
 
 -- a port of the tree stands at its node
 pub stands : (w : WorldState) → IsKeptWorld w → (p : EgressPort) → HasPort w.tree p → StandsAt p w.nodes
@@ -59,11 +49,6 @@ asked_there n request w can =
     let some = can.0 in
     let within = slice_get_within w.nodes (n.0 - 1) can.1.0 can.1.1 in
     omega (arith, some, within)
-
--- what holds of each answer that fits holds of the answer, where there is one
-pub if_ok : {A E : Type 0} (r : Result A E) (P Q : A → Type 0) → ((a : A) → P a → Q a) → IfOk r P → IfOk r Q
-if_ok (Ok a) P Q f h = f a h
-if_ok (Err e) P Q f h = h
 
 -- after an event that keeps what every network keeps, or after want of memory, it is kept
 pub kept_either : {E : Type 0} (r : Result WorldReply E) (h : Happened) (tree : Topology) (marks : MarksState) (nodes new : List NodeState)

@@ -6,10 +6,9 @@ use Rattle.std.proofs.lemmas.List.Elements.{All-head, All-tail}
 use Rattle.srp_base.specs.declared.ports.PortSetup.{PortSetup}
 use Rattle.tree_topology.specs.Graph.{IsNode}
 use Rattle.topology_file.specs.declared.entries.LinkEntry.{LinkEntry}
-use Rattle.topology_file.specs.Plan.{Plan}
-use Rattle.topology_file.specs.Scenario.{KeepsRules}
+use Rattle.topology_file.specs.{Plan.Plan, Scenario.KeepsRules}
 use Rattle.mrp_participant.specs.State.{IsTime}
-use Rattle.world_core.specs.Start.{period_of, setup_of, end_setup, setups_from}
+use Rattle.world_core.specs.{period_of, setup_of, end_setup, setups_from}
 use Rattle.world_core.proofs.Beginnings.{ports_length}
 
 -- a LeaveAll period is a time

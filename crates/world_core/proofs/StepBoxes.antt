@@ -1,20 +1,13 @@
 -- Which PDUs wait at a node after a step: a step of a port changes the boxes of that port alone.
 use Rattle.std.proofs.Common.{◌≢◌, ℕ, List, [], ◌∷◌, refl}
 use Rattle.std.specs.Prelude.{slice_set, Option, Some, None}
-use Rattle.srp_base.specs.declared.mrp.App.{App}
-use Rattle.srp_base.specs.declared.mrp.App.TheVariants.{Mvrp, Msrp}
-use Rattle.node_core.specs.declared.types.AppRequest.{AppRequest}
+use Rattle.srp_base.specs.declared.{mrp.App.App, mrp.App.TheVariants.Mvrp, mrp.App.TheVariants.Msrp}
+use Rattle.node_core.specs.declared.{types.AppRequest.AppRequest, types.NodeKey.TheVariants.Vlan, types.NodeKey.TheVariants.Srp, types.PortStep.PortStep, types.Wire.Wire}
 use Rattle.node_core.specs.declared.types.AppRequest.TheVariants.{Declare, Withdraw, Talk, Hush, Listen, Unlisten}
 use Rattle.node_core.specs.declared.types.NodeEvent.TheVariants as node_events
-use Rattle.node_core.specs.declared.types.NodeKey.TheVariants.{Vlan, Srp}
-use Rattle.node_core.specs.declared.types.PortStep.{PortStep}
 use Rattle.node_core.specs.declared.types.PortStep.TheVariants.{Work, LeaveNow, LeaveAllNow, PeriodicNow, Due, Settle, Send}
-use Rattle.node_core.specs.declared.types.Wire.{Wire}
-use Rattle.node_core.specs.Links.{spoilt_at}
-use Rattle.node_core.specs.State.{NodeState, box_at}
-use Rattle.node_core.specs.Step.{node_step, port_step, after_work, octets_to_say, sent_octets}
-use Rattle.world_core.proofs.Boxes.{box_other}
-use Rattle.world_core.proofs.Nodes.{SameBoxes}
+use Rattle.node_core.specs.{Links.spoilt_at, State.NodeState, State.box_at, Step.node_step, Step.port_step, Step.after_work, Step.octets_to_say, Step.sent_octets}
+use Rattle.world_core.proofs.{Boxes.box_other, Nodes.SameBoxes}
 
 pub asked_boxes : (request : AppRequest) (k : ℕ) (s : NodeState) → SameBoxes k s (node_step (node_events.Request request) s).0
 asked_boxes (Declare vid) k s = record { inbox = refl; outbox = refl }

@@ -4,48 +4,22 @@ use Rattle.std.proofs.Common.{◌≡◌, ◌≢◌, ℕ, zero, suc, Bool, true, 
 use Rattle.std.proofs.lemmas.Option.{slice_get_within}
 use Rattle.std.specs.Prelude.{slice_get, slice_set, Option, Some, None, option_map, Result, Ok, Err}
 use Rattle.std.specs.Option.{option_map_or}
-use Rattle.srp_base.specs.declared.numbers.Cs.{Cs}
-use Rattle.srp_base.specs.declared.mrp.App.{App}
-use Rattle.srp_base.specs.declared.mrp.App.TheVariants.{Mvrp, Msrp}
-use Rattle.msrp_codec.specs.declared.pdu.MsrpKey.{MsrpKey}
-use Rattle.msrp_codec.specs.declared.pdu.MsrpContent.{MsrpContent}
-use Rattle.msrp_codec.specs.declared.pdu.MsrpPdu.{MsrpPdu}
-use Rattle.msrp_codec.specs.Content.{base_octets, octets_of}
-use Rattle.msrp_codec.specs.Meaning.{msrp_reading}
-use Rattle.msrp_codec.specs.Writing.{msrp_spelling, as_written, of_key}
-use Rattle.mrp_participant.specs.Duty.{IsDutyMet}
-use Rattle.mrp_participant.specs.Lookup.{same}
-use Rattle.mrp_participant.specs.State.{Messages, AreRows, is_active, is_silent, due_state, left_keys, left_state, leave_all_state, periodic_state}
-use Rattle.mrp_participant.specs.Link.{LinkEvent}
-use Rattle.mrp_participant.specs.MarkedLink.{Mark, MarkedLink, IsNoMore, AreMarkedDutiesMet, after_marked_event, other_marked_view}
-use Rattle.msrp.specs.PortState.{PortState}
+use Rattle.srp_base.proofs.{Options.one_some, Lists.at_each, Lists.within}
+use Rattle.srp_base.specs.declared.{numbers.Cs.Cs, mrp.App.App, mrp.App.TheVariants.Mvrp, mrp.App.TheVariants.Msrp}
+use Rattle.msrp_codec.specs.declared.{pdu.MsrpKey.MsrpKey, pdu.MsrpContent.MsrpContent, pdu.MsrpPdu.MsrpPdu}
+use Rattle.msrp_codec.specs.{Content.base_octets, Content.octets_of, Meaning.msrp_reading, Writing.msrp_spelling, Writing.as_written, Writing.of_key}
+use Rattle.mrp_participant.specs.{Duty.IsDutyMet, Lookup.same, State.Messages, State.AreRows, State.is_active, State.is_silent, State.due_state, State.left_keys, State.left_state, State.leave_all_state, State.periodic_state, Link.LinkEvent, MarkedLink.Mark, MarkedLink.MarkedLink, MarkedLink.IsNoMore, MarkedLink.AreMarkedDutiesMet, MarkedLink.after_marked_event, MarkedLink.other_marked_view}
+use Rattle.msrp.specs.{PortState.PortState, Part.Part, Part.HasOwnContents, Part.key_cmp, Part.same_content, Part.pdu_sent, Part.received_part, Part.told_by_receipt, Part.sent_part, Part.settled_as, Part.settled_part, Proper.HasRanges, Settling.next_book, Settling.moved_streams, Settling.settling_keys, Settling.talker_keys, Side.Streams, Side.IsPort, Side.IsWritten, Side.at_port, Side.with_port, Side.with_part, Side.with_told_port, Side.with_port_at, Side.left_key, Side.is_talk, Side.has_talk, Side.has_listen, Side.with_asks, Side.talks_without, Side.listens_without, Side.seen_by, Side.awaiting_at, Side.moved_keys, Side.settled_at, Side.clocked_port, Side.received_streams, Side.due_streams, Side.left_streams, Side.leave_all_streams, Side.periodic_streams, Side.settled_streams, Side.sent_streams, Side.spoilt_streams, Side.requested_streams, Stream.talk_of, Stream.stated_at}
 use Rattle.msrp.specs.declared.asking.SrpRequest.{SrpRequest}
 use Rattle.msrp.specs.declared.asking.SrpRequest.TheVariants as asks
-use Rattle.msrp.specs.Part.{Part, HasOwnContents, key_cmp, same_content, pdu_sent, received_part, told_by_receipt, sent_part, settled_as, settled_part}
-use Rattle.msrp.specs.Proper.{HasRanges}
-use Rattle.msrp.specs.Settling.{next_book, moved_streams, settling_keys, talker_keys}
-use Rattle.msrp.specs.Side.{Streams, IsPort, IsWritten, at_port, with_port, with_part, with_told_port, with_port_at, left_key, is_talk, has_talk, has_listen, with_asks, talks_without, listens_without, seen_by, awaiting_at, moved_keys, settled_at, clocked_port, received_streams, due_streams, left_streams, leave_all_streams, periodic_streams, settled_streams, sent_streams, spoilt_streams, requested_streams}
-use Rattle.msrp.specs.Stream.{talk_of, stated_at}
 use Rattle.attribute_propagation.specs.Ports.{marked_elsewhere}
-use Rattle.node_core.specs.declared.types.AppRequest.{AppRequest}
+use Rattle.node_core.specs.declared.{types.AppRequest.AppRequest, types.Wire.Wire, types.NodeKey.TheVariants.Vlan, types.NodeKey.TheVariants.Srp, types.PortStep.PortStep}
 use Rattle.node_core.specs.declared.types.AppRequest.TheVariants.{Declare, Withdraw, Talk, Hush, Listen, Unlisten}
 use Rattle.node_core.specs.declared.types.NodeEvent.TheVariants as node_events
-use Rattle.node_core.specs.declared.types.Wire.{Wire}
-use Rattle.node_core.specs.declared.types.NodeKey.TheVariants.{Vlan, Srp}
-use Rattle.node_core.specs.declared.types.PortStep.{PortStep}
 use Rattle.node_core.specs.declared.types.PortStep.TheVariants.{Work, LeaveNow, LeaveAllNow, PeriodicNow, Due, Settle, Send}
-use Rattle.node_core.specs.State.{NodeState, box_at}
-use Rattle.node_core.specs.Step.{node_step, port_step, after_work, worked_app, worked_msrp, octets_to_say, sent_octets}
-use Rattle.node_core.specs.Leaving.{vlans_leave, streams_leave, octets_leave, has_leave_all, is_leave_all_at}
-use Rattle.node_core.specs.Links.{spoilt_at}
-use Rattle.node_core.specs.Proper.{IsProperNode}
-use Rattle.world_core.specs.Duty.{said_of_streams, octets_said, streams_said, stream_place}
-use Rattle.world_core.specs.Marks.{BothMarks, is_same_app}
-use Rattle.world_core.proofs.Lists.{one_some, at_each, within, set_at, set_at_there, set_at_other}
-use Rattle.world_core.proofs.Boxes.{box_got, box_set}
-use Rattle.world_core.proofs.Views.{AppView, LinkLaws, StepFacts, KeepsLink, both_heard, both_said, both_stepped, both_same, says_leave_all, unsound}
-use Rattle.world_core.proofs.Nodes.{outbox_there}
-use Rattle.world_core.proofs.LinkSteps.{KeepsNear, HasSpoken, declares, withdraws, leaves, fires, fires_leave_all, fires_periodic, all_keep, same_near, called, hearing, taken, spoken, unheard, still}
+use Rattle.node_core.specs.{State.NodeState, State.box_at, Step.node_step, Step.port_step, Step.after_work, Step.worked_app, Step.worked_msrp, Step.octets_to_say, Step.sent_octets, Leaving.vlans_leave, Leaving.streams_leave, Leaving.octets_leave, Leaving.has_leave_all, Leaving.is_leave_all_at, Links.spoilt_at, Proper.IsProperNode}
+use Rattle.world_core.specs.{said_of_streams, octets_said, streams_said, stream_place, BothMarks, is_same_app}
+use Rattle.world_core.proofs.{Lists.set_at, Lists.set_at_there, Lists.set_at_other, Boxes.box_got, Boxes.box_set, Views.AppView, Views.LinkLaws, Views.StepFacts, Views.KeepsLink, Views.both_heard, Views.both_said, Views.both_stepped, Views.both_same, Views.says_leave_all, Views.unsound, Nodes.outbox_there, LinkSteps.KeepsNear, LinkSteps.HasSpoken, LinkSteps.declares, LinkSteps.withdraws, LinkSteps.leaves, LinkSteps.fires, LinkSteps.fires_leave_all, LinkSteps.fires_periodic, LinkSteps.all_keep, LinkSteps.same_near, LinkSteps.called, LinkSteps.hearing, LinkSteps.taken, LinkSteps.spoken, LinkSteps.unheard, LinkSteps.still}
 
 -- MSRP as the network's proofs see it
 abbrev pub stream_view : AppView MsrpKey MsrpContent

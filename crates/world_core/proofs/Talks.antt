@@ -1,44 +1,23 @@
 -- Stations talk only what the plan has them talk, since each request to talk is of an entry of the plan at its station; and entries
 -- have different StreamIDs, so that no two stations talk one stream.
-use Rattle.std.proofs.Common.{◌≡◌, ◌≢◌, ◌⊎◌, inl, inr, ℕ, zero, suc, ◌+◌, ◌-◌, ◌<◌, ◌≤◌, Bool, true, false, if◌then◌else◌, List, [], ◌∷◌, ◌++◌, map, filter, get_or, refl, sym, ap, subst, ◌∙◌, arith}
+use Rattle.std.proofs.Common.{◌≡◌, ◌≢◌, ◌⊎◌, inl, inr, ℕ, zero, suc, ◌+◌, ◌-◌, ◌<◌, ◌≤◌, Bool, true, false, if◌then◌else◌, List, [], ◌∷◌, ◌++◌, map, get_or, refl, sym, ap, subst, ◌∙◌, arith}
 use Rattle.std.specs.Prelude.{slice_get, Option, Some, None, option_map, IfSome, is_some, ◌==◌}
 use Rattle.std.specs.List.{AllByRecursion}
 use Rattle.std.proofs.lemmas.Option.{slice_get_within}
-use Rattle.srp_base.specs.declared.numbers.EgressPort.{EgressPort}
-use Rattle.srp_base.specs.declared.numbers.NodeNo.{NodeNo}
-use Rattle.srp_base.specs.declared.numbers.StreamId.{StreamId}
-use Rattle.srp_base.specs.declared.streams.Talker.{Talker}
+use Rattle.srp_base.proofs.{Lists.each_filter, Lists.all_each, Lists.at_each, Arithmetic.decide, Lists.each_append, Arithmetic.same_where_equal as same_number}
+use Rattle.srp_base.specs.declared.{numbers.EgressPort.EgressPort, numbers.NodeNo.NodeNo, numbers.StreamId.StreamId, streams.Talker.Talker}
 use Rattle.tree_topology.specs.Topology.{link_ports}
-use Rattle.topology_file.specs.declared.entries.StreamEntry.{StreamEntry}
-use Rattle.topology_file.specs.declared.entries.EventEntry.{EventEntry}
-use Rattle.topology_file.specs.declared.entries.EventKind.{EventKind}
+use Rattle.topology_file.specs.declared.{entries.StreamEntry.StreamEntry, entries.EventEntry.EventEntry, entries.EventKind.EventKind}
 use Rattle.topology_file.specs.declared.entries.EventKind.TheVariants as kinds
-use Rattle.topology_file.specs.Kinds.{IsStationNumber}
-use Rattle.topology_file.specs.Plan.{Plan}
-use Rattle.topology_file.specs.Scenario.{KeepsRules}
+use Rattle.topology_file.specs.{Kinds.IsStationNumber, Plan.Plan, Scenario.KeepsRules}
 use Rattle.attribute_propagation.specs.Ports.{place_of}
-use Rattle.msrp.specs.Stream.{talk_of}
-use Rattle.msrp.specs.Side.{Streams, is_talk, has_talk, has_listen, with_asks, talks_without, listens_without}
-use Rattle.node_core.specs.declared.types.AppRequest.{AppRequest}
+use Rattle.msrp.specs.{Stream.talk_of, Side.Streams, Side.is_talk, Side.has_talk, Side.has_listen, Side.with_asks, Side.talks_without, Side.listens_without}
+use Rattle.node_core.specs.declared.{types.AppRequest.AppRequest, types.NodeStep.NodeStep}
 use Rattle.node_core.specs.declared.types.AppRequest.TheVariants.{Declare, Withdraw, Talk, Hush, Listen, Unlisten}
 use Rattle.node_core.specs.declared.types.NodeEvent.TheVariants as node_events
-use Rattle.node_core.specs.declared.types.NodeStep.{NodeStep}
-use Rattle.node_core.specs.State.{NodeState}
-use Rattle.node_core.specs.Step.{node_step}
-use Rattle.world_core.specs.declared.events.WorldEvent.{WorldEvent}
-use Rattle.world_core.specs.declared.events.WorldEvent.TheVariants.{Request, Port, Lose, Repeat, Forge, Carry, Clock}
-use Rattle.world_core.specs.declared.journal.NodeSteps.{NodeSteps}
-use Rattle.world_core.specs.declared.journal.Tick.{Tick}
-use Rattle.world_core.specs.Moments.{events_from}
-use Rattle.world_core.specs.Start.{world_of}
-use Rattle.world_core.specs.Talks.{IsTalkOfPlan, AreTalksOfPlan, HasOneTalker}
-use Rattle.world_core.specs.Ticks.{talker_of_entry, stream_at, event_of, with_event, scripted_from, script_at, step_events, closing_events, tick_events}
-use Rattle.world_core.specs.World.{WorldState}
-use Rattle.world_core.proofs.Lists.{all_each, at_each, decide}
-use Rattle.world_core.proofs.Beginnings.{new_at}
-use Rattle.world_core.proofs.EachNode.{AllNodes, IsOfSides, KeepsOwn}
-use Rattle.world_core.proofs.Asks.{stays_step, stays_spoilt}
-use Rattle.world_core.proofs.Runs.{each_append, same_number}
+use Rattle.node_core.specs.{State.NodeState, Step.node_step}
+use Rattle.world_core.specs.{WorldEvent, Request, Port, Lose, Repeat, Forge, Carry, Clock, NodeSteps, Tick, events_from, world_of, IsTalkOfPlan, AreTalksOfPlan, HasOneTalker, talker_of_entry, stream_at, event_of, with_event, scripted_from, script_at, step_events, closing_events, tick_events, WorldState}
+use Rattle.world_core.proofs.{Beginnings.new_at, EachNode.AllNodes, EachNode.IsOfSides, EachNode.KeepsOwn, Asks.stays_step, Asks.stays_spoilt}
 
 -- ---- what is kept of a node
 
@@ -64,14 +43,6 @@ IsPlanned plan Clock = Unit {0}
 pub talks_sides : (plan : Plan) → IsOfSides (TalksByPlan plan)
 talks_sides plan =
     record { boxes = λ x s ins outs h. h; marks = λ app at x s h. subst (AllByRecursion (IsTalkOfPlan plan (x + 1))) (sym (stays_spoilt app at s).talks) h }
-
-each_filter : {X : Type 0} (P : X → Type 0) (test : X → Bool) (xs : List X) → AllByRecursion P xs → AllByRecursion P (filter test xs)
-each_filter P test [] h = tt
-each_filter P test (x ∷ xs) h = by (test x) (each_filter P test xs h.1)
-  where
-    by : (b : Bool) → AllByRecursion P (filter test xs) → AllByRecursion P (if b then x ∷ filter test xs else filter test xs)
-    by true later = (h.0, later)
-    by false later = later
 
 -- a choice between sides
 either_talks : (P : Talker → Type 0) (b : Bool) (v u : Streams) → AllByRecursion P v.talks → AllByRecursion P u.talks → AllByRecursion P (if b then v else u).talks

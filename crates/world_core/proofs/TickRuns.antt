@@ -1,22 +1,13 @@
 -- A tick one by one and as a whole, and the ticks that follow.
 use Rattle.std.proofs.Common.{◌≡◌, ◌≢◌, ℕ, zero, suc, ◌+◌, ◌-◌, ◌<◌, ◌≤◌, ◌^◌, List, [], ◌∷◌, ◌++◌, length, map, refl, ap, subst, ◌∙◌, arith}
 use Rattle.std.specs.List.{AllByRecursion}
+use Rattle.srp_base.proofs.Lists.{each_append}
 use Rattle.srp_base.specs.declared.numbers.NodeNo.{NodeNo}
 use Rattle.tree_topology.specs.Topology.{Topology, link_ports}
 use Rattle.topology_file.specs.Plan.{Plan}
 use Rattle.node_core.specs.declared.types.NodeStep.{NodeStep}
-use Rattle.world_core.specs.declared.events.WorldEvent.{WorldEvent}
-use Rattle.world_core.specs.declared.events.WorldEvent.TheVariants.{Carry, Clock}
-use Rattle.world_core.specs.declared.events.WorldReply.{WorldReply}
-use Rattle.world_core.specs.declared.journal.NodeSteps.{NodeSteps}
-use Rattle.world_core.specs.declared.journal.Tick.{Tick}
-use Rattle.world_core.specs.World.{WorldState, world_step, world_after, replies_to}
-use Rattle.world_core.specs.Ticks.{script_at, after_script, step_events, tick_events, IsLegalTick, LeadTo}
-use Rattle.world_core.specs.During.{IsDuring, IsAllowed}
-use Rattle.world_core.specs.Apart.{HavePorts, events_of}
-use Rattle.world_core.specs.OneByOne.{IsOneByOne}
-use Rattle.world_core.proofs.OneByOne.{one_by_one, of_one_by_one, can_all}
-use Rattle.world_core.proofs.Runs.{after_append, each_append}
+use Rattle.world_core.specs.{WorldEvent, Carry, Clock, WorldReply, NodeSteps, Tick, WorldState, world_step, world_after, replies_to, script_at, after_script, step_events, tick_events, IsLegalTick, LeadTo, IsDuring, IsAllowed, HavePorts, events_of, IsOneByOne}
+use Rattle.world_core.proofs.{OneByOne.one_by_one, OneByOne.of_one_by_one, OneByOne.can_all, Runs.after_append}
 
 -- events with their answers, each with its number
 numbered : (es : List (ℕ × WorldEvent)) (w : WorldState)

@@ -1,23 +1,13 @@
 -- The timeline of ticks, and one tick more.
 use Rattle.std.proofs.Common.{◌≡◌, ℕ, zero, suc, ◌+◌, ◌<◌, ◌≤◌, ◌⊎◌, inl, inr, List, [], ◌∷◌, ◌++◌, length, map, take, Some, refl, sym, ap, subst, ◌∙◌, arith, append-nil, append_assoc}
 use Rattle.std.specs.Prelude.{slice_get}
-use Rattle.std.proofs.lemmas.Option.{none-some, same_Some}
-use Rattle.std.proofs.lemmas.List.Elements.{All-weaker}
-use Rattle.srp_base.specs.declared.numbers.EgressPort.{EgressPort}
-use Rattle.srp_base.specs.declared.ports.PortChange.{PortChange}
+use Rattle.std.proofs.lemmas.{Option.none-some, Option.same_Some, List.Elements.All-weaker}
+use Rattle.srp_base.specs.declared.{numbers.EgressPort.EgressPort, ports.PortChange.PortChange}
 use Rattle.tree_topology.specs.Topology.{Topology, HasPort}
 use Rattle.frame_flow.specs.Force.{changes_at, in_force}
 use Rattle.topology_file.specs.Plan.{Plan}
-use Rattle.world_core.specs.declared.events.WorldEvent.{WorldEvent}
-use Rattle.world_core.specs.declared.journal.Tick.{Tick}
-use Rattle.world_core.specs.World.{WorldState, world_step, world_after}
-use Rattle.world_core.specs.Start.{world_of}
-use Rattle.world_core.specs.Ticks.{script_at, step_events, after_steps, closing_events, tick_events}
-use Rattle.world_core.specs.Moments.{events_from}
-use Rattle.world_core.specs.Reservation.{said_by}
-use Rattle.world_core.specs.Timeline.{force_at, with_notes, AreChanges, SaysFrom, world_after_ticks, IsAfterSteps, IsTimelineOf}
-use Rattle.world_core.proofs.Reservations.{start_has_none}
-use Rattle.world_core.proofs.Noting.{tree_noted, tree_before, tree_from}
+use Rattle.world_core.specs.{WorldEvent, Tick, WorldState, world_step, world_after, world_of, script_at, step_events, after_steps, closing_events, tick_events, events_from, said_by, force_at, with_notes, AreChanges, SaysFrom, world_after_ticks, IsAfterSteps, IsTimelineOf}
+use Rattle.world_core.proofs.{Reservations.start_has_none, Noting.tree_noted, Noting.tree_before, Noting.tree_from}
 
 -- ---- noted in a network
 

@@ -4,25 +4,11 @@ use Rattle.std.proofs.Common.{◌≡◌, ◌≢◌, ℕ, ◌<◌, Bool, true, fa
 use Rattle.std.specs.Prelude.{Option, Some, None, slice_get}
 use Rattle.std.specs.declared.cmp.Ordering.{Ordering}
 use Rattle.srp_base.specs.declared.mrp.App.{App}
-use Rattle.mrp_participant.specs.Duty.{IsDutyMet}
-use Rattle.mrp_participant.specs.State.{State, Messages}
-use Rattle.mrp_participant.specs.Link.{LinkEvent}
-use Rattle.mrp_participant.specs.MarkedLink.{Mark, MarkedLink, IsNoMore, AreMarkedDutiesMet, after_marked_event, other_marked_view}
-use Rattle.node_core.specs.declared.types.AppRequest.{AppRequest}
+use Rattle.mrp_participant.specs.{Duty.IsDutyMet, State.State, State.Messages, Link.LinkEvent, MarkedLink.Mark, MarkedLink.MarkedLink, MarkedLink.IsNoMore, MarkedLink.AreMarkedDutiesMet, MarkedLink.after_marked_event, MarkedLink.other_marked_view}
+use Rattle.node_core.specs.declared.{types.AppRequest.AppRequest, types.PortStep.PortStep, types.PortStep.TheVariants.Work, types.PortStep.TheVariants.Send, types.StepReply.StepReply, types.StepReply.TheVariants.Sent, types.Wire.Wire}
 use Rattle.node_core.specs.declared.types.NodeEvent.TheVariants as node_events
-use Rattle.node_core.specs.declared.types.PortStep.{PortStep}
-use Rattle.node_core.specs.declared.types.PortStep.TheVariants.{Work, Send}
-use Rattle.node_core.specs.declared.types.StepReply.{StepReply}
-use Rattle.node_core.specs.declared.types.StepReply.TheVariants.{Sent}
-use Rattle.node_core.specs.declared.types.Wire.{Wire}
-use Rattle.node_core.specs.Leaving.{has_leave_all, is_leave_all_at}
-use Rattle.node_core.specs.Links.{spoilt_at}
-use Rattle.node_core.specs.Proper.{IsProperNode}
-use Rattle.node_core.specs.State.{NodeState, box_at, ports_of}
-use Rattle.node_core.specs.Step.{node_step, port_step}
-use Rattle.world_core.specs.Marks.{BothMarks, is_same_app, both_sent, both_took}
-use Rattle.world_core.specs.World.{WorldState}
-use Rattle.world_core.specs.Duty.{IsLinkMet, AreDutiesMetIn}
+use Rattle.node_core.specs.{Leaving.has_leave_all, Leaving.is_leave_all_at, Links.spoilt_at, Proper.IsProperNode, State.NodeState, State.box_at, State.ports_of, Step.node_step, Step.port_step}
+use Rattle.world_core.specs.{BothMarks, is_same_app, both_sent, both_took, WorldState, IsLinkMet, AreDutiesMetIn}
 
 -- the order of its keys, its participant at a place of a node, what a PDU says in it, and which application it is
 pub record AppView (K C : Type 0) : Type 0 where

@@ -2,43 +2,21 @@
 use Rattle.std.proofs.Common.{◌≡◌, ◌≢◌, ℕ, Bool, true, false, if◌then◌else◌, List, [], ◌∷◌, ◌++◌, map, refl, sym, ap, subst, ◌∙◌}
 use Rattle.std.proofs.lemmas.Option.{slice_get_within}
 use Rattle.std.specs.Prelude.{slice_get, slice_set, Option, Some, None, option_map, Result, Ok, Err}
-use Rattle.std.specs.Option.{option_map_or}
-use Rattle.std.specs.Ordering.{nat_cmp}
-use Rattle.srp_base.specs.declared.numbers.Cs.{Cs}
-use Rattle.srp_base.specs.declared.mrp.App.{App}
-use Rattle.srp_base.specs.declared.mrp.App.TheVariants.{Mvrp, Msrp}
-use Rattle.srp_base.specs.declared.mrp.MrpEvent.{MrpEvent}
+use Rattle.std.specs.{Option.option_map_or, Ordering.nat_cmp}
+use Rattle.srp_base.proofs.{Options.one_some, Lists.at_each, Lists.within}
+use Rattle.srp_base.specs.declared.{numbers.Cs.Cs, mrp.App.App, mrp.App.TheVariants.Mvrp, mrp.App.TheVariants.Msrp, mrp.MrpEvent.MrpEvent}
 use Rattle.mvrp_codec.specs.declared.pdu.MvrpPdu.{MvrpPdu}
-use Rattle.mvrp_codec.specs.Meaning.{mvrp_reading}
-use Rattle.mvrp_codec.specs.Writing.{mvrp_spelling}
-use Rattle.mrp_participant.specs.Duty.{IsDutyMet}
-use Rattle.mrp_participant.specs.State.{Messages, AreRows, is_active, is_silent, declared_state, withdrawn_state, due_state, left_keys, left_state, leave_all_state, periodic_state, sent_messages, sent_events}
-use Rattle.mrp_participant.specs.Link.{LinkEvent}
-use Rattle.mrp_participant.specs.MarkedLink.{Mark, MarkedLink, IsNoMore, AreMarkedDutiesMet, after_marked_event, other_marked_view}
-use Rattle.mvrp.specs.Part.{Part, base, octets, pdu_sent, received_part, told_by_receipt, sent_part, settled_vid, settled_part}
-use Rattle.flat_side.specs.Part.{same_content}
-use Rattle.flat_side.specs.Side.{with_part, at_part, with_part_at, awaiting_at}
-use Rattle.mvrp.specs.Side.{Vlans, IsWritten, with_told_part, left_vids, has_own, is_flat, received_vlans, due_vlans, left_vlans, leave_all_vlans, periodic_vlans, settled_vlans, sent_vlans, spoilt_vlans}
-use Rattle.mvrp.specs.Vids.{HasVidRows}
-use Rattle.node_core.specs.declared.types.AppRequest.{AppRequest}
+use Rattle.mvrp_codec.specs.{Meaning.mvrp_reading, Writing.mvrp_spelling}
+use Rattle.mrp_participant.specs.{Duty.IsDutyMet, State.Messages, State.AreRows, State.is_active, State.is_silent, State.declared_state, State.withdrawn_state, State.due_state, State.left_keys, State.left_state, State.leave_all_state, State.periodic_state, State.sent_messages, State.sent_events, Link.LinkEvent, MarkedLink.Mark, MarkedLink.MarkedLink, MarkedLink.IsNoMore, MarkedLink.AreMarkedDutiesMet, MarkedLink.after_marked_event, MarkedLink.other_marked_view}
+use Rattle.mvrp.specs.{Part.Part, Part.base, Part.octets, Part.pdu_sent, Part.received_part, Part.told_by_receipt, Part.sent_part, Part.settled_vid, Part.settled_part, Side.Vlans, Side.IsWritten, Side.with_told_part, Side.left_vids, Side.has_own, Side.is_flat, Side.received_vlans, Side.due_vlans, Side.left_vlans, Side.leave_all_vlans, Side.periodic_vlans, Side.settled_vlans, Side.sent_vlans, Side.spoilt_vlans, Vids.HasVidRows}
+use Rattle.flat_side.specs.{Part.same_content, Side.with_part, Side.at_part, Side.with_part_at, Side.awaiting_at}
+use Rattle.node_core.specs.declared.{types.AppRequest.AppRequest, types.Wire.Wire, types.NodeKey.TheVariants.Vlan, types.NodeKey.TheVariants.Srp, types.PortStep.PortStep}
 use Rattle.node_core.specs.declared.types.AppRequest.TheVariants.{Declare, Withdraw, Talk, Hush, Listen, Unlisten}
 use Rattle.node_core.specs.declared.types.NodeEvent.TheVariants as node_events
-use Rattle.node_core.specs.declared.types.Wire.{Wire}
-use Rattle.node_core.specs.declared.types.NodeKey.TheVariants.{Vlan, Srp}
-use Rattle.node_core.specs.declared.types.PortStep.{PortStep}
 use Rattle.node_core.specs.declared.types.PortStep.TheVariants.{Work, LeaveNow, LeaveAllNow, PeriodicNow, Due, Settle, Send}
-use Rattle.node_core.specs.State.{NodeState, box_at}
-use Rattle.node_core.specs.Step.{node_step, port_step, after_work, worked_app, worked_mvrp, octets_to_say, sent_octets}
-use Rattle.node_core.specs.Leaving.{vlans_leave, streams_leave, octets_leave, has_leave_all, is_leave_all_at}
-use Rattle.node_core.specs.Links.{spoilt_at}
-use Rattle.node_core.specs.Proper.{IsProperNode}
-use Rattle.world_core.specs.Duty.{said_of_vlans, vlans_said, message_of, vlan_place}
-use Rattle.world_core.specs.Marks.{BothMarks, is_same_app}
-use Rattle.world_core.proofs.Lists.{one_some, at_each, within, set_at, set_at_there, set_at_other}
-use Rattle.world_core.proofs.Boxes.{box_got, box_set}
-use Rattle.world_core.proofs.Views.{AppView, LinkLaws, StepFacts, KeepsLink, both_heard, both_said, both_stepped, both_same, says_leave_all, unsound}
-use Rattle.world_core.proofs.Nodes.{outbox_there}
-use Rattle.world_core.proofs.LinkSteps.{KeepsNear, HasSpoken, declares, withdraws, leaves, fires, fires_leave_all, fires_periodic, all_keep, same_near, by_call, called, hearing, taken, spoken, unheard, still}
+use Rattle.node_core.specs.{State.NodeState, State.box_at, Step.node_step, Step.port_step, Step.after_work, Step.worked_app, Step.worked_mvrp, Step.octets_to_say, Step.sent_octets, Leaving.vlans_leave, Leaving.streams_leave, Leaving.octets_leave, Leaving.has_leave_all, Leaving.is_leave_all_at, Links.spoilt_at, Proper.IsProperNode}
+use Rattle.world_core.specs.{said_of_vlans, vlans_said, message_of, vlan_place, BothMarks, is_same_app}
+use Rattle.world_core.proofs.{Lists.set_at, Lists.set_at_there, Lists.set_at_other, Boxes.box_got, Boxes.box_set, Views.AppView, Views.LinkLaws, Views.StepFacts, Views.KeepsLink, Views.both_heard, Views.both_said, Views.both_stepped, Views.both_same, Views.says_leave_all, Views.unsound, Nodes.outbox_there, LinkSteps.KeepsNear, LinkSteps.HasSpoken, LinkSteps.declares, LinkSteps.withdraws, LinkSteps.leaves, LinkSteps.fires, LinkSteps.fires_leave_all, LinkSteps.fires_periodic, LinkSteps.all_keep, LinkSteps.same_near, LinkSteps.by_call, LinkSteps.called, LinkSteps.hearing, LinkSteps.taken, LinkSteps.spoken, LinkSteps.unheard, LinkSteps.still}
 
 -- MVRP as the network's proofs see it
 abbrev pub vlan_view : AppView ℕ (Unit {0})

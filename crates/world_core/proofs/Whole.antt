@@ -1,9 +1,8 @@
 -- What a network keeps is what it keeps beside its nodes, and what each node keeps by itself.
 use Rattle.std.specs.List.{AllByRecursion}
+use Rattle.srp_base.proofs.Lists.{at_each}
 use Rattle.node_core.specs.Proper.{IsProperNode}
-use Rattle.world_core.specs.World.{WorldState}
-use Rattle.world_core.specs.Kept.{IsKeptWorld, IsWhole}
-use Rattle.world_core.proofs.Lists.{at_each}
+use Rattle.world_core.specs.{WorldState, IsKeptWorld, IsWhole}
 
 pub whole_of : (w : WorldState) → IsKeptWorld w → IsWhole w
 whole_of w kept =

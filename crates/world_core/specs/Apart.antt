@@ -1,28 +1,15 @@
 -- The steps of nodes that are apart: a step of a port is of its node alone, so the nodes may be taken out of a network, make
 -- their steps each by itself, and be put back, with the marks after what their ports took and sent.
 use Rattle.std.specs.Prelude.{◌≡◌, ◌≤◌, ◌-◌, List, [], ◌∷◌, map, fold, Some, slice_get, slice_set}
-use Rattle.std.specs.Option.{option_map_or}
-use Rattle.std.specs.List.{AllByRecursion}
-use Rattle.srp_base.specs.declared.numbers.NodeNo.{NodeNo}
-use Rattle.srp_base.specs.declared.numbers.EgressPort.{EgressPort}
+use Rattle.std.specs.{Option.option_map_or, List.AllByRecursion}
+use Rattle.srp_base.specs.declared.{numbers.NodeNo.NodeNo, numbers.EgressPort.EgressPort}
 use Rattle.tree_topology.specs.Topology.{Topology, HasPort}
 use Rattle.attribute_propagation.specs.Ports.{place_of}
 use Rattle.node_core.specs.declared.types.NodeEvent.TheVariants as node_events
-use Rattle.node_core.specs.declared.types.NodeStep.{NodeStep}
-use Rattle.node_core.specs.declared.types.PortStep.{PortStep}
-use Rattle.node_core.specs.declared.types.PortStep.TheVariants.{Work, Send}
-use Rattle.node_core.specs.declared.types.StepReply.{StepReply}
-use Rattle.node_core.specs.Leaving.{is_leave_all_at}
-use Rattle.node_core.specs.State.{NodeState, box_at}
-use Rattle.node_core.specs.Step.{node_step}
-use Rattle.world_core.specs.declared.events.WorldEvent.{WorldEvent}
-use Rattle.world_core.specs.declared.events.WorldEvent.TheVariants.{Port}
-use Rattle.world_core.specs.declared.events.WorldReply.{WorldReply}
-use Rattle.world_core.specs.declared.events.WorldReply.TheVariants.{Step}
-use Rattle.world_core.specs.declared.journal.NodeSteps.{NodeSteps}
-use Rattle.world_core.specs.Marks.{MarksState}
-use Rattle.world_core.specs.World.{WorldState, nodes_with, marks_taking, marks_sending}
-use Rattle.world_core.specs.Ticks.{AscendByNode}
+use Rattle.node_core.specs.declared.{types.NodeStep.NodeStep, types.PortStep.PortStep, types.PortStep.TheVariants.Work, types.PortStep.TheVariants.Send, types.StepReply.StepReply}
+use Rattle.node_core.specs.{Leaving.is_leave_all_at, State.NodeState, State.box_at, Step.node_step}
+use Rattle.world_core.specs.declared.{events.WorldEvent.WorldEvent, events.WorldEvent.TheVariants.Port, events.WorldReply.WorldReply, events.WorldReply.TheVariants.Step, journal.NodeSteps.NodeSteps}
+use Rattle.world_core.specs.{Marks.MarksState, World.WorldState, World.nodes_with, World.marks_taking, World.marks_sending, Ticks.AscendByNode}
 
 -- ---- one node
 

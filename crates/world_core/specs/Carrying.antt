@@ -2,13 +2,9 @@
 use Rattle.std.specs.Prelude.{◌≡◌, ℕ, Bool, List, [], ◌∷◌}
 use Rattle.std.specs.List.{list_any}
 use Rattle.srp_base.specs.declared.numbers.EgressPort.{EgressPort}
-use Rattle.tree_topology.specs.Topology.{Topology, HasPort}
-use Rattle.tree_topology.specs.Ports.{ends_of}
-use Rattle.world_core.specs.declared.events.WorldEvent.{WorldEvent}
-use Rattle.world_core.specs.declared.events.WorldEvent.TheVariants.{Carry}
-use Rattle.world_core.specs.declared.journal.NodeSteps.{NodeSteps}
-use Rattle.world_core.specs.World.{WorldState, outbox}
-use Rattle.world_core.specs.Ticks.{is_send}
+use Rattle.tree_topology.specs.{Topology.Topology, Topology.HasPort, Ports.ends_of}
+use Rattle.world_core.specs.declared.{events.WorldEvent.WorldEvent, events.WorldEvent.TheVariants.Carry, journal.NodeSteps.NodeSteps}
+use Rattle.world_core.specs.{World.WorldState, World.outbox, Ticks.is_send}
 
 -- no PDU waits in the outbox of any port
 abbrev pub NothingWaits : WorldState → Type 0

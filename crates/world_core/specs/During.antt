@@ -1,19 +1,14 @@
 -- A network during a tick of a scenario, and what may happen in it.
 use Rattle.std.specs.Prelude.{◌≡◌, ◌≤◌, ◌-◌, ℕ, List, slice_get, Some}
-use Rattle.tree_topology.specs.declared.graph.Link.{Link}
-use Rattle.tree_topology.specs.declared.graph.NodeKind.TheVariants.{Station}
-use Rattle.tree_topology.specs.Graph.{Joined}
-use Rattle.tree_topology.specs.Topology.{Topology, HasPort}
+use Rattle.tree_topology.specs.declared.{graph.Link.Link, graph.NodeKind.TheVariants.Station}
+use Rattle.tree_topology.specs.{Graph.Joined, Topology.Topology, Topology.HasPort}
 use Rattle.topology_file.specs.declared.entries.EventKind.{EventKind}
 use Rattle.topology_file.specs.declared.entries.EventKind.TheVariants as kinds
 use Rattle.mrpdu_codec.specs.Octets.{AreOctets}
-use Rattle.node_core.specs.Wires.{IsShort}
-use Rattle.node_core.specs.State.{NodeState}
-use Rattle.node_core.specs.Proper.{AsksInRange}
+use Rattle.node_core.specs.{Wires.IsShort, State.NodeState, Proper.AsksInRange}
 use Rattle.world_core.specs.declared.events.WorldEvent.{WorldEvent}
 use Rattle.world_core.specs.declared.events.WorldEvent.TheVariants.{Request, Port, Lose, Repeat, Forge, Carry, Clock}
-use Rattle.world_core.specs.World.{WorldState}
-use Rattle.world_core.specs.Kept.{IsKeptWorld}
+use Rattle.world_core.specs.{World.WorldState, Kept.IsKeptWorld}
 
 -- a network over this tree during tick t: it keeps what every network keeps, and every clock is at t
 pub record IsDuring (tree : Topology) (t : ℕ) (w : WorldState) : Type 0 where

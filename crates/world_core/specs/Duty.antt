@@ -2,30 +2,21 @@
 -- (mrp_participant) speaks of the network. It is said of any application, by the order of its keys, its participant at a place
 -- of a node, and what a PDU says in it.
 use Rattle.std.specs.Prelude.{◌≡◌, ℕ, true, List, ◌++◌, filter_map, Option, Some, None, option_map, Result, Ok, Err, slice_get}
-use Rattle.std.specs.declared.cmp.Ordering.{Ordering}
-use Rattle.std.specs.Option.{option_and_then}
-use Rattle.std.specs.Ordering.{nat_cmp}
-use Rattle.srp_base.specs.declared.numbers.EgressPort.{EgressPort}
-use Rattle.srp_base.specs.declared.mrp.App.{App}
-use Rattle.srp_base.specs.declared.mrp.App.TheVariants.{Mvrp, Msrp}
-use Rattle.tree_topology.specs.Topology.{HasPort}
-use Rattle.tree_topology.specs.Ports.{peer_of}
+use Rattle.std.specs.{declared.cmp.Ordering.Ordering, Option.option_and_then, Ordering.nat_cmp}
+use Rattle.srp_base.specs.declared.{numbers.EgressPort.EgressPort, mrp.App.App, mrp.App.TheVariants.Mvrp, mrp.App.TheVariants.Msrp}
+use Rattle.tree_topology.specs.{Topology.HasPort, Ports.peer_of}
 use Rattle.mvrp_codec.specs.declared.pdu.MvrpPdu.{MvrpPdu}
 use Rattle.mvrp_codec.specs.Meaning.{mvrp_reading}
-use Rattle.msrp_codec.specs.declared.pdu.MsrpKey.{MsrpKey}
-use Rattle.msrp_codec.specs.declared.pdu.MsrpContent.{MsrpContent}
-use Rattle.msrp_codec.specs.declared.pdu.MsrpPdu.{MsrpPdu}
+use Rattle.msrp_codec.specs.declared.{pdu.MsrpKey.MsrpKey, pdu.MsrpContent.MsrpContent, pdu.MsrpPdu.MsrpPdu}
 use Rattle.msrp_codec.specs.Meaning.{msrp_reading}
-use Rattle.mrp_participant.specs.State.{State, Messages}
-use Rattle.mrp_participant.specs.MarkedLink.{Mark, MarkedLink, AreMarkedDutiesMet}
+use Rattle.mrp_participant.specs.{State.State, State.Messages, MarkedLink.Mark, MarkedLink.MarkedLink, MarkedLink.AreMarkedDutiesMet}
 use Rattle.mvrp.specs.Part.{Part, messages}
 use Rattle.attribute_propagation.specs.Ports.{place_of}
 use Rattle.msrp.specs.Part.{Part as StreamPart, key_cmp}
 use Rattle.node_core.specs.declared.types.Wire.{Wire}
 use Rattle.node_core.specs.State.{NodeState}
 use Rattle.world_core.specs.declared.marks.EndMark.{EndMark}
-use Rattle.world_core.specs.Marks.{BothMarks, mark_at, count_of}
-use Rattle.world_core.specs.World.{WorldState, node_at, inbox, outbox}
+use Rattle.world_core.specs.{Marks.BothMarks, Marks.mark_at, Marks.count_of, World.WorldState, World.node_at, World.inbox, World.outbox}
 
 -- the PDUs in flight from a port: those that came in at its peer, and then those that are to go out
 abbrev pub in_flight : EgressPort → WorldState → List Wire

@@ -1,18 +1,13 @@
 -- The changes of a run that goes on, port by port; and a tick of which only the nodes that acted are noted.
 use Rattle.std.specs.Prelude.{◌≡◌, ◌≤◌, ℕ, zero, suc, ◌+◌, Bool, ◌&&◌, ◌==◌, not, if◌then◌else◌, List, [], ◌∷◌, map, flat_map, length}
 use Rattle.std.specs.List.{AllByRecursion, list_any, range_with_len}
-use Rattle.srp_base.specs.declared.numbers.NodeNo.{NodeNo}
-use Rattle.srp_base.specs.declared.numbers.EgressPort.{EgressPort}
-use Rattle.srp_base.specs.declared.ports.PortChange.{PortChange}
+use Rattle.srp_base.specs.declared.{numbers.NodeNo.NodeNo, numbers.EgressPort.EgressPort, ports.PortChange.PortChange}
 use Rattle.tree_topology.specs.Topology.{Topology, HasPort}
-use Rattle.frame_flow.specs.Force.{changes_at}
-use Rattle.frame_flow.specs.Copies.{ports_at, port_of}
+use Rattle.frame_flow.specs.{Force.changes_at, Copies.ports_at, Copies.port_of}
 use Rattle.attribute_propagation.specs.Ports.{place_of}
 use Rattle.node_core.specs.State.{NodeState}
 use Rattle.world_core.specs.declared.journal.NodeSteps.{NodeSteps}
-use Rattle.world_core.specs.World.{WorldState}
-use Rattle.world_core.specs.Ticks.{is_send}
-use Rattle.world_core.specs.Timeline.{node_force, force_at, changes_noted, tree_ports}
+use Rattle.world_core.specs.{World.WorldState, Ticks.is_send, Timeline.node_force, Timeline.force_at, Timeline.changes_noted, Timeline.tree_ports}
 
 -- a tree, and changes of its ports
 pub record HistoryState : Type 0 where

@@ -1,12 +1,8 @@
 -- What every network keeps.
 use Rattle.std.specs.Prelude.{◌≡◌, ◌+◌, ℕ, length, slice_get, Some}
-use Rattle.tree_topology.specs.Topology.{Topology, IsSound}
-use Rattle.tree_topology.specs.Ports.{neighbours}
-use Rattle.node_core.specs.State.{NodeState, ports_of}
-use Rattle.node_core.specs.Proper.{IsProperNode}
-use Rattle.world_core.specs.Marks.{IsOfTree}
-use Rattle.world_core.specs.World.{WorldState}
-use Rattle.world_core.specs.Duty.{AreVlanDutiesMet, AreStreamDutiesMet}
+use Rattle.tree_topology.specs.{Topology.Topology, Topology.IsSound, Ports.neighbours}
+use Rattle.node_core.specs.{State.NodeState, State.ports_of, Proper.IsProperNode}
+use Rattle.world_core.specs.{Marks.IsOfTree, World.WorldState, Duty.AreVlanDutiesMet, Duty.AreStreamDutiesMet}
 
 -- a node is that of its place in the tree: its kind, a port for each of its links, and what every node keeps
 pub record FitsTree (tree : Topology) (x : ℕ) (s : NodeState) : Type 0 where

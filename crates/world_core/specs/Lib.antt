@@ -20,3 +20,33 @@ pub mod Merging
 pub mod Timeline
 pub mod History
 pub mod NotedRuns
+pub use Start.*
+pub use Marks.*
+pub use World.*
+pub use Marking.*
+pub use Duty.*
+pub use Kept.*
+pub use Ticks.*
+pub use Apart.*
+pub use OneByOne.*
+pub use Missed.*
+pub use Moments.*
+pub use During.*
+pub use Carrying.*
+pub use Cursor.*
+pub use Script.*
+pub use Limits.*
+pub use Talks.*
+pub use Reservation.*
+pub use Merging.*
+pub use Timeline.*
+pub use History.*
+pub use NotedRuns.*
+pub use Rattle.world_core.specs.declared.events.WorldEvent.{WorldEvent}
+pub use Rattle.world_core.specs.declared.events.WorldEvent.TheVariants.{Carry, Clock, Forge, Lose, Port, Repeat, Request}
+pub use Rattle.world_core.specs.declared.events.WorldReply.{WorldReply}
+pub use Rattle.world_core.specs.declared.events.WorldReply.TheVariants.{Done, Step}
+pub use Rattle.world_core.specs.declared.journal.NodeSteps.{NodeSteps}
+pub use Rattle.world_core.specs.declared.journal.Tick.{Tick}
+pub use Rattle.world_core.specs.declared.marks.EndMark.{EndMark}
+pub use Rattle.world_core.specs.declared.marks.EndMarks.{EndMarks}

@@ -1,9 +1,7 @@
 -- That no port gives away more than its link's entry allows (IEEE Std 802.1Q-2018, 34.3).
 use Rattle.std.specs.Prelude.{◌≤◌, ℕ, ◌+◌, ◌==◌, Bool, ◌||◌, List, filter, slice_get}
 use Rattle.std.specs.Option.{option_map_or}
-use Rattle.srp_base.specs.declared.bandwidth.Class.{Class}
-use Rattle.srp_base.specs.declared.bandwidth.Class.TheVariants.{A, B}
-use Rattle.srp_base.specs.declared.numbers.EgressPort.{EgressPort}
+use Rattle.srp_base.specs.declared.{bandwidth.Class.Class, bandwidth.Class.TheVariants.A, bandwidth.Class.TheVariants.B, numbers.EgressPort.EgressPort}
 use Rattle.stream_importance.specs.declared.slope.Caps.{Caps}
 use Rattle.stream_importance.specs.Bandwidth.{caps_of}
 use Rattle.tree_topology.specs.Topology.{HasPort}

@@ -2,12 +2,9 @@
 use Rattle.std.specs.Prelude.{◌≤◌, Bool, true, false}
 use Rattle.srp_base.specs.declared.numbers.EgressPort.{EgressPort}
 use Rattle.tree_topology.specs.Ports.{peer_of}
-use Rattle.world_core.specs.declared.events.WorldReply.{WorldReply}
-use Rattle.world_core.specs.declared.events.WorldReply.TheVariants.{Done}
-use Rattle.world_core.specs.declared.marking.Noted.{Noted}
+use Rattle.world_core.specs.declared.{events.WorldReply.WorldReply, events.WorldReply.TheVariants.Done, marking.Noted.Noted}
 use Rattle.world_core.specs.declared.marking.Noted.TheVariants.{Nothing, Takes, Sends}
-use Rattle.world_core.specs.Marks.{MarksState, mark_at, with_both, both_took}
-use Rattle.world_core.specs.World.{marks_sending}
+use Rattle.world_core.specs.{Marks.MarksState, Marks.mark_at, Marks.with_both, Marks.both_took, World.marks_sending}
 
 -- the marks after a step that this was noted of, with its answer
 abbrev pub marks_noted : EgressPort → Noted → WorldReply → MarksState → MarksState

@@ -3,17 +3,12 @@
 -- way was clear when it took a LeaveAll is sound, as after a LeaveAll of its own. The marks are this project's.
 use Rattle.std.specs.Prelude.{◌≡◌, ℕ, ◌+◌, ◌-◌, ◌==◌, Bool, true, false, ◌||◌, ◌&&◌, if◌then◌else◌, List, [], ◌∷◌, length, replicate, Option, Some, slice_get, slice_set}
 use Rattle.std.specs.Option.{option_map_or, option_and_then}
-use Rattle.srp_base.specs.declared.numbers.EgressPort.{EgressPort}
-use Rattle.srp_base.specs.declared.mrp.App.{App}
-use Rattle.srp_base.specs.declared.mrp.App.TheVariants.{Mvrp, Msrp}
-use Rattle.tree_topology.specs.declared.graph.Link.{Link}
-use Rattle.tree_topology.specs.declared.graph.NodeKind.{NodeKind}
-use Rattle.tree_topology.specs.Topology.{Topology, HasPort}
-use Rattle.tree_topology.specs.Ports.{peer_of, neighbours}
+use Rattle.srp_base.specs.declared.{numbers.EgressPort.EgressPort, mrp.App.App, mrp.App.TheVariants.Mvrp, mrp.App.TheVariants.Msrp}
+use Rattle.tree_topology.specs.declared.{graph.Link.Link, graph.NodeKind.NodeKind}
+use Rattle.tree_topology.specs.{Topology.Topology, Topology.HasPort, Ports.peer_of, Ports.neighbours}
 use Rattle.attribute_propagation.specs.Ports.{place_of}
 use Rattle.node_core.specs.declared.types.Wire.{Wire}
-use Rattle.world_core.specs.declared.marks.EndMark.{EndMark}
-use Rattle.world_core.specs.declared.marks.EndMarks.{EndMarks}
+use Rattle.world_core.specs.declared.{marks.EndMark.EndMark, marks.EndMarks.EndMarks}
 
 -- the tree, and for each of its nodes the marks of its ports, in the order of their numbers
 pub record MarksState : Type 0 where

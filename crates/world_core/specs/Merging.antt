@@ -1,7 +1,6 @@
 -- Changes that are put among others.
 use Rattle.std.specs.Prelude.{Bool, ◌&&◌, ◌||◌, ◌==◌, nat_lt, List, [], ◌∷◌, ◌++◌, if◌then◌else◌}
-use Rattle.srp_base.specs.declared.numbers.EgressPort.{EgressPort}
-use Rattle.srp_base.specs.declared.ports.PortChange.{PortChange}
+use Rattle.srp_base.specs.declared.{numbers.EgressPort.EgressPort, ports.PortChange.PortChange}
 
 -- whether a port comes before another: by node, then by port
 abbrev pub precedes : EgressPort → EgressPort → Bool

@@ -1,11 +1,8 @@
 -- The moments of a run: the network after each of its events, steps, carryings and clocks.
 use Rattle.std.specs.Prelude.{◌≡◌, ℕ, suc, List, [], ◌∷◌, ◌++◌, take}
 use Rattle.topology_file.specs.Plan.{Plan}
-use Rattle.world_core.specs.declared.events.WorldEvent.{WorldEvent}
-use Rattle.world_core.specs.declared.journal.Tick.{Tick}
-use Rattle.world_core.specs.World.{WorldState, world_after}
-use Rattle.world_core.specs.Start.{world_of}
-use Rattle.world_core.specs.Ticks.{tick_events}
+use Rattle.world_core.specs.declared.{events.WorldEvent.WorldEvent, journal.Tick.Tick}
+use Rattle.world_core.specs.{World.WorldState, World.world_after, Start.world_of, Ticks.tick_events}
 
 -- all that happens in these ticks, of which the first is tick t
 abbrev pub events_from : Plan → ℕ → List Tick → List WorldEvent

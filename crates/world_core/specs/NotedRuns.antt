@@ -3,11 +3,7 @@ use Rattle.std.specs.Prelude.{◌≡◌, ℕ, List, length}
 use Rattle.srp_base.specs.declared.ports.PortChange.{PortChange}
 use Rattle.topology_file.specs.Plan.{Plan}
 use Rattle.world_core.specs.declared.journal.Tick.{Tick}
-use Rattle.world_core.specs.World.{WorldState}
-use Rattle.world_core.specs.Start.{world_of}
-use Rattle.world_core.specs.Ticks.{IsLegalTick, LeadTo}
-use Rattle.world_core.specs.During.{IsDuring}
-use Rattle.world_core.specs.Timeline.{SaysFrom, world_after_ticks, IsTimelineOf}
+use Rattle.world_core.specs.{World.WorldState, Start.world_of, Ticks.IsLegalTick, Ticks.LeadTo, During.IsDuring, Timeline.SaysFrom, Timeline.world_after_ticks, Timeline.IsTimelineOf}
 
 -- The ticks before tick t lead legally from a scenario's start to a network, which is as they leave it; the changes are their
 -- timeline, and say what is in force now.

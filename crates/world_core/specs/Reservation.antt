@@ -2,13 +2,9 @@
 -- VIDs that are registered there (11.2).
 use Rattle.std.specs.Prelude.{ℕ, Bool, ◌&&◌, ◌==◌, List, [], map, filter, Option, Some, None}
 use Rattle.std.specs.Cmp.Lexicographic.{pointwise}
-use Rattle.srp_base.specs.declared.numbers.EgressPort.{EgressPort}
-use Rattle.srp_base.specs.declared.numbers.StreamId.{StreamId}
-use Rattle.srp_base.specs.declared.ports.PortChange.{PortChange}
-use Rattle.srp_base.specs.declared.bandwidth.Class.TheVariants.{A, B}
+use Rattle.srp_base.specs.declared.{numbers.EgressPort.EgressPort, numbers.StreamId.StreamId, ports.PortChange.PortChange, bandwidth.Class.TheVariants.A, bandwidth.Class.TheVariants.B}
 use Rattle.stream_importance.specs.declared.entry.Entry.{Entry}
-use Rattle.port_ledger.specs.Decision.{booked_of}
-use Rattle.port_ledger.specs.Book.{Book, booked_slope}
+use Rattle.port_ledger.specs.{Decision.booked_of, Book.Book, Book.booked_slope}
 use Rattle.registrar.specs.Table.{is_registered_in}
 use Rattle.mrp_participant.specs.declared.row.Row.{Row}
 use Rattle.mrp_participant.specs.Lookup.{key_of}

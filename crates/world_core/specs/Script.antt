@@ -1,7 +1,6 @@
 -- The events of a file with their answers.
 use Rattle.std.specs.Prelude.{ℕ, List, [], ◌∷◌, Option, Some, None}
-use Rattle.world_core.specs.declared.events.WorldEvent.{WorldEvent}
-use Rattle.world_core.specs.declared.events.WorldReply.{WorldReply}
+use Rattle.world_core.specs.declared.{events.WorldEvent.WorldEvent, events.WorldReply.WorldReply}
 use Rattle.world_core.specs.World.{WorldState, world_step}
 
 -- what the event of an entry answers, with the entry's number; nothing where the entry has no event

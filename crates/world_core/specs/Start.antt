@@ -2,31 +2,23 @@
 -- nodes, and no PDU anywhere.
 use Rattle.std.specs.Prelude.{◌≡◌, ℕ, Bool, true, false, ◌+◌, ◌*◌, ◌-◌, ◌%◌, ◌==◌, if◌then◌else◌, List, [], ◌∷◌, ◌++◌}
 use Rattle.std.specs.List.{AllByRecursion}
-use Rattle.srp_base.specs.declared.numbers.Cs.{Cs}
-use Rattle.srp_base.specs.declared.ports.PortSetup.{PortSetup}
-use Rattle.topology_file.specs.declared.entries.DomainWord.{DomainWord}
+use Rattle.srp_base.specs.declared.{numbers.Cs.Cs, ports.PortSetup.PortSetup}
+use Rattle.topology_file.specs.declared.{entries.DomainWord.DomainWord, entries.LinkEntry.LinkEntry, entries.NodeEntry.NodeEntry}
 use Rattle.topology_file.specs.declared.entries.DomainWord.TheVariants as words
-use Rattle.topology_file.specs.declared.entries.LinkEntry.{LinkEntry}
-use Rattle.topology_file.specs.declared.entries.NodeEntry.{NodeEntry}
 use Rattle.topology_file.specs.Plan.{Plan}
 use Rattle.applicant.specs.declared.Applicant.TheVariants.{Vp}
 use Rattle.registrar.specs.declared.Registrar.TheVariants.{Empty}
 use Rattle.leaveall.specs.declared.LeaveAll.TheVariants.{Passive}
 use Rattle.mrp_participant.specs.declared.row.Row.{Row}
 use Rattle.mrp_participant.specs.State.{State}
-use Rattle.msrp_codec.specs.declared.pdu.MsrpKey.{MsrpKey}
-use Rattle.msrp_codec.specs.declared.pdu.MsrpKey.TheVariants.{Domain as DomainKey}
-use Rattle.msrp_codec.specs.declared.pdu.MsrpContent.{MsrpContent}
-use Rattle.msrp_codec.specs.declared.pdu.MsrpContent.TheVariants.{Domain as DomainContent}
+use Rattle.msrp_codec.specs.declared.{pdu.MsrpKey.MsrpKey, pdu.MsrpKey.TheVariants.Domain as DomainKey, pdu.MsrpContent.MsrpContent, pdu.MsrpContent.TheVariants.Domain as DomainContent}
 use Rattle.mvrp.specs.Part.{Part}
 use Rattle.msrp.specs.PortState.{PortState}
 use Rattle.msrp.specs.declared.domain.DomainSet.{DomainSet}
 use Rattle.msrp.specs.declared.domain.DomainSet.TheVariants.{Off, Nothing, OnlyA, Both}
 use Rattle.node_core.specs.declared.types.Wire.{Wire}
-use Rattle.node_core.specs.State.{NodeState, new_node}
-use Rattle.node_core.specs.Proper.{AsksNothing}
-use Rattle.world_core.specs.Marks.{new_marks}
-use Rattle.world_core.specs.World.{WorldState}
+use Rattle.node_core.specs.{State.NodeState, State.new_node, Proper.AsksNothing}
+use Rattle.world_core.specs.{Marks.new_marks, World.WorldState}
 
 -- the LeaveAll period of the end of a link with this number, in cs: the ends of link l have the numbers 2l - 1 and 2l, so
 -- that ends don't all send LeaveAll at once (IEEE Std 802.1Q-2018, 10.7.11: LeaveAllTime)

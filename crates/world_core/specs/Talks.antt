@@ -1,14 +1,12 @@
 -- That stations talk only what the plan has them talk.
 use Rattle.std.specs.Prelude.{◌≡◌, ℕ, ◌+◌, true, slice_get, Some}
 use Rattle.std.specs.List.{AllByRecursion}
-use Rattle.srp_base.specs.declared.numbers.StreamId.{StreamId}
-use Rattle.srp_base.specs.declared.streams.Talker.{Talker}
+use Rattle.srp_base.specs.declared.{numbers.StreamId.StreamId, streams.Talker.Talker}
 use Rattle.topology_file.specs.declared.entries.StreamEntry.{StreamEntry}
 use Rattle.topology_file.specs.Plan.{Plan}
 use Rattle.msrp.specs.Side.{has_talk}
 use Rattle.node_core.specs.State.{NodeState}
-use Rattle.world_core.specs.World.{WorldState}
-use Rattle.world_core.specs.Ticks.{talker_of_entry}
+use Rattle.world_core.specs.{World.WorldState, Ticks.talker_of_entry}
 
 -- a Talker is that of an entry, which names the node of this number as its station
 pub record IsTalkOfPlan (plan : Plan) (x : ℕ) (talker : Talker) : Type 0 where

@@ -1,33 +1,20 @@
 -- The ticks of a run: which steps are made in a tick and in which order, and when a journal tells a run of a scenario.
 use Rattle.std.specs.Prelude.{◌≡◌, ◌≢◌, ◌<◌, ℕ, suc, ◌+◌, ◌-◌, ◌==◌, Bool, true, false, if◌then◌else◌, List, [], ◌∷◌, ◌++◌, map, filter, Option, Some, None, option_map, slice_get}
-use Rattle.std.specs.Option.{option_map_or}
-use Rattle.std.specs.List.{flat_map, range_with_len, AllByRecursion}
-use Rattle.srp_base.specs.declared.numbers.NodeNo.{NodeNo}
-use Rattle.srp_base.specs.declared.numbers.PortNo.{PortNo}
-use Rattle.srp_base.specs.declared.numbers.EgressPort.{EgressPort}
-use Rattle.srp_base.specs.declared.streams.Talker.{Talker}
+use Rattle.std.specs.{Option.option_map_or, List.flat_map, List.range_with_len, List.AllByRecursion}
+use Rattle.srp_base.specs.declared.{numbers.NodeNo.NodeNo, numbers.PortNo.PortNo, numbers.EgressPort.EgressPort, streams.Talker.Talker}
 use Rattle.tree_topology.specs.declared.graph.Link.{Link}
-use Rattle.tree_topology.specs.Topology.{Topology, HasPort, link_ports}
-use Rattle.tree_topology.specs.Ports.{port_to}
-use Rattle.topology_file.specs.declared.entries.StreamEntry.{StreamEntry}
-use Rattle.topology_file.specs.declared.entries.EventEntry.{EventEntry}
-use Rattle.topology_file.specs.declared.entries.EventKind.{EventKind}
+use Rattle.tree_topology.specs.{Topology.Topology, Topology.HasPort, Topology.link_ports, Ports.port_to}
+use Rattle.topology_file.specs.declared.{entries.StreamEntry.StreamEntry, entries.EventEntry.EventEntry, entries.EventKind.EventKind}
 use Rattle.topology_file.specs.declared.entries.EventKind.TheVariants as kinds
 use Rattle.topology_file.specs.Plan.{Plan}
 use Rattle.attribute_propagation.specs.Ports.{place_of}
 use Rattle.node_core.specs.declared.types.AppRequest.TheVariants.{Declare, Withdraw, Talk, Hush, Listen, Unlisten}
-use Rattle.node_core.specs.declared.types.NodeStep.{NodeStep}
-use Rattle.node_core.specs.declared.types.PortStep.{PortStep}
+use Rattle.node_core.specs.declared.{types.NodeStep.NodeStep, types.PortStep.PortStep}
 use Rattle.node_core.specs.declared.types.PortStep.TheVariants as steps
 use Rattle.node_core.specs.State.{job_list, ports_of}
-use Rattle.world_core.specs.declared.events.WorldEvent.{WorldEvent}
+use Rattle.world_core.specs.declared.{events.WorldEvent.WorldEvent, events.WorldReply.WorldReply, events.WorldReply.TheVariants.Step, journal.NodeSteps.NodeSteps, journal.Tick.Tick}
 use Rattle.world_core.specs.declared.events.WorldEvent.TheVariants.{Request, Port, Lose, Repeat, Forge, Carry, Clock}
-use Rattle.world_core.specs.declared.events.WorldReply.{WorldReply}
-use Rattle.world_core.specs.declared.events.WorldReply.TheVariants.{Step}
-use Rattle.world_core.specs.declared.journal.NodeSteps.{NodeSteps}
-use Rattle.world_core.specs.declared.journal.Tick.{Tick}
-use Rattle.world_core.specs.World.{WorldState, node_at, world_after, replies_to}
-use Rattle.world_core.specs.Start.{world_of}
+use Rattle.world_core.specs.{World.WorldState, World.node_at, World.world_after, World.replies_to, Start.world_of}
 
 -- ---- what the scenario's events are in the network
 

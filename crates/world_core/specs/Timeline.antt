@@ -1,23 +1,14 @@
 -- The timeline of a run: what was in force at each port after the steps of each tick, as changes by port and tick.
 use Rattle.std.specs.Prelude.{◌≡◌, ℕ, ◌<◌, ◌≤◌, List, [], ◌∷◌, ◌++◌, length, map, take, Some, if◌then◌else◌, flat_map, slice_get, All, AllPairs}
-use Rattle.std.specs.Option.{option_map_or}
-use Rattle.std.specs.List.{range_with_len}
-use Rattle.srp_base.specs.declared.numbers.EgressPort.{EgressPort}
-use Rattle.srp_base.specs.declared.bandwidth.Class.TheVariants.{A, B}
-use Rattle.srp_base.specs.declared.ports.PortChange.{PortChange}
+use Rattle.std.specs.{Option.option_map_or, List.range_with_len}
+use Rattle.srp_base.specs.declared.{numbers.EgressPort.EgressPort, bandwidth.Class.TheVariants.A, bandwidth.Class.TheVariants.B, ports.PortChange.PortChange}
 use Rattle.tree_topology.specs.Topology.{Topology, HasPort}
-use Rattle.frame_flow.specs.Force.{changes_at, in_force}
-use Rattle.frame_flow.specs.Copies.{ports_at}
-use Rattle.frame_flow.specs.Given.{IsEarlier}
+use Rattle.frame_flow.specs.{Force.changes_at, Force.in_force, Copies.ports_at, Given.IsEarlier}
 use Rattle.topology_file.specs.Plan.{Plan}
 use Rattle.attribute_propagation.specs.Ports.{place_of}
 use Rattle.node_core.specs.State.{NodeState, of_part, bookings_at, slope_at}
 use Rattle.world_core.specs.declared.journal.Tick.{Tick}
-use Rattle.world_core.specs.World.{WorldState, node_at, world_after}
-use Rattle.world_core.specs.Start.{world_of}
-use Rattle.world_core.specs.Ticks.{after_steps}
-use Rattle.world_core.specs.Moments.{events_from}
-use Rattle.world_core.specs.Reservation.{Reservation, no_reservation, said_by, registered_vids, is_same, change_of}
+use Rattle.world_core.specs.{World.WorldState, World.node_at, World.world_after, Start.world_of, Ticks.after_steps, Moments.events_from, Reservation.Reservation, Reservation.no_reservation, Reservation.said_by, Reservation.registered_vids, Reservation.is_same, Reservation.change_of}
 
 -- ---- what is in force in a network
 

@@ -1,31 +1,16 @@
 -- A network as contracts see it, and one event of it: the network afterwards, and what it answers.
 use Rattle.std.specs.Prelude.{◌≡◌, ◌<◌, ◌≤◌, length, ◌^◌, ◌+◌, ◌-◌, ℕ, zero, suc, Bool, true, false, ◌&&◌, ◌||◌, nat_le, List, [], ◌∷◌, map, fold, Option, Some, None, option_map, slice_get, slice_set}
-use Rattle.std.specs.Option.{option_map_or}
-use Rattle.std.specs.List.{list_all}
-use Rattle.srp_base.specs.declared.numbers.NodeNo.{NodeNo}
-use Rattle.srp_base.specs.declared.numbers.EgressPort.{EgressPort}
-use Rattle.srp_base.specs.declared.mrp.App.{App}
-use Rattle.srp_base.specs.declared.mrp.App.TheVariants.{Mvrp, Msrp}
-use Rattle.tree_topology.specs.Topology.{Topology, HasPort}
-use Rattle.tree_topology.specs.Ports.{peer_of}
+use Rattle.std.specs.{Option.option_map_or, List.list_all}
+use Rattle.srp_base.specs.declared.{numbers.NodeNo.NodeNo, numbers.EgressPort.EgressPort, mrp.App.App, mrp.App.TheVariants.Mvrp, mrp.App.TheVariants.Msrp}
+use Rattle.tree_topology.specs.{Topology.Topology, Topology.HasPort, Ports.peer_of}
 use Rattle.tree_topology.specs.declared.graph.NodeKind.TheVariants.{Station}
 use Rattle.attribute_propagation.specs.Ports.{IsLinkPort, place_of}
-use Rattle.node_core.specs.declared.types.Wire.{Wire}
-use Rattle.node_core.specs.declared.types.NodeEvent.{NodeEvent}
+use Rattle.node_core.specs.declared.{types.Wire.Wire, types.NodeEvent.NodeEvent, types.PortStep.PortStep, types.PortStep.TheVariants.Work, types.PortStep.TheVariants.Send, types.StepReply.TheVariants.Sent}
 use Rattle.node_core.specs.declared.types.NodeEvent.TheVariants as node_events
 use Rattle.mrpdu_codec.specs.Octets.{AreOctets}
-use Rattle.node_core.specs.Wires.{IsShort}
-use Rattle.node_core.specs.declared.types.PortStep.{PortStep}
-use Rattle.node_core.specs.declared.types.PortStep.TheVariants.{Work, Send}
-use Rattle.node_core.specs.declared.types.StepReply.TheVariants.{Sent}
-use Rattle.node_core.specs.Leaving.{has_leave_all, is_leave_all_at}
-use Rattle.node_core.specs.State.{NodeState, ports_of, box_at, is_still_node, is_sound_at}
-use Rattle.node_core.specs.Step.{Stepped, node_step}
-use Rattle.node_core.specs.Proper.{AsksInRange}
-use Rattle.node_core.specs.Links.{with_outbox, with_carried, lost_at, repeated_at, forged_at, spoilt_at}
-use Rattle.world_core.specs.declared.events.WorldEvent.{WorldEvent}
+use Rattle.node_core.specs.{Wires.IsShort, Leaving.has_leave_all, Leaving.is_leave_all_at, State.NodeState, State.ports_of, State.box_at, State.is_still_node, State.is_sound_at, Step.Stepped, Step.node_step, Proper.AsksInRange, Links.with_outbox, Links.with_carried, Links.lost_at, Links.repeated_at, Links.forged_at, Links.spoilt_at}
+use Rattle.world_core.specs.declared.{events.WorldEvent.WorldEvent, events.WorldReply.WorldReply}
 use Rattle.world_core.specs.declared.events.WorldEvent.TheVariants.{Request, Port, Lose, Repeat, Forge, Carry, Clock}
-use Rattle.world_core.specs.declared.events.WorldReply.{WorldReply}
 use Rattle.world_core.specs.declared.events.WorldReply.TheVariants.{Step, Done, Missed}
 use Rattle.world_core.specs.Marks.{MarksState, mark_at, with_both, both_sent, both_took, both_lost, both_copied, both_forged}
 

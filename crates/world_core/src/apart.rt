@@ -2,8 +2,7 @@
 
 ghost use Rattle.std.specs.Prelude.{◌≡◌};
 ghost use Rattle.std.specs.List.{AllByRecursion};
-ghost use Rattle.node_core.specs.Holding.{states_in};
-ghost use Rattle.node_core.specs.Proper.{IsProperNode};
+ghost use Rattle.node_core.specs.{Holding.states_in, Proper.IsProperNode};
 ghost use Rattle.world_core.specs.Kept.{IsKeptWorld, IsWhole};
 ghost use Rattle.world_core.specs.World.{world_with};
 

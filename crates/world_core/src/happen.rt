@@ -1,16 +1,10 @@
 //! What one event does to the nodes of a network.
 
 ghost use Rattle.std.specs.Prelude.{◌≡◌, ◌<◌, ◌≤◌, ◌-◌, ◌^◌, [], true, map, length, slice_get, Some, IfOk, OnOk, OnErr, IfErr, if◌then◌else◌};
-ghost use Rattle.std.specs.Option.{option_map_or};
-ghost use Rattle.std.specs.List.{AllByRecursion};
-ghost use Rattle.tree_topology.specs.Topology.{Topology, HasPort};
-ghost use Rattle.tree_topology.specs.Ports.{peer_of};
+ghost use Rattle.std.specs.{Option.option_map_or, List.AllByRecursion};
+ghost use Rattle.tree_topology.specs.{Topology.Topology, Topology.HasPort, Ports.peer_of};
 ghost use Rattle.attribute_propagation.specs.Ports.{place_of};
-ghost use Rattle.node_core.specs.State.{NodeState, box_at};
-ghost use Rattle.node_core.specs.Holding.{states_in};
-ghost use Rattle.node_core.specs.Wires.{IsShort, AreShort};
-ghost use Rattle.node_core.specs.Step.{CanStep, node_step};
-ghost use Rattle.node_core.specs.Links.{with_outbox, with_carried, lost_at, repeated_at, forged_at, spoilt_at};
+ghost use Rattle.node_core.specs.{State.NodeState, State.box_at, Holding.states_in, Wires.IsShort, Wires.AreShort, Step.CanStep, Step.node_step, Links.with_outbox, Links.with_carried, Links.lost_at, Links.repeated_at, Links.forged_at, Links.spoilt_at};
 ghost use Rattle.world_core.specs.Marks.{MarksState};
 ghost use Rattle.world_core.specs.World.{StandsAt, nodes_with, step_of_node, app_of, reaches, with_unsound_ends, with_loss, after_repeat, with_forgery, world_step, world_with};
 

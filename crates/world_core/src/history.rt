@@ -2,11 +2,9 @@
 
 ghost use Rattle.std.specs.Prelude.{◌≡◌, ◌++◌, [], ℕ, List, length, map, option_map, IfOk, OnOk};
 ghost use Rattle.std.specs.List.{AllByRecursion, range_with_len};
-ghost use Rattle.srp_base.specs.declared.numbers.EgressPort.{EgressPort};
-ghost use Rattle.srp_base.specs.declared.ports.PortChange.{PortChange};
+ghost use Rattle.srp_base.specs.declared.{numbers.EgressPort.EgressPort, ports.PortChange.PortChange};
 ghost use Rattle.tree_topology.specs.Topology.{HasNode};
-ghost use Rattle.frame_flow.specs.Force.{changes_at, in_force};
-ghost use Rattle.frame_flow.specs.Copies.{port_of};
+ghost use Rattle.frame_flow.specs.{Force.changes_at, Force.in_force, Copies.port_of};
 ghost use Rattle.attribute_propagation.specs.Ports.{IsLinkPort, place_of};
 ghost use Rattle.node_core.specs.State.{ports_of};
 ghost use Rattle.world_core.specs.Timeline.{node_force, changes_noted, AreChanges};

@@ -2,21 +2,13 @@
 //! nothing; calling it brings the law to a proof.
 
 ghost use Rattle.std.specs.Prelude.{◌≡◌, ◌≢◌, ◌<◌, ◌-◌, ◌^◌, ◌++◌, ◌∷◌, [], ℕ, suc, List, map, take, drop, slice_get, Some, IfSome, false};
-ghost use Rattle.srp_base.specs.declared.numbers.NodeNo.{NodeNo};
-ghost use Rattle.srp_base.specs.declared.numbers.PortNo.{PortNo};
-ghost use Rattle.node_core.specs.declared.types.NodeStep.{NodeStep};
-ghost use Rattle.node_core.specs.declared.types.PortStep.{PortStep};
-ghost use Rattle.node_core.specs.Proper.{IsProperNode};
-ghost use Rattle.node_core.specs.State.{NodeState};
-ghost use Rattle.node_core.specs.Step.{node_step};
+ghost use Rattle.srp_base.specs.declared.{numbers.NodeNo.NodeNo, numbers.PortNo.PortNo};
+ghost use Rattle.node_core.specs.declared.{types.NodeStep.NodeStep, types.PortStep.PortStep, types.NodeEvent.TheVariants.Port as port_step};
+ghost use Rattle.node_core.specs.{Proper.IsProperNode, State.NodeState, Step.node_step};
 ghost use Rattle.std.specs.List.{AllByRecursion};
 ghost use Rattle.tree_topology.specs.Topology.{Topology, link_ports};
-ghost use Rattle.topology_file.specs.declared.entries.EventKind.{EventKind};
-ghost use Rattle.topology_file.specs.declared.entries.NodeEntry.{NodeEntry};
-ghost use Rattle.topology_file.specs.Kinds.{IsKnownKind};
-ghost use Rattle.topology_file.specs.Plan.{Plan};
-ghost use Rattle.topology_file.specs.Scenario.{KeepsRules};
-ghost use Rattle.node_core.specs.declared.types.NodeEvent.TheVariants.{Port as port_step};
+ghost use Rattle.topology_file.specs.declared.{entries.EventKind.EventKind, entries.NodeEntry.NodeEntry};
+ghost use Rattle.topology_file.specs.{Kinds.IsKnownKind, Plan.Plan, Scenario.KeepsRules};
 ghost use Rattle.world_core.specs.declared.events.WorldEvent.{WorldEvent};
 ghost use Rattle.world_core.specs.declared.events.WorldEvent.TheVariants.{Port as port_event};
 ghost use Rattle.world_core.specs.declared.events.WorldReply.TheVariants.{Step as step_reply};

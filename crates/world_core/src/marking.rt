@@ -6,15 +6,11 @@
 ghost use Rattle.srp_base.specs.declared.mrp.App.TheVariants.{Mvrp, Msrp};
 ghost use Rattle.std.specs.Prelude.{◌≡◌, ◌<◌, ◌≤◌, ◌^◌, ◌&&◌, false, length, slice_get, IfOk, IfSome, OnErr};
 ghost use Rattle.std.specs.Option.{option_map_or};
-ghost use Rattle.tree_topology.specs.Topology.{Topology, HasPort};
-ghost use Rattle.tree_topology.specs.Ports.{peer_of};
+ghost use Rattle.tree_topology.specs.{Topology.Topology, Topology.HasPort, Ports.peer_of};
 ghost use Rattle.attribute_propagation.specs.Ports.{IsLinkPort, place_of};
-ghost use Rattle.node_core.specs.Holding.{states_in};
-ghost use Rattle.node_core.specs.State.{NodeState, ports_of};
-ghost use Rattle.node_core.specs.Wires.{IsShort};
+ghost use Rattle.node_core.specs.{Holding.states_in, State.NodeState, State.ports_of, Wires.IsShort, Leaving.has_leave_all};
 ghost use Rattle.world_core.specs.declared.events.WorldReply.{WorldReply};
 ghost use Rattle.world_core.specs.Kept.{IsKeptWorld};
-ghost use Rattle.node_core.specs.Leaving.{has_leave_all};
 ghost use Rattle.world_core.specs.Marking.{marks_noted, is_done, CanNote};
 ghost use Rattle.world_core.specs.Marks.{MarksState, mark_at};
 ghost use Rattle.world_core.specs.World.{StandsAt, inbox, outbox, are_nodes_sound, are_ports_sound, is_sound_in, has_leave_all_next, marks_stepping, marks_losing, marks_copying, marks_forging, world_step, world_with};

@@ -1,8 +1,7 @@
 //! The marks of a network: where a neighbour's LeaveAll makes a port sound.
 
 ghost use Rattle.std.specs.Prelude.{◌≡◌, ◌<◌, ◌≤◌, ◌+◌, ◌-◌, ◌^◌, ◌++◌, length, drop, replicate, IfOk};
-ghost use Rattle.tree_topology.specs.Topology.{HasPort};
-ghost use Rattle.tree_topology.specs.Ports.{peer_of, neighbours};
+ghost use Rattle.tree_topology.specs.{Topology.HasPort, Ports.peer_of, Ports.neighbours};
 ghost use Rattle.attribute_propagation.specs.Ports.{place_of};
 ghost use Rattle.world_core.specs.Marks.{IsOfTree, both_at, with_two, no_mark, no_marks, of_app, with_app, rows_from, new_marks, end_in, mark_in, mark_at, row_with, ends_with, with_mark, with_both, both_sent, both_took, both_lost, both_copied, both_forged, after_saying, after_hearing_of, after_taking, with_fewer, with_more, without_mark};
 

@@ -1,8 +1,7 @@
 //! The scripted events of one tick: a part of a tick, for those who run a scenario tick by tick.
 
 ghost use Rattle.std.specs.Prelude.{◌≡◌, ◌++◌, suc, Some, map, option_map, IfSome, IfOk, OnOk};
-ghost use Rattle.tree_topology.specs.Graph.{Joined};
-ghost use Rattle.tree_topology.specs.Ports.{port_to};
+ghost use Rattle.tree_topology.specs.{Graph.Joined, Ports.port_to};
 ghost use Rattle.world_core.specs.Ticks.{event_of, script_at, after_script, stream_at, talker_of_entry};
 ghost use Rattle.world_core.specs.World.{CanHappen, replies_to};
 ghost use Rattle.world_core.specs.During.{IsDuring, NamesNeighbours};

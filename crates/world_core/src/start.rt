@@ -2,8 +2,7 @@
 
 ghost use Rattle.std.specs.Prelude.{◌≡◌, ◌≤◌, ◌++◌, length, IfOk};
 ghost use Rattle.tree_topology.specs.Graph.{IsNode};
-ghost use Rattle.node_core.specs.Holding.{states_in};
-ghost use Rattle.node_core.specs.State.{new_node};
+ghost use Rattle.node_core.specs.{Holding.states_in, State.new_node};
 ghost use Rattle.world_core.specs.Start.{domain_set, setup_of, end_setup, setups_from, nodes_from};
 
 use msrp::DomainSet;

@@ -3,12 +3,9 @@
 
 ghost use Rattle.std.specs.Prelude.{◌≡◌, ◌+◌, ◌<◌, ◌≤◌, [], ◌∷◌, ◌++◌, ℕ, suc, List, length};
 ghost use Rattle.srp_base.specs.declared.ports.PortChange.{PortChange};
-ghost use Rattle.tree_topology.specs.Topology.{Topology, HasNode};
-ghost use Rattle.tree_topology.specs.Ports.{neighbours};
-ghost use Rattle.topology_file.specs.Plan.{Plan};
-ghost use Rattle.topology_file.specs.Scenario.{KeepsRules};
-ghost use Rattle.node_core.specs.declared.types.NodeStep.{NodeStep};
-ghost use Rattle.node_core.specs.declared.types.PortStep.{PortStep};
+ghost use Rattle.tree_topology.specs.{Topology.Topology, Topology.HasNode, Ports.neighbours};
+ghost use Rattle.topology_file.specs.{Plan.Plan, Scenario.KeepsRules};
+ghost use Rattle.node_core.specs.declared.{types.NodeStep.NodeStep, types.PortStep.PortStep};
 ghost use Rattle.world_core.specs.declared.journal.NodeSteps.{NodeSteps};
 ghost use Rattle.world_core.specs.declared.journal.Tick.{Tick};
 ghost use Rattle.world_core.specs.World.{WorldState, world_after};

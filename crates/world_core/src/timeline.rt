@@ -4,9 +4,7 @@ ghost use Rattle.std.specs.Prelude.{◌≡◌, ◌≤◌, ◌<◌, ◌++◌, ℕ
 ghost use Rattle.std.specs.List.{AllWithin};
 ghost use Rattle.srp_base.specs.declared.ports.PortChange.{PortChange};
 ghost use Rattle.tree_topology.specs.Topology.{HasNode};
-ghost use Rattle.frame_flow.specs.Force.{changes_at, in_force};
-ghost use Rattle.frame_flow.specs.Copies.{ports_at};
-ghost use Rattle.frame_flow.specs.Given.{IsEarlier};
+ghost use Rattle.frame_flow.specs.{Force.changes_at, Force.in_force, Copies.ports_at, Given.IsEarlier};
 ghost use Rattle.attribute_propagation.specs.Ports.{IsLinkPort, place_of};
 ghost use Rattle.node_core.specs.State.{ports_of};
 ghost use Rattle.world_core.specs.Timeline.{node_force, force_at, lacking, tree_ports, with_notes, AreChanges};

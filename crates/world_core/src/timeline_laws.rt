@@ -2,14 +2,10 @@
 //! function that does nothing; calling it brings the law to a proof.
 
 ghost use Rattle.std.specs.Prelude.{◌≡◌, ◌<◌, ◌≤◌, ◌+◌, ◌++◌, ◌∷◌, [], ℕ, suc, false, List, length, map, All};
-ghost use Rattle.srp_base.specs.declared.numbers.EgressPort.{EgressPort};
-ghost use Rattle.srp_base.specs.declared.ports.PortChange.{PortChange};
+ghost use Rattle.srp_base.specs.declared.{numbers.EgressPort.EgressPort, ports.PortChange.PortChange};
 ghost use Rattle.tree_topology.specs.Topology.{Topology, HasPort};
-ghost use Rattle.frame_flow.specs.Force.{changes_at, in_force};
-ghost use Rattle.frame_flow.specs.Copies.{all_places};
-ghost use Rattle.frame_flow.specs.Given.{HasSlopesBelow};
-ghost use Rattle.topology_file.specs.Plan.{Plan};
-ghost use Rattle.topology_file.specs.Scenario.{KeepsRules};
+ghost use Rattle.frame_flow.specs.{Force.changes_at, Force.in_force, Copies.all_places, Given.HasSlopesBelow};
+ghost use Rattle.topology_file.specs.{Plan.Plan, Scenario.KeepsRules};
 ghost use Rattle.world_core.specs.declared.journal.NodeSteps.{NodeSteps};
 ghost use Rattle.world_core.specs.declared.journal.Tick.{Tick};
 ghost use Rattle.world_core.specs.World.{WorldState, world_after};

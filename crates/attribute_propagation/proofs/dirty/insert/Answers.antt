@@ -1,5 +1,5 @@
 use Rattle.std.proofs.Common.{rules, ◌≡◌}
-use Rattle.attribute_propagation.specs.Dirty.{with_key}
+use Rattle.attribute_propagation.specs.{with_key}
 use Rattle.attribute_propagation.proofs.DirtyLemmas.{ascending-marked}
 use Rattle.attribute_propagation.proofs.dirty.insert.Goals as goal
 

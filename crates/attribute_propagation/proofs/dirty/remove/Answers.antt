@@ -1,5 +1,5 @@
 use Rattle.std.proofs.Common.{rules, ◌≡◌}
-use Rattle.attribute_propagation.specs.Dirty.{without_key}
+use Rattle.attribute_propagation.specs.{without_key}
 use Rattle.attribute_propagation.proofs.DirtyLemmas.{ascending-cleared}
 use Rattle.attribute_propagation.proofs.dirty.remove.Goals as goal
 

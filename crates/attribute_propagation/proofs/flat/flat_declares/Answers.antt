@@ -1,5 +1,5 @@
 use Rattle.std.proofs.Common.{rules, ◌≡◌}
-use Rattle.attribute_propagation.specs.Flat.{elsewhere}
+use Rattle.attribute_propagation.specs.{elsewhere}
 use Rattle.attribute_propagation.proofs.FlatLemmas.{elsewhere_is}
 use Rattle.attribute_propagation.proofs.flat.flat_declares.Goals as goal
 

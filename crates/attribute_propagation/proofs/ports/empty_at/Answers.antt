@@ -1,8 +1,7 @@
 use Rattle.std.proofs.Common.{◌∙◌, ap}
 use Rattle.std.specs.Prelude.{slice_set}
 use Rattle.std.proofs.lemmas.List.{map-set}
-use Rattle.attribute_propagation.specs.Dirty.{KeySet}
-use Rattle.attribute_propagation.specs.Ports.{keys_in}
+use Rattle.attribute_propagation.specs.{KeySet, keys_in}
 use Rattle.attribute_propagation.proofs.ports.empty_at.Goals as goal
 
 pub returns : goal.returns

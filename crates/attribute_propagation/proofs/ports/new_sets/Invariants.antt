@@ -1,5 +1,5 @@
 use Rattle.std.proofs.Common.{◌≡◌, ◌++◌, drop}
-use Rattle.attribute_propagation.specs.Ports.{keys_in, new_sets}
+use Rattle.attribute_propagation.specs.{keys_in, new_sets}
 use Rattle.attribute_propagation.proofs.ports.new_sets.Given as goal
 
 -- the sets so far and those that are left are all

@@ -1,7 +1,7 @@
 use Rattle.std.proofs.Common.{◌∙◌, sym, length}
 use Rattle.std.specs.Prelude.{◌==◌}
 use Rattle.std.proofs.lemmas.List.Folds.{list_all-map}
-use Rattle.attribute_propagation.specs.Dirty.{KeySet}
+use Rattle.attribute_propagation.specs.{KeySet}
 use Rattle.attribute_propagation.proofs.ports.none_awaits.Goals as goal
 
 pub returns : goal.returns

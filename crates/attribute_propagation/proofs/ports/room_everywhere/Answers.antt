@@ -1,5 +1,5 @@
 use Rattle.std.proofs.Common.{◌≡◌, ◌<◌, ◌≤◌, ◌+◌, ℕ, List, length, get_or, sym, ap, subst, ◌∙◌, arith, rules}
-use Rattle.attribute_propagation.specs.Dirty.{KeySet}
+use Rattle.attribute_propagation.specs.{KeySet}
 use Rattle.attribute_propagation.proofs.InPlace.{HasRoomNow, all_hold, as_many, ask_nothing, keys_stay, none_yet, one_more, same_keys}
 use Rattle.attribute_propagation.proofs.ports.room_everywhere.Goals as goal
 

@@ -1,7 +1,7 @@
 use Rattle.std.proofs.Common.{◌∙◌, sym, length, not}
 use Rattle.std.specs.Prelude.{◌==◌}
-use Rattle.attribute_propagation.specs.Dirty.{KeySet}
-use Rattle.attribute_propagation.proofs.PortsLemmas.{list_any-map}
+use Rattle.srp_base.proofs.Lists.{list_any-map}
+use Rattle.attribute_propagation.specs.{KeySet}
 use Rattle.attribute_propagation.proofs.ports.some_awaits.Goals as goal
 
 pub returns : goal.returns

@@ -1,5 +1,5 @@
 use Rattle.std.proofs.Common.{◌≡◌, ◌<◌, ◌≤◌, ◌+◌, ℕ, List, length, get_or, sym, ap, subst, ◌∙◌, arith}
-use Rattle.attribute_propagation.specs.Dirty.{KeySet}
+use Rattle.attribute_propagation.specs.{KeySet}
 use Rattle.attribute_propagation.proofs.InPlace.{IsTold, as_many, next, none_yet, one_more, told_elsewhere}
 use Rattle.attribute_propagation.proofs.ports.tell_elsewhere.Goals as goal
 

@@ -1,5 +1,5 @@
 use Rattle.std.proofs.Common.{◌≡◌, ◌<◌, ◌≤◌, ◌+◌, ℕ, List, length, get_or, sym, ap, subst, ◌∙◌, arith}
-use Rattle.attribute_propagation.specs.Dirty.{KeySet}
+use Rattle.attribute_propagation.specs.{KeySet}
 use Rattle.attribute_propagation.proofs.InPlace.{IsToldToo, as_many, next, none_yet, one_more, room_left, told_everywhere}
 use Rattle.attribute_propagation.proofs.ports.tell_everywhere.Goals as goal
 

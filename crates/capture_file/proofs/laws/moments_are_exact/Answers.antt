@@ -1,4 +1,4 @@
-use Rattle.capture_file.specs.Settings.{per_second}
+use Rattle.capture_file.specs.{per_second}
 use Rattle.capture_file.proofs.MomentLemmas.{kept_ns}
 use Rattle.capture_file.proofs.laws.moments_are_exact.Goals as goal
 

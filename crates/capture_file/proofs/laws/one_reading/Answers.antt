@@ -1,7 +1,6 @@
 use Rattle.std.proofs.Common.{sym, ◌∙◌}
-use Rattle.capture_file.specs.Reading.{reading}
-use Rattle.capture_file.proofs.Holds.{reading_holds}
-use Rattle.capture_file.proofs.Spelled.{is_read}
+use Rattle.capture_file.specs.{reading}
+use Rattle.capture_file.proofs.{Holds.reading_holds, Spelled.is_read}
 use Rattle.capture_file.proofs.laws.one_reading.Goals as goal
 
 pub returns-clause-some : goal.returns-clause-some

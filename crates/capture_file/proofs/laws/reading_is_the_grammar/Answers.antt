@@ -1,7 +1,6 @@
 use Rattle.std.proofs.Common.{subst}
-use Rattle.capture_file.specs.Grammar.{Outcome, IsReading}
-use Rattle.capture_file.proofs.Holds.{reading_holds}
-use Rattle.capture_file.proofs.Spelled.{is_read}
+use Rattle.capture_file.specs.{Outcome, IsReading}
+use Rattle.capture_file.proofs.{Holds.reading_holds, Spelled.is_read}
 use Rattle.capture_file.proofs.laws.reading_is_the_grammar.Goals as goal
 
 pub returns : goal.returns

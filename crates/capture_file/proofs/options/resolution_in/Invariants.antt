@@ -1,5 +1,5 @@
 use Rattle.std.proofs.Common.{◌≡◌, length}
-use Rattle.capture_file.specs.Options.{resolution_in}
+use Rattle.capture_file.specs.{resolution_in}
 use Rattle.capture_file.proofs.options.resolution_in.Given as goal
 
 abbrev pub invariant-more : goal.invariant-more

@@ -1,8 +1,7 @@
 use Rattle.std.proofs.Common.{length}
-use Rattle.capture_file.proofs.WithinLemmas.{frames_small, records_small}
+use Rattle.capture_file.proofs.{WithinLemmas.frames_small, WithinLemmas.records_small, AnswerLemmas.placed_ok, AnswerLemmas.placed_err, AnswerLemmas.reads, AnswerLemmas.breaks, AnswerLemmas.no_capture, AnswerLemmas.other_link, AnswerLemmas.capture_read}
 use Rattle.std.proofs.lemmas.Result.{err_from_is_err_and}
-use Rattle.capture_file.specs.Packets.{packets_in}
-use Rattle.capture_file.proofs.AnswerLemmas.{placed_ok, placed_err, reads, breaks, no_capture, other_link, capture_read}
+use Rattle.capture_file.specs.{packets_in}
 use Rattle.capture_file.proofs.reading.read_capture.Goals as goal
 
 pub returns-in_err-records-clause-not_capture : goal.returns-in_err-records-clause-not_capture

@@ -1,8 +1,6 @@
 use Rattle.std.proofs.Common.{◌≡◌, length, sym, arith}
-use Rattle.std.proofs.lemmas.List.{length-drop, nil_from_length}
-use Rattle.std.proofs.lemmas.Result.{err_from_is_err_and}
-use Rattle.capture_file.specs.Packets.{packets_in}
-use Rattle.capture_file.specs.Reading.{meant_in}
+use Rattle.std.proofs.lemmas.{List.length-drop, List.nil_from_length, Result.err_from_is_err_and}
+use Rattle.capture_file.specs.{packets_in, meant_in}
 use Rattle.capture_file.proofs.PieceLoops.{begins, goes_on, stops, ends, fails}
 use Rattle.capture_file.proofs.reading.read_pieces.Goals as goal
 

@@ -1,6 +1,5 @@
 use Rattle.std.proofs.Common.{◌≡◌, length}
-use Rattle.capture_file.specs.Packets.{packets_in}
-use Rattle.capture_file.specs.Reading.{pieces_in}
+use Rattle.capture_file.specs.{packets_in, pieces_in}
 use Rattle.capture_file.proofs.PieceLoops.{with_front}
 use Rattle.capture_file.proofs.reading.read_pieces.Given as goal
 

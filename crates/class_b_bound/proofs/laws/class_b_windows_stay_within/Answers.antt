@@ -1,4 +1,4 @@
-use Rattle.class_b_bound.specs.Bound.{bound_of, tight_bound_of}
+use Rattle.class_b_bound.specs.{bound_of, tight_bound_of}
 use Rattle.class_b_bound.proofs.WindowLemmas.{window_within}
 use Rattle.class_b_bound.proofs.laws.class_b_windows_stay_within.Goals as goal
 

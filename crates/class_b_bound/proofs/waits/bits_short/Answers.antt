@@ -2,8 +2,7 @@
 use Rattle.std.proofs.Common.{◌≡◌, ◌∙◌, sym, ap, arith}
 use Rattle.std.specs.Prelude.{unsigned_abs, min, nat_le}
 use Rattle.std.specs.Int.{div_ceil, w128}
-use Rattle.std.proofs.lemmas.Int.{ints, to_z-of_z}
-use Rattle.std.proofs.lemmas.Grind.{div_ceil_times}
+use Rattle.std.proofs.lemmas.{Int.ints, Int.to_z-of_z, Grind.div_ceil_times}
 use Rattle.class_b_bound.proofs.PieceLemmas.{short_is}
 use Rattle.class_b_bound.proofs.waits.bits_short.Goals as goal
 

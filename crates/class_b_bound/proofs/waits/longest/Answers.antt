@@ -1,8 +1,7 @@
 -- The waits start with none, and go on from piece to piece.
 use Rattle.std.proofs.Common.{refl, arith}
-use Rattle.class_b_bound.specs.Walk.{IsWaits}
-use Rattle.class_b_bound.proofs.PieceLemmas.{waits_first, piece_at, short_at, pieces_on, tiles_end, worst_of}
-use Rattle.class_b_bound.proofs.WaitLemmas.{waited_most}
+use Rattle.class_b_bound.specs.{IsWaits}
+use Rattle.class_b_bound.proofs.{PieceLemmas.waits_first, PieceLemmas.piece_at, PieceLemmas.short_at, PieceLemmas.pieces_on, PieceLemmas.tiles_end, PieceLemmas.worst_of, WaitLemmas.waited_most}
 use Rattle.class_b_bound.proofs.waits.longest.Goals as goal
 
 pub loop-piece-init : goal.loop-piece-init

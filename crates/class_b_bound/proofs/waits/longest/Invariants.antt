@@ -1,7 +1,7 @@
 -- The waits up to a bit time, and the pieces that tile the rest.
 use Rattle.std.proofs.Common.{◌≤◌, drop}
 use Rattle.credit_shaper.specs.Pieces.{ArePieces}
-use Rattle.class_b_bound.specs.Walk.{IsWaits}
+use Rattle.class_b_bound.specs.{IsWaits}
 use Rattle.class_b_bound.proofs.waits.longest.Given as goal
 
 abbrev pub invariant-loop-piece : goal.invariant-loop-piece

@@ -1,6 +1,6 @@
 -- The longest wait is a wait, so both bounds hold of it.
 use Rattle.std.proofs.Common.{sym, subst}
-use Rattle.class_b_bound.specs.Waits.{IsLongestWait, worst_wait_of}
+use Rattle.class_b_bound.specs.{IsLongestWait, worst_wait_of}
 use Rattle.class_b_bound.proofs.waits.worst_wait.Goals as goal
 
 pub returns-clause-exact : goal.returns-clause-exact

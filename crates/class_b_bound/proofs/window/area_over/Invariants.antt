@@ -1,6 +1,6 @@
 -- The area up to here, and that of the rest of the slopes, are all.
 use Rattle.std.proofs.Common.{◌≡◌, ◌+◌, ◌*◌, ◌^◌, ◌≤◌, drop}
-use Rattle.class_b_bound.specs.Overlap.{area_over}
+use Rattle.class_b_bound.specs.{area_over}
 use Rattle.class_b_bound.proofs.window.area_over.Given as goal
 
 abbrev pub invariant-loop-change : goal.invariant-loop-change

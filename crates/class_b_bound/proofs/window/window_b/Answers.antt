@@ -1,11 +1,8 @@
 -- What the departures take and what the slopes give are those of the window's bit times.
 use Rattle.std.proofs.Common.{◌≡◌, refl, ◌∙◌, ap}
-use Rattle.credit_shaper.specs.declared.shaper.Traffic.TheVariants.{B}
-use Rattle.credit_shaper.specs.declared.port.PortInput.{PortInput}
-use Rattle.credit_shaper.specs.declared.port.Departures.{Departures}
+use Rattle.credit_shaper.specs.declared.{shaper.Traffic.TheVariants.B, port.PortInput.PortInput, port.Departures.Departures}
 use Rattle.credit_shaper.specs.Departures.{sent_of}
-use Rattle.class_b_bound.specs.Overlap.{bits_over, area_over}
-use Rattle.class_b_bound.specs.Window.{bits_b, area_b}
+use Rattle.class_b_bound.specs.{bits_over, area_over, bits_b, area_b}
 use Rattle.class_b_bound.proofs.WindowLemmas.{bits_of_window, area_of}
 use Rattle.class_b_bound.proofs.window.window_b.Goals as goal
 

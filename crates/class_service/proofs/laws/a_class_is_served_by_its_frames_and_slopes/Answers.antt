@@ -1,6 +1,6 @@
 use Rattle.std.proofs.Common.{arith}
 use Rattle.srp_base.specs.Bandwidth.{bits_of}
-use Rattle.class_service.specs.Range.{high_of, low_of}
+use Rattle.class_service.specs.{high_of, low_of}
 use Rattle.class_service.proofs.laws.a_class_is_served_by_its_frames_and_slopes.Goals as goal
 
 pub returns-clause-takes : goal.returns-clause-takes

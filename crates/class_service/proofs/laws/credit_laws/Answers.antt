@@ -1,13 +1,10 @@
 use Rattle.std.proofs.Common.{◌≡◌, ℕ, suc, refl}
 use Rattle.std.specs.Prelude.{pos}
 use Rattle.srp_base.specs.Bandwidth.{bits_of}
-use Rattle.credit_shaper.specs.declared.shaper.Traffic.{Traffic}
+use Rattle.credit_shaper.specs.declared.{shaper.Traffic.Traffic, port.PortInput.PortInput}
 use Rattle.credit_shaper.specs.declared.shaper.Traffic.TheVariants.{A, B, Other}
-use Rattle.credit_shaper.specs.declared.port.PortInput.{PortInput}
-use Rattle.credit_shaper.specs.Credit.{credit_after}
-use Rattle.credit_shaper.specs.Bounds.{is_on_line}
-use Rattle.credit_shaper.specs.Steps.{is_waiting}
-use Rattle.class_service.specs.Class.{IsClass, credit_at, slope_at}
+use Rattle.credit_shaper.specs.{Credit.credit_after, Bounds.is_on_line, Steps.is_waiting}
+use Rattle.class_service.specs.{IsClass, credit_at, slope_at}
 use Rattle.class_service.proofs.laws.credit_laws.Goals as goal
 
 pub returns : goal.returns

@@ -6,8 +6,7 @@ use Rattle.class_service.proofs.service.service_in.Goals as goal
 
 pub returns-clause-busy : goal.returns-clause-busy
 returns-clause-busy c =
-    let same = ap (λ (s : Service). s.is_busy) c.service_over.ensures in
-    (
+    let same = ap (λ (s : Service). s.is_busy) c.service_over.ensures in (
       λ busy. all_busy c.args.input.now c.args.class c.args.from c.args.to (sym same ∙ busy),
       λ busy. same ∙ busy_all c.args.input.now c.args.class c.args.from c.args.to busy,
     )

@@ -1,5 +1,4 @@
-use Rattle.credit_shaper.proofs.StepLemmas.{waits_for_one}
-use Rattle.credit_shaper.proofs.WindowLemmas.{wait_at_most}
+use Rattle.credit_shaper.proofs.{StepLemmas.waits_for_one, WindowLemmas.wait_at_most}
 use Rattle.credit_shaper.proofs.laws.class_a_frames_wait_at_most.Goals as goal
 
 pub returns-clause-with_credit : goal.returns-clause-with_credit

@@ -1,7 +1,6 @@
 use Rattle.std.proofs.Common.{◌+◌, arith}
-use Rattle.credit_shaper.specs.Bounds.{greatest_slope_a}
-use Rattle.credit_shaper.proofs.BoundLemmas.{credit_within}
-use Rattle.credit_shaper.proofs.WindowLemmas.{window_within, whole_run}
+use Rattle.credit_shaper.specs.{greatest_slope_a}
+use Rattle.credit_shaper.proofs.{BoundLemmas.credit_within, WindowLemmas.window_within, WindowLemmas.whole_run}
 use Rattle.credit_shaper.proofs.laws.class_a_stays_within_in_every_run.Goals as goal
 
 pub returns-clause-credit : goal.returns-clause-credit

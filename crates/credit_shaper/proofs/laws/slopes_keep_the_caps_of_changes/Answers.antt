@@ -1,5 +1,4 @@
-use Rattle.credit_shaper.proofs.PortLemmas.{slope_a_below, slope_b_below}
-use Rattle.credit_shaper.proofs.StepLemmas.{slopes_within}
+use Rattle.credit_shaper.proofs.{PortLemmas.slope_a_below, PortLemmas.slope_b_below, StepLemmas.slopes_within}
 use Rattle.credit_shaper.proofs.laws.slopes_keep_the_caps_of_changes.Goals as goal
 
 pub returns-clause-caps : goal.returns-clause-caps

@@ -1,6 +1,6 @@
 -- From the first that is later on all are.
 use Rattle.std.proofs.Common.{◌+◌, ◌<◌, length, arith}
-use Rattle.credit_shaper.specs.Walk.{arrival_bit}
+use Rattle.credit_shaper.specs.{arrival_bit}
 use Rattle.credit_shaper.proofs.MomentLemmas.{in_order_arrivals, all_later, blank}
 use Rattle.credit_shaper.proofs.moments.arrived_by.Goals as goal
 

@@ -1,7 +1,6 @@
 -- From the first that is later on all are.
 use Rattle.std.proofs.Common.{◌+◌, ◌<◌, length, arith}
-use Rattle.credit_shaper.specs.Port.{no_slopes}
-use Rattle.credit_shaper.specs.Walk.{change_bit}
+use Rattle.credit_shaper.specs.{no_slopes, change_bit}
 use Rattle.credit_shaper.proofs.MomentLemmas.{in_order_changes, all_later}
 use Rattle.credit_shaper.proofs.moments.changed_by.Goals as goal
 

@@ -1,7 +1,6 @@
 -- The change in force is the last of those that have come.
 use Rattle.std.proofs.Common.{◌≡◌, ℕ, suc, ◌-◌, ◌<◌, take, length, sym, ◌∙◌, ap, arith}
-use Rattle.credit_shaper.specs.Port.{no_slopes}
-use Rattle.credit_shaper.specs.Walk.{newest}
+use Rattle.credit_shaper.specs.{no_slopes, newest}
 use Rattle.credit_shaper.proofs.MomentLemmas.{newest-take}
 use Rattle.credit_shaper.proofs.moments.newest.Goals as goal
 

@@ -1,7 +1,7 @@
 -- From the next one on all are at its bit time or later.
 use Rattle.std.proofs.Common.{◌<◌, length, arith, sym, ap}
 use Rattle.std.proofs.lemmas.Bool.{ltb-true}
-use Rattle.credit_shaper.specs.Walk.{arrival_bit}
+use Rattle.credit_shaper.specs.{arrival_bit}
 use Rattle.credit_shaper.proofs.MomentLemmas.{in_order_arrivals, all_later}
 use Rattle.credit_shaper.proofs.moments.next_arrival.Goals as goal
 

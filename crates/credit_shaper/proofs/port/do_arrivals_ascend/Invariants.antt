@@ -1,5 +1,5 @@
 -- What the loop has passed is in order.
-use Rattle.credit_shaper.specs.Port.{IsNotAfter}
+use Rattle.credit_shaper.specs.{IsNotAfter}
 use Rattle.std.specs.List.{AllAdjacentBelow}
 use Rattle.credit_shaper.proofs.port.do_arrivals_ascend.Given as goal
 

@@ -1,7 +1,7 @@
 -- What the loop has passed is of other traffic.
 use Rattle.std.proofs.Common.{◌≡◌, false}
 use Rattle.std.specs.List.{AllWithin}
-use Rattle.credit_shaper.specs.Port.{is_of}
+use Rattle.credit_shaper.specs.{is_of}
 use Rattle.credit_shaper.proofs.queues.first_of.Given as goal
 
 abbrev pub invariant-loop-i : goal.invariant-loop-i

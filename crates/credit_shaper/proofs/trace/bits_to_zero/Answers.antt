@@ -2,8 +2,7 @@
 use Rattle.std.proofs.Common.{◌≡◌, ◌+◌, ◌*◌, ◌<◌, ◌∙◌, ap, arith}
 use Rattle.std.specs.Prelude.{unsigned_abs, pos, ◌<ℤ◌}
 use Rattle.std.specs.Int.{div_ceil, w128}
-use Rattle.std.proofs.lemmas.Int.{to_z-of_z}
-use Rattle.std.proofs.lemmas.Grind.{div_ceil_times}
+use Rattle.std.proofs.lemmas.{Int.to_z-of_z, Grind.div_ceil_times}
 use Rattle.credit_shaper.proofs.CreditLemmas.{short_before}
 use Rattle.credit_shaper.proofs.trace.bits_to_zero.Goals as goal
 

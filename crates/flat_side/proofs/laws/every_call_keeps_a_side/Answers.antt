@@ -1,10 +1,9 @@
 use Rattle.std.proofs.Common.{false, refl}
 use Rattle.std.specs.Prelude.{slice_get}
 use Rattle.mrp_participant.specs.State.{due_state, left_keys, left_state, leave_all_state, periodic_state, sent_state}
-use Rattle.flat_side.specs.Part.{Part, said_events, received_part, told_by_receipt}
-use Rattle.flat_side.specs.Side.{with_told_part, with_part_at, left_key}
-use Rattle.flat_side.proofs.Keeping.{KeyLaws, kept-at, kept-replaced, kept-retold, leaving_told, rows-at, request-keeps}
-use Rattle.flat_side.proofs.SettlingLemmas.{Laws, settle-keeps}
+use Rattle.flat_side.specs.Part.{Part}
+use Rattle.flat_side.specs.{said_events, received_part, told_by_receipt, with_told_part, with_part_at, left_key}
+use Rattle.flat_side.proofs.{Keeping.KeyLaws, Keeping.kept-at, Keeping.kept-replaced, Keeping.kept-retold, Keeping.leaving_told, Keeping.rows-at, Keeping.request-keeps, SettlingLemmas.Laws, SettlingLemmas.settle-keeps}
 use Rattle.flat_side.proofs.laws.every_call_keeps_a_side.Goals as goal
 
 pub returns-clause-receive : goal.returns-clause-receive

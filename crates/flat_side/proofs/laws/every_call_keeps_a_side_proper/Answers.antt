@@ -1,15 +1,11 @@
 use Rattle.std.proofs.Common.{◌≡◌, ℕ, false, refl}
 use Rattle.std.specs.Prelude.{slice_get, Some, if◌then◌else◌, map}
 use Rattle.std.specs.declared.cmp.Ordering.{Ordering}
-use Rattle.mrp_participant.specs.Lookup.{key_of}
-use Rattle.mrp_participant.specs.Row.{after_leave_due, periodic_row}
-use Rattle.mrp_participant.specs.State.{AreRows, after, is_periodic_due, row_sent, due_state, left_keys, left_state, leave_all_state, periodic_state, sent_state}
-use Rattle.flat_side.specs.Part.{Part, said_events, received_part, told_by_receipt}
-use Rattle.flat_side.specs.Side.{FlatState, with_told_part, with_part_at, left_key}
-use Rattle.flat_side.specs.Keys.{HasKeyRows, IsProper}
-use Rattle.flat_side.proofs.Places.{each-get}
-use Rattle.flat_side.proofs.Keeping.{KeyLaws, leaving_told}
-use Rattle.flat_side.proofs.KeyLemmas.{proper-at, proper-retold, proper-replaced, rows-received, rows-both, rows-mapped, rows-filtered, rows-left, left-alone, told-alone}
+use Rattle.srp_base.proofs.Lists.{each-get}
+use Rattle.mrp_participant.specs.{Lookup.key_of, Row.after_leave_due, Row.periodic_row, State.AreRows, State.after, State.is_periodic_due, State.row_sent, State.due_state, State.left_keys, State.left_state, State.leave_all_state, State.periodic_state, State.sent_state}
+use Rattle.flat_side.specs.Part.{Part}
+use Rattle.flat_side.specs.{said_events, received_part, told_by_receipt, FlatState, with_told_part, with_part_at, left_key, HasKeyRows, IsProper}
+use Rattle.flat_side.proofs.{Keeping.KeyLaws, Keeping.leaving_told, KeyLemmas.proper-at, KeyLemmas.proper-retold, KeyLemmas.proper-replaced, KeyLemmas.rows-received, KeyLemmas.rows-both, KeyLemmas.rows-mapped, KeyLemmas.rows-filtered, KeyLemmas.rows-left, KeyLemmas.left-alone, KeyLemmas.told-alone}
 use Rattle.flat_side.proofs.laws.every_call_keeps_a_side_proper.Goals as goal
 
 rows_at : {K : Type 0} (cmp : K → K → Ordering) (IsKey : K → Type 0) (side : FlatState K) (at : ℕ) (s : Part K) → IsProper cmp IsKey side → slice_get side.parts at ≡ Some s → AreRows cmp s.rows

@@ -1,5 +1,4 @@
-use Rattle.flat_side.proofs.SettlingLemmas.{Laws}
-use Rattle.flat_side.proofs.ProperLemmas.{Changes, proper-settled, proper-requested}
+use Rattle.flat_side.proofs.{SettlingLemmas.Laws, ProperLemmas.Changes, ProperLemmas.proper-settled, ProperLemmas.proper-requested}
 use Rattle.flat_side.proofs.laws.settling_and_requests_keep_a_side_proper.Goals as goal
 
 pub returns-clause-settle : goal.returns-clause-settle

@@ -1,6 +1,5 @@
 use Rattle.mrp_participant.specs.State.{is_active, event_sent, sent_events}
-use Rattle.flat_side.proofs.SendingLemmas.{fitting}
-use Rattle.flat_side.proofs.ProperLemmas.{events-keys}
+use Rattle.flat_side.proofs.{SendingLemmas.fitting, ProperLemmas.events-keys}
 use Rattle.flat_side.proofs.laws.what_is_sent_can_be_written.Goals as goal
 
 pub returns-clause-fitting : goal.returns-clause-fitting

@@ -1,7 +1,7 @@
 use Rattle.std.proofs.Common.{◌≡◌, ◌∙◌}
+use Rattle.srp_base.proofs.Options.{some_is}
 use Rattle.mrp_participant.specs.State.{due_count, due_state, left_keys}
 use Rattle.attribute_propagation.specs.Ports.{count_of}
-use Rattle.flat_side.proofs.Places.{some_is}
 use Rattle.flat_side.proofs.Changing.{part_is, state_is, told_is}
 use Rattle.flat_side.proofs.port.fire_at.Goals as goal
 

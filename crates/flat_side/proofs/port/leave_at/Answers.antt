@@ -1,9 +1,7 @@
 use Rattle.std.proofs.Common.{◌≡◌}
-use Rattle.mrp_participant.specs.Lookup.{find}
-use Rattle.mrp_participant.specs.Row.{is_leaving_in}
-use Rattle.mrp_participant.specs.State.{left_state}
-use Rattle.flat_side.specs.Side.{left_key}
-use Rattle.flat_side.proofs.Places.{opened, some_is}
+use Rattle.srp_base.proofs.Options.{opened, some_is}
+use Rattle.mrp_participant.specs.{Lookup.find, Row.is_leaving_in, State.left_state}
+use Rattle.flat_side.specs.{left_key}
 use Rattle.flat_side.proofs.Changing.{part_is, state_is, told_is}
 use Rattle.flat_side.proofs.port.leave_at.Goals as goal
 

@@ -1,9 +1,10 @@
 use Rattle.std.proofs.Common.{◌≡◌, ◌≤◌, ◌∙◌, length, List, ap, sym, subst}
+use Rattle.srp_base.proofs.{Lists.each-get, Arithmetic.on_err}
 use Rattle.mrp_participant.specs.State.{AreRows, changed_keys, received_state}
 use Rattle.attribute_propagation.specs.Ports.{marked_elsewhere}
-use Rattle.flat_side.specs.Part.{Part, same_content}
-use Rattle.flat_side.proofs.Places.{each-get}
-use Rattle.flat_side.proofs.Changing.{fewer, on_err, part_is, same_states, state_is, told_is}
+use Rattle.flat_side.specs.Part.{Part}
+use Rattle.flat_side.specs.{same_content}
+use Rattle.flat_side.proofs.Changing.{fewer, part_is, same_states, state_is, told_is}
 use Rattle.flat_side.proofs.port.receive_at.Given as given
 use Rattle.flat_side.proofs.port.receive_at.Goals as goal
 

@@ -1,8 +1,8 @@
 use Rattle.std.proofs.Common.{◌≡◌, ◌≤◌, ◌∙◌, length, List, ap, sym, subst}
-use Rattle.attribute_propagation.specs.Dirty.{KeySet}
-use Rattle.attribute_propagation.specs.Ports.{HasRoom, keys_at, keys_in, keys_or_none}
-use Rattle.flat_side.specs.Holding.{HasPortRoom}
-use Rattle.flat_side.proofs.Changing.{on_ok, same_states, set_holds}
+use Rattle.srp_base.proofs.Arithmetic.{on_ok}
+use Rattle.attribute_propagation.specs.{Dirty.KeySet, Ports.HasRoom, Ports.keys_at, Ports.keys_in, Ports.keys_or_none}
+use Rattle.flat_side.specs.{HasPortRoom}
+use Rattle.flat_side.proofs.Changing.{same_states, set_holds}
 use Rattle.flat_side.proofs.port.room_at.Goals as goal
 
 pub returns-in_err-rows-clause-parts : goal.returns-in_err-rows-clause-parts

@@ -1,7 +1,6 @@
 use Rattle.std.proofs.Common.{◌∙◌, ap, sym, List}
-use Rattle.attribute_propagation.specs.Dirty.{KeySet}
-use Rattle.attribute_propagation.specs.Ports.{keys_at, keys_in, keys_or_none}
-use Rattle.flat_side.specs.Holding.{flat_of}
+use Rattle.attribute_propagation.specs.{Dirty.KeySet, Ports.keys_at, Ports.keys_in, Ports.keys_or_none}
+use Rattle.flat_side.specs.{flat_of}
 use Rattle.flat_side.proofs.Changing.{some_state, settled_is}
 use Rattle.flat_side.proofs.settling.settle_at.Goals as goal
 

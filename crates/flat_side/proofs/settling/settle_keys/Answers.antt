@@ -1,9 +1,9 @@
 use Rattle.std.proofs.Common.{◌≡◌, ◌≤◌, ◌<◌, ◌+◌, ◌∙◌, [], length, drop, List, ap, sym, refl, arith}
 use Rattle.std.specs.Prelude.{slice_set}
 use Rattle.std.proofs.Math.ListN.{length-set}
-use Rattle.flat_side.specs.Side.{parts_settled, rule_at}
-use Rattle.flat_side.specs.Holding.{PartHolding, parts_in}
-use Rattle.flat_side.proofs.Changing.{drop_more, drop_none, holds_at, one_less, part_is, settle_more, settle_none, state_is, states-set}
+use Rattle.srp_base.proofs.Lists.{drop_none}
+use Rattle.flat_side.specs.{parts_settled, rule_at, PartHolding, parts_in}
+use Rattle.flat_side.proofs.Changing.{drop_more, holds_at, one_less, part_is, settle_more, settle_none, state_is, states-set}
 use Rattle.flat_side.proofs.settling.settle_keys.Goals as goal
 
 pub loop-key-init : goal.loop-key-init

@@ -1,7 +1,6 @@
 use Rattle.std.proofs.Common.{◌≡◌, ◌≤◌, length, drop}
 use Rattle.std.specs.Prelude.{slice_get, IfSome}
-use Rattle.flat_side.specs.Side.{parts_settled}
-use Rattle.flat_side.specs.Holding.{parts_in}
+use Rattle.flat_side.specs.{parts_settled, parts_in}
 use Rattle.flat_side.proofs.settling.settle_keys.Given as goal
 
 -- with the keys that are left settled too, all are; and there is room for those that are left

@@ -1,7 +1,7 @@
 use Rattle.std.proofs.Common.{◌∙◌, sym}
+use Rattle.srp_base.proofs.Lists.{list_any-map}
 use Rattle.mrp_participant.specs.State.{is_any_due}
-use Rattle.flat_side.proofs.Changing.{list_any-map}
-use Rattle.flat_side.specs.Holding.{PartHolding}
+use Rattle.flat_side.specs.{PartHolding}
 use Rattle.flat_side.proofs.side.any_due.Goals as goal
 
 pub returns : goal.returns

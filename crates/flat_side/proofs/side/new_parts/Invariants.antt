@@ -1,6 +1,6 @@
 use Rattle.std.proofs.Common.{◌≡◌, ◌++◌, map, drop}
 use Rattle.mrp_participant.specs.State.{new_state}
-use Rattle.flat_side.specs.Holding.{parts_in}
+use Rattle.flat_side.specs.{parts_in}
 use Rattle.flat_side.proofs.side.new_parts.Given as goal
 
 -- the participants so far and those that are left are all

@@ -1,5 +1,5 @@
 use Rattle.std.proofs.Common.{take}
-use Rattle.frame_flow.specs.Steps.{AreByNode}
+use Rattle.frame_flow.specs.{AreByNode}
 use Rattle.frame_flow.proofs.by_node.add_frames.Given as goal
 
 abbrev pub invariant-loop-f : goal.invariant-loop-f

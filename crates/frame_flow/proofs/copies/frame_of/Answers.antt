@@ -1,4 +1,4 @@
-use Rattle.frame_flow.specs.declared.frame.Frame.{Frame}
+use Rattle.frame_flow.specs.{Frame}
 use Rattle.frame_flow.proofs.NumberLemmas.{rises}
 use Rattle.frame_flow.proofs.copies.frame_of.Goals as goal
 

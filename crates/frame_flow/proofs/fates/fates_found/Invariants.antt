@@ -1,5 +1,5 @@
 use Rattle.std.proofs.Common.{◌≡◌, take}
-use Rattle.frame_flow.specs.Steps.{fates_by}
+use Rattle.frame_flow.specs.{fates_by}
 use Rattle.frame_flow.proofs.fates.fates_found.Given as goal
 
 abbrev pub invariant-loop-number : goal.invariant-loop-number

@@ -1,7 +1,7 @@
 use Rattle.std.proofs.Common.{◌∙◌, List, ap, map, Bor}
 use Rattle.credit_shaper.specs.declared.port.Departures.{Departures}
 use Rattle.srp_base.specs.declared.ports.PortChange.{PortChange}
-use Rattle.frame_flow.specs.Steps.{fates_by}
+use Rattle.frame_flow.specs.{fates_by}
 use Rattle.frame_flow.proofs.FateLemmas.{flow-is}
 use Rattle.frame_flow.proofs.fates.flow_of_copies.Goals as goal
 

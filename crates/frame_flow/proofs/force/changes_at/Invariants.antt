@@ -1,6 +1,6 @@
 use Rattle.std.proofs.Common.{◌≡◌, map, take}
 use Rattle.std.specs.Prelude.{filter}
-use Rattle.frame_flow.specs.Force.{is_port}
+use Rattle.frame_flow.specs.{is_port}
 use Rattle.frame_flow.proofs.force.changes_at.Given as goal
 
 abbrev pub invariant-loop-c : goal.invariant-loop-c

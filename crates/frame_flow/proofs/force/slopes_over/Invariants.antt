@@ -1,5 +1,5 @@
 use Rattle.std.proofs.Common.{◌≡◌, ◌++◌, map, drop}
-use Rattle.frame_flow.specs.Force.{later_slopes, slopes_over}
+use Rattle.frame_flow.specs.{later_slopes, slopes_over}
 use Rattle.frame_flow.proofs.force.slopes_over.Given as goal
 
 abbrev pub invariant-loop-c : goal.invariant-loop-c

@@ -1,7 +1,6 @@
 use Rattle.std.proofs.Common.{ℕ, ◌≤◌}
 use Rattle.std.proofs.lemmas.List.Elements.{All-weaker}
-use Rattle.credit_shaper.specs.Port.{IsPortInput}
-use Rattle.credit_shaper.specs.Bounds.{greatest_slope_a, IsWindowAWithin}
+use Rattle.credit_shaper.specs.{Port.IsPortInput, Bounds.greatest_slope_a, Bounds.IsWindowAWithin}
 use Rattle.frame_flow.proofs.LawLemmas.{inputs_valid}
 use Rattle.frame_flow.proofs.laws.class_a_windows_stay_within.Goals as goal
 

@@ -1,5 +1,4 @@
-use Rattle.frame_flow.specs.Copies.{arriving}
-use Rattle.frame_flow.specs.Laws.{coming}
+use Rattle.frame_flow.specs.{arriving, coming}
 use Rattle.frame_flow.proofs.OrderLemmas.{order-in_order, same-in_order}
 use Rattle.frame_flow.proofs.laws.copies_arrive_in_order.Goals as goal
 

@@ -1,6 +1,6 @@
 use Rattle.std.proofs.lemmas.List.Elements.{All-weaker}
 use Rattle.credit_shaper.specs.Port.{IsPortInput}
-use Rattle.frame_flow.specs.Laws.{DepartsByArrival}
+use Rattle.frame_flow.specs.{DepartsByArrival}
 use Rattle.frame_flow.proofs.LawLemmas.{inputs_valid}
 use Rattle.frame_flow.proofs.laws.copies_depart_in_order.Goals as goal
 

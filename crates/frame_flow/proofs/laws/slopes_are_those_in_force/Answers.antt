@@ -1,6 +1,5 @@
-use Rattle.frame_flow.specs.Force.{changes_at}
-use Rattle.frame_flow.proofs.SlopeLemmas.{changes-ascend}
-use Rattle.frame_flow.proofs.ForceLemmas.{slopes-in-force}
+use Rattle.frame_flow.specs.{changes_at}
+use Rattle.frame_flow.proofs.{SlopeLemmas.changes-ascend, ForceLemmas.slopes-in-force}
 use Rattle.frame_flow.proofs.laws.slopes_are_those_in_force.Goals as goal
 
 pub returns : goal.returns

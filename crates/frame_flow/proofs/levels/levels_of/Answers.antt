@@ -1,4 +1,4 @@
-use Rattle.frame_flow.specs.Levels.{level_of}
+use Rattle.frame_flow.specs.{level_of}
 use Rattle.frame_flow.proofs.ListFacts.{pushed-map}
 use Rattle.frame_flow.proofs.levels.levels_of.Goals as goal
 

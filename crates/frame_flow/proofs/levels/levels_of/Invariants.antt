@@ -1,5 +1,5 @@
 use Rattle.std.proofs.Common.{◌≡◌, map, take}
-use Rattle.frame_flow.specs.Levels.{level_of}
+use Rattle.frame_flow.specs.{level_of}
 use Rattle.frame_flow.proofs.levels.levels_of.Given as goal
 
 abbrev pub invariant-loop-place : goal.invariant-loop-place

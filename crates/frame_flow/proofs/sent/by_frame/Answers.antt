@@ -1,10 +1,8 @@
 use Rattle.std.proofs.Common.{ℕ, List, rules, ap, ◌∙◌}
 use Rattle.std.proofs.lemmas.List.Sorted.{IsNonDecreasingBy-from_sort_by_key, answers_always}
-use Rattle.credit_shaper.specs.declared.port.Departure.{Departure}
-use Rattle.credit_shaper.specs.declared.shaper.Traffic.TheVariants.{Other}
-use Rattle.frame_flow.specs.Steps.{fates_by}
-use Rattle.frame_flow.proofs.NumberLemmas.{found-sorted}
-use Rattle.frame_flow.proofs.FateLemmas.{fates-found}
+use Rattle.credit_shaper.specs.declared.{port.Departure.Departure, shaper.Traffic.TheVariants.Other}
+use Rattle.frame_flow.specs.{fates_by}
+use Rattle.frame_flow.proofs.{NumberLemmas.found-sorted, FateLemmas.fates-found}
 use Rattle.frame_flow.proofs.sent.by_frame.Goals as goal
 
 pub returns-clause-order : goal.returns-clause-order

@@ -1,12 +1,10 @@
 use Rattle.std.proofs.Common.{◌≡◌, ◌∙◌, ◌-◌, ◌<◌, ℕ, List, drop, Option, Some, None, cond, get_or, length, sym, ap, arith}
 use Rattle.std.specs.Prelude.{find, ◌==◌}
-use Rattle.credit_shaper.specs.declared.port.Departure.{Departure}
+use Rattle.credit_shaper.specs.declared.{port.Departure.Departure, shaper.Traffic.TheVariants.Other}
 use Rattle.std.proofs.Math.ListN.{drop_of_length-le}
 use Rattle.std.proofs.lemmas.List.{get_or_default}
-use Rattle.credit_shaper.specs.declared.shaper.Traffic.TheVariants.{Other}
-use Rattle.frame_flow.specs.Steps.{sent_at}
-use Rattle.frame_flow.proofs.ListFacts.{find-drop-more}
-use Rattle.frame_flow.proofs.FateLemmas.{no-places, more-places}
+use Rattle.frame_flow.specs.{sent_at}
+use Rattle.frame_flow.proofs.{ListFacts.find-drop-more, FateLemmas.no-places, FateLemmas.more-places}
 use Rattle.frame_flow.proofs.sent.places_of.Goals as goal
 
 pub loop-i-init : goal.loop-i-init

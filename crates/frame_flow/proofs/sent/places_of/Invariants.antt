@@ -1,6 +1,6 @@
 use Rattle.std.proofs.Common.{◌≡◌, ℕ, ◌-◌, drop, length}
 use Rattle.std.specs.Prelude.{find, ◌==◌}
-use Rattle.frame_flow.specs.Steps.{sent_at}
+use Rattle.frame_flow.specs.{sent_at}
 use Rattle.frame_flow.proofs.sent.places_of.Given as goal
 
 -- of the departures gone over so far, from the last on, each is found by its place

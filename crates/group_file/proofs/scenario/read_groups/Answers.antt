@@ -2,8 +2,7 @@ use Rattle.std.proofs.Common.{◌≡◌, Ok, List, map, ap, sym, ◌∙◌}
 use Rattle.toml.specs.View.{table_view}
 use Rattle.topology_file.specs.Names.{Named}
 use Rattle.topology_file.proofs.Chains.{ok-says}
-use Rattle.group_file.specs.declared.entries.GroupEntry.{GroupEntry}
-use Rattle.group_file.specs.Scenario.{groups_of}
+use Rattle.group_file.specs.{GroupEntry, groups_of}
 use Rattle.group_file.proofs.EventsKept.{GroupsKeep, NamesAreKnown, groups-keep}
 use Rattle.group_file.proofs.scenario.read_groups.Goals as goal
 

@@ -1,7 +1,5 @@
 use Rattle.std.proofs.Common.{◌≡◌}
-use Rattle.group_run.specs.Allowed.{IsInTick}
-use Rattle.group_run.specs.Cursor.{IsCursor}
-use Rattle.group_run.specs.Ticks.{after_ticks}
+use Rattle.group_run.specs.{IsInTick, IsCursor, after_ticks}
 use Rattle.group_run.proofs.run.run_groups.Given as goal
 
 -- the ticks so far, and the next one begins with its events

@@ -1,10 +1,8 @@
 use Rattle.std.proofs.Common.{◌≡◌, ◌<◌, ℕ, suc, List, [], ◌∷◌, ◌++◌, length, get_or, sym, ap, subst, ◌∙◌, arith}
 use Rattle.group_file.specs.declared.entries.GroupEntry.{GroupEntry}
-use Rattle.group_file.specs.Events.{IsKnownGroup}
-use Rattle.group_file.specs.Plan.{GroupPlan}
+use Rattle.group_file.specs.{Events.IsKnownGroup, Plan.GroupPlan}
 use Rattle.mmrp.specs.declared.events.GroupEvent.{GroupEvent}
-use Rattle.group_run.specs.Cursor.{IsCursor}
-use Rattle.group_run.specs.Ticks.{event_of}
+use Rattle.group_run.specs.{IsCursor, event_of}
 use Rattle.group_run.proofs.Scripts.{IsScripted, StandsAt, begins, one_entry, stops, runs_out}
 use Rattle.group_run.proofs.script.script_of.Goals as goal
 

@@ -3,7 +3,7 @@ use Rattle.std.specs.List.{range_with_len}
 use Rattle.std.proofs.lemmas.Simd.{map-map}
 use Rattle.tree_topology.specs.Ports.{neighbours}
 use Rattle.mmrp.specs.declared.events.GroupEvent.TheVariants.{Port}
-use Rattle.group_run.specs.Ticks.{port_at}
+use Rattle.group_run.specs.{port_at}
 use Rattle.group_run.proofs.Listed.{push-more}
 use Rattle.group_run.proofs.steps.push_each.Goals as goal
 

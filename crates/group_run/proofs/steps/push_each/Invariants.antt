@@ -1,7 +1,7 @@
 use Rattle.std.proofs.Common.{◌≡◌, ◌++◌, map}
 use Rattle.std.specs.List.{range_with_len}
 use Rattle.mmrp.specs.declared.events.GroupEvent.TheVariants.{Port}
-use Rattle.group_run.specs.Ticks.{port_at}
+use Rattle.group_run.specs.{port_at}
 use Rattle.group_run.proofs.steps.push_each.Given as goal
 
 -- the steps of the ports so far

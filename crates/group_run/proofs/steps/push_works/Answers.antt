@@ -1,9 +1,8 @@
 use Rattle.std.proofs.Common.{◌≡◌, ◌++◌, length, ap, sym, ◌∙◌, arith}
 use Rattle.std.specs.List.{flat_map, range_with_len}
 use Rattle.std.proofs.lemmas.List.Folds.{flat_map-map}
-use Rattle.tree_topology.specs.Topology.{Topology}
-use Rattle.tree_topology.specs.Ports.{neighbours}
-use Rattle.group_run.specs.Ticks.{port_at, works_at}
+use Rattle.tree_topology.specs.{Topology.Topology, Ports.neighbours}
+use Rattle.group_run.specs.{port_at, works_at}
 use Rattle.group_run.proofs.Listed.{extend-more}
 use Rattle.group_run.proofs.steps.push_works.Goals as goal
 

@@ -1,6 +1,6 @@
 use Rattle.std.proofs.Common.{◌≡◌, ◌++◌}
 use Rattle.std.specs.List.{flat_map, range_with_len}
-use Rattle.group_run.specs.Ticks.{port_at, works_at}
+use Rattle.group_run.specs.{port_at, works_at}
 use Rattle.group_run.proofs.steps.push_works.Given as goal
 
 -- the steps of the ports so far

@@ -1,7 +1,6 @@
 use Rattle.std.proofs.Common.{◌≡◌, ◌++◌}
 use Rattle.std.specs.Prelude.{replicate}
-use Rattle.mmrp.specs.declared.events.GroupEvent.TheVariants.{Port}
-use Rattle.mmrp.specs.declared.events.GroupStep.TheVariants.{Work}
+use Rattle.mmrp.specs.declared.{events.GroupEvent.TheVariants.Port, events.GroupStep.TheVariants.Work}
 use Rattle.group_run.proofs.steps.push_works_at.Given as goal
 
 -- one for each PDU so far

@@ -1,5 +1,5 @@
 use Rattle.std.proofs.Common.{[]}
-use Rattle.group_run.specs.Ticks.{node_steps}
+use Rattle.group_run.specs.{node_steps}
 use Rattle.group_run.proofs.Listed.{extend-more}
 use Rattle.group_run.proofs.steps.steps_of.Goals as goal
 

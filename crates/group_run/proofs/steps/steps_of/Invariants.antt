@@ -1,6 +1,6 @@
 use Rattle.std.proofs.Common.{◌≡◌}
 use Rattle.std.specs.List.{flat_map, range_with_len}
-use Rattle.group_run.specs.Ticks.{node_steps}
+use Rattle.group_run.specs.{node_steps}
 use Rattle.group_run.proofs.steps.steps_of.Given as goal
 
 -- the steps of the nodes so far

@@ -4,7 +4,7 @@ use Rattle.std.proofs.lemmas.List.{drop_all}
 use Rattle.srp_base.specs.declared.numbers.EgressPort.{EgressPort}
 use Rattle.report_words.proofs.Counting.{all-counted}
 use Rattle.mmrp.specs.declared.events.GroupReply.{GroupReply}
-use Rattle.group_run.specs.Counts.{is_discarded, octets_sent, replies_of, with_reply}
+use Rattle.group_run.specs.{is_discarded, octets_sent, replies_of, with_reply}
 use Rattle.group_run.proofs.tally.tally_of.Goals as goal
 
 pub returns : goal.returns

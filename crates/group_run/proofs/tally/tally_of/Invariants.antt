@@ -1,7 +1,7 @@
 use Rattle.std.proofs.Common.{◌≡◌, drop}
 use Rattle.std.specs.Prelude.{fold}
 use Rattle.report_words.specs.Tally.{zero_tally}
-use Rattle.group_run.specs.Counts.{replies_of, with_reply}
+use Rattle.group_run.specs.{replies_of, with_reply}
 use Rattle.group_run.proofs.tally.tally_of.Given as goal
 
 -- what is left to count leads to what all leads to

@@ -1,6 +1,6 @@
 use Rattle.std.proofs.Common.{◌≡◌, ◌++◌, drop}
 use Rattle.std.specs.Prelude.{flat_map}
-use Rattle.group_run.specs.Text.{port_part}
+use Rattle.group_run.specs.{port_part}
 use Rattle.group_run.proofs.text.put_each.Given as goal
 
 -- the text so far with the lines of the ports that are left is the whole

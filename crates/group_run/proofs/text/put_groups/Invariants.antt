@@ -1,6 +1,6 @@
 use Rattle.std.proofs.Common.{◌≡◌, ◌++◌, drop}
 use Rattle.std.specs.Prelude.{flat_map}
-use Rattle.group_run.specs.Text.{group_at}
+use Rattle.group_run.specs.{group_at}
 use Rattle.group_run.proofs.text.put_groups.Given as goal
 
 -- the text so far with the lines of the MAC addresses that are left is the whole

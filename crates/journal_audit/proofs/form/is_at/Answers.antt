@@ -1,4 +1,4 @@
-use Rattle.journal_audit.specs.Form.{IsMadeText}
+use Rattle.journal_audit.specs.{IsMadeText}
 use Rattle.journal_audit.proofs.FormLemmas.{word_then}
 use Rattle.journal_audit.proofs.form.is_at.Goals as goal
 

@@ -1,4 +1,4 @@
-use Rattle.journal_audit.specs.Form.{IsNumberText}
+use Rattle.journal_audit.specs.{IsNumberText}
 use Rattle.journal_audit.proofs.FormLemmas.{word_then}
 use Rattle.journal_audit.proofs.form.is_counted.Goals as goal
 

@@ -1,6 +1,6 @@
 use Rattle.std.proofs.Common.{◌++◌, ◌∷◌, ℕ, List, ap, ◌∙◌}
 use Rattle.std.specs.Fmt.{decimal}
-use Rattle.journal_audit.specs.Form.{IsHappeningText}
+use Rattle.journal_audit.specs.{IsHappeningText}
 use Rattle.journal_audit.proofs.FormLemmas.{word_then}
 use Rattle.journal_audit.proofs.form.is_formed.Goals as goal
 

@@ -1,4 +1,4 @@
-use Rattle.journal_audit.specs.Form.{IsReplyText}
+use Rattle.journal_audit.specs.{IsReplyText}
 use Rattle.journal_audit.proofs.FormLemmas.{word_then}
 use Rattle.journal_audit.proofs.form.is_made_by.Goals as goal
 

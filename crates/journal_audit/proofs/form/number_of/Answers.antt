@@ -1,8 +1,6 @@
 use Rattle.std.proofs.Common.{sym, subst, arith}
-use Rattle.std.specs.Fmt.{decimal}
-use Rattle.std.specs.Str.{IsUtf8}
-use Rattle.std.proofs.lemmas.Fmt.{IsAscii-decimal}
-use Rattle.std.proofs.lemmas.Str.{IsUtf8-from_ascii}
+use Rattle.std.specs.{Fmt.decimal, Str.IsUtf8}
+use Rattle.std.proofs.lemmas.{Fmt.IsAscii-decimal, Str.IsUtf8-from_ascii}
 use Rattle.journal_audit.proofs.form.number_of.Goals as goal
 
 pub returns-in-Err-clause-none : goal.returns-in-Err-clause-none

@@ -1,5 +1,5 @@
 use Rattle.std.proofs.Common.{ℕ, ◌<◌, ◌≤◌}
-use Rattle.journal_audit.specs.Form.{IsFormed}
+use Rattle.journal_audit.specs.{IsFormed}
 use Rattle.journal_audit.proofs.form.tick_of.Given as goal
 
 -- the line is of no tick before

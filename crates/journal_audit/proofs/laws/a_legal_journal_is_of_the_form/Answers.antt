@@ -1,11 +1,8 @@
 use Rattle.std.proofs.Common.{◌≡◌, ℕ, List, refl, sym, subst}
 use Rattle.topology_file.specs.Plan.{Plan}
 use Rattle.world_core.specs.Start.{world_of}
-use Rattle.journal_audit.specs.Form.{AreFormed}
-use Rattle.journal_audit.specs.Journal.{journal_text}
-use Rattle.journal_audit.specs.Audit.{known_of}
-use Rattle.journal_audit.proofs.RunLemmas.{journal_lines_are}
-use Rattle.journal_audit.proofs.FormedLemmas.{ticks_formed}
+use Rattle.journal_audit.specs.{AreFormed, journal_text, known_of}
+use Rattle.journal_audit.proofs.{RunLemmas.journal_lines_are, FormedLemmas.ticks_formed}
 use Rattle.journal_audit.proofs.laws.a_legal_journal_is_of_the_form.Goals as goal
 
 pub returns-clause-lines : goal.returns-clause-lines

@@ -1,7 +1,6 @@
 use Rattle.std.proofs.Common.{ℕ, List}
-use Rattle.journal_audit.specs.Audit.{known_of}
-use Rattle.journal_audit.proofs.RunLemmas.{none_is}
-use Rattle.journal_audit.proofs.VerdictLemmas.{formed_all, form_refused, run_refused}
+use Rattle.journal_audit.specs.{known_of}
+use Rattle.journal_audit.proofs.{RunLemmas.none_is, VerdictLemmas.formed_all, VerdictLemmas.form_refused, VerdictLemmas.run_refused}
 use Rattle.journal_audit.proofs.laws.each_why_has_its_line.Goals as goal
 
 pub returns-clause-form : goal.returns-clause-form

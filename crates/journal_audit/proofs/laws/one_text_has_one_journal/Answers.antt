@@ -1,12 +1,9 @@
 use Rattle.std.proofs.Common.{◌≡◌, ℕ, List, sym, ◌∙◌}
 use Rattle.topology_file.specs.Plan.{Plan}
 use Rattle.world_core.specs.declared.journal.Tick.{Tick}
-use Rattle.world_core.specs.World.{WorldState}
-use Rattle.world_core.specs.Start.{world_of}
-use Rattle.journal_audit.specs.Audit.{IsJournalOf}
-use Rattle.journal_audit.specs.Replay.{ReplayLaws}
-use Rattle.journal_audit.proofs.RunLemmas.{journal_lines_are}
-use Rattle.journal_audit.proofs.OneTextLemmas.{ticks_same}
+use Rattle.world_core.specs.{World.WorldState, Start.world_of}
+use Rattle.journal_audit.specs.{IsJournalOf, ReplayLaws}
+use Rattle.journal_audit.proofs.{RunLemmas.journal_lines_are, OneTextLemmas.ticks_same}
 use Rattle.journal_audit.proofs.laws.one_text_has_one_journal.Goals as goal
 
 same : (plan : Plan) → ReplayLaws plan → (text : List ℕ) (ticks others : List Tick) (end last : WorldState) → IsJournalOf plan text ticks end → IsJournalOf plan text others last

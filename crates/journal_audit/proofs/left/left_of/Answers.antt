@@ -1,7 +1,8 @@
 use Rattle.std.proofs.Common.{◌-◌, ◌+◌, ◌<◌, arith}
+use Rattle.srp_base.proofs.Lists.{pushed_length}
 use Rattle.node_core.specs.State.{ports_of}
-use Rattle.journal_audit.specs.Left.{left_at, left_of}
-use Rattle.journal_audit.proofs.ListLemmas.{one_more, pushed_length}
+use Rattle.journal_audit.specs.{left_at, left_of}
+use Rattle.journal_audit.proofs.ListLemmas.{one_more}
 use Rattle.journal_audit.proofs.left.left_of.Goals as goal
 
 pub loop-at-preserved : goal.loop-at-preserved

@@ -1,7 +1,7 @@
 use Rattle.std.proofs.Common.{◌≡◌, ◌++◌, ◌-◌, map, length}
 use Rattle.std.specs.List.{range_with_len}
 use Rattle.node_core.specs.State.{ports_of}
-use Rattle.journal_audit.specs.Left.{left_at, left_of}
+use Rattle.journal_audit.specs.{left_at, left_of}
 use Rattle.journal_audit.proofs.left.left_of.Given as goal
 
 -- the ports so far and those that are left are all

@@ -1,13 +1,9 @@
 use Rattle.std.proofs.Common.{ℕ, suc, List, length, sym, subst}
-use Rattle.world_core.specs.declared.events.WorldReply.{WorldReply}
-use Rattle.world_core.specs.declared.journal.Tick.{Tick}
+use Rattle.srp_base.proofs.Options.{opened as of_some}
+use Rattle.world_core.specs.declared.{events.WorldReply.WorldReply, journal.Tick.Tick}
 use Rattle.world_core.specs.During.{IsDuring}
-use Rattle.journal_audit.specs.Reading.{IsStuck, AreTaken}
-use Rattle.journal_audit.specs.Journal.{answer_lines}
-use Rattle.journal_audit.specs.Follow.{FollowNodes}
-use Rattle.journal_audit.specs.Replay.{IsOtherAnswer, AreNodesRead}
-use Rattle.journal_audit.proofs.OptionLemmas.{of_some, of_none}
-use Rattle.journal_audit.proofs.PartLemmas.{scripted_stays, other_stuck, steps_stuck, tick_read}
+use Rattle.journal_audit.specs.{IsStuck, AreTaken, answer_lines, FollowNodes, IsOtherAnswer, AreNodesRead}
+use Rattle.journal_audit.proofs.{OptionLemmas.of_none, PartLemmas.scripted_stays, PartLemmas.other_stuck, PartLemmas.steps_stuck, PartLemmas.tick_read}
 use Rattle.journal_audit.proofs.replay.read_tick.Goals as goal
 
 pub returns-then-not-branch-clause-stuck : goal.returns-then-not-branch-clause-stuck

@@ -1,17 +1,12 @@
 use Rattle.std.proofs.Common.{◌≡◌, ◌<◌, ◌+◌, ℕ, suc, List, sym, ap, subst, ◌∙◌, arith}
 use Rattle.std.specs.List.{AllByRecursion}
+use Rattle.srp_base.proofs.Options.{opened as of_some}
 use Rattle.tree_topology.specs.Topology.{Topology}
 use Rattle.topology_file.specs.Plan.{Plan}
-use Rattle.world_core.specs.declared.journal.NodeSteps.{NodeSteps}
-use Rattle.world_core.specs.declared.journal.Tick.{Tick}
-use Rattle.world_core.specs.Cursor.{IsCursor}
-use Rattle.world_core.specs.History.{HasPortsOf, acts_noted}
-use Rattle.journal_audit.specs.Reading.{IsStuck}
-use Rattle.journal_audit.specs.Follow.{FollowTicks}
-use Rattle.journal_audit.specs.Replay.{IsTickRead, AreTicksRead}
-use Rattle.journal_audit.proofs.ListLemmas.{full, void}
-use Rattle.journal_audit.proofs.OptionLemmas.{of_some, of_none}
-use Rattle.journal_audit.proofs.RunLemmas.{ticks_more, ticks_stuck, end_stuck, run_read}
+use Rattle.world_core.specs.declared.{journal.NodeSteps.NodeSteps, journal.Tick.Tick}
+use Rattle.world_core.specs.{Cursor.IsCursor, History.HasPortsOf, History.acts_noted}
+use Rattle.journal_audit.specs.{IsStuck, FollowTicks, IsTickRead, AreTicksRead}
+use Rattle.journal_audit.proofs.{ListLemmas.full, ListLemmas.void, OptionLemmas.of_none, RunLemmas.ticks_more, RunLemmas.ticks_stuck, RunLemmas.end_stuck, RunLemmas.run_read}
 use Rattle.journal_audit.proofs.replay.replay.Goals as goal
 
 pub returns-in_default-clause-stuck : goal.returns-in_default-clause-stuck

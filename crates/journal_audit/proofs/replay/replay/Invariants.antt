@@ -1,5 +1,5 @@
 use Rattle.world_core.specs.Cursor.{IsCursor}
-use Rattle.journal_audit.specs.Replay.{AreTicksRead}
+use Rattle.journal_audit.specs.{AreTicksRead}
 use Rattle.journal_audit.proofs.replay.replay.Given as goal
 
 -- the ticks so far have been read and noted

@@ -1,11 +1,8 @@
 use Rattle.std.proofs.Common.{◌+◌, ℕ, suc, take, drop, get_or, subst}
 use Rattle.node_core.specs.declared.types.StepReply.TheVariants.{Nothing}
-use Rattle.world_core.specs.declared.events.WorldReply.{WorldReply}
-use Rattle.world_core.specs.declared.events.WorldReply.TheVariants.{Step}
-use Rattle.journal_audit.specs.Reading.{TakesOrStays}
-use Rattle.journal_audit.specs.Journal.{answer_line}
-use Rattle.journal_audit.proofs.ListLemmas.{at_place, take_place}
-use Rattle.journal_audit.proofs.StepLemmas.{other_answer, answers_more}
+use Rattle.world_core.specs.declared.{events.WorldReply.WorldReply, events.WorldReply.TheVariants.Step}
+use Rattle.journal_audit.specs.{TakesOrStays, answer_line}
+use Rattle.journal_audit.proofs.{ListLemmas.at_place, ListLemmas.take_place, StepLemmas.other_answer, StepLemmas.answers_more}
 use Rattle.journal_audit.proofs.steps.read_answers.Goals as goal
 
 pub returns-then-not-branch-clause-other : goal.returns-then-not-branch-clause-other

@@ -1,6 +1,5 @@
 use Rattle.std.proofs.Common.{take}
-use Rattle.journal_audit.specs.Journal.{answer_lines}
-use Rattle.journal_audit.specs.Reading.{AreTaken}
+use Rattle.journal_audit.specs.{answer_lines, AreTaken}
 use Rattle.journal_audit.proofs.steps.read_answers.Given as goal
 
 -- the lines of the answers so far have been read

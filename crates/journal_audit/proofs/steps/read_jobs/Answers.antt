@@ -1,14 +1,10 @@
 use Rattle.std.proofs.Common.{◌≡◌, ◌<◌, List, sym, ap, subst, ◌∙◌, arith}
 use Rattle.std.specs.Prelude.{slice_set}
+use Rattle.srp_base.proofs.Options.{opened as of_some}
 use Rattle.node_core.specs.declared.types.NodeStep.{NodeStep}
 use Rattle.attribute_propagation.specs.Ports.{place_of}
-use Rattle.journal_audit.specs.Left.{LeftState, ArePortsLeft, jobs_left, is_any_left}
-use Rattle.journal_audit.specs.Reading.{IsStuck}
-use Rattle.journal_audit.specs.Follow.{FollowJobs}
-use Rattle.journal_audit.specs.Replay.{IsPartRead, IsStepRead}
-use Rattle.journal_audit.proofs.OptionLemmas.{of_some, of_none}
-use Rattle.journal_audit.proofs.PartLemmas.{part_more, part_stuck, part_all, any_none}
-use Rattle.journal_audit.proofs.TotalLemmas.{total, total_less}
+use Rattle.journal_audit.specs.{LeftState, ArePortsLeft, jobs_left, is_any_left, IsStuck, FollowJobs, IsPartRead, IsStepRead}
+use Rattle.journal_audit.proofs.{OptionLemmas.of_none, PartLemmas.part_more, PartLemmas.part_stuck, PartLemmas.part_all, PartLemmas.any_none, TotalLemmas.total, TotalLemmas.total_less}
 use Rattle.journal_audit.proofs.steps.read_jobs.Goals as goal
 
 pub loop-alloc-preserved : goal.loop-alloc-preserved

@@ -1,5 +1,4 @@
-use Rattle.journal_audit.specs.Left.{ArePortsLeft, jobs_left}
-use Rattle.journal_audit.specs.Replay.{IsPartRead}
+use Rattle.journal_audit.specs.{ArePortsLeft, jobs_left, IsPartRead}
 use Rattle.journal_audit.proofs.TotalLemmas.{total}
 use Rattle.journal_audit.proofs.steps.read_jobs.Given as goal
 

@@ -1,14 +1,9 @@
 use Rattle.std.proofs.Common.{List, sym, ap, subst, ◌∙◌}
 use Rattle.std.specs.Prelude.{IfOk, IfSome, IfNone}
-use Rattle.node_core.specs.declared.types.NodeStep.{NodeStep}
-use Rattle.node_core.specs.declared.types.PortStep.{PortStep}
-use Rattle.journal_audit.specs.Left.{jobs_left}
-use Rattle.journal_audit.specs.Reading.{IsStuck}
-use Rattle.journal_audit.specs.Follow.{FollowJobs}
+use Rattle.node_core.specs.declared.{types.NodeStep.NodeStep, types.PortStep.PortStep}
+use Rattle.journal_audit.specs.{jobs_left, IsStuck, FollowJobs, IsNodeRead}
 use Rattle.world_core.specs.OneByOne.{node_jobs}
-use Rattle.journal_audit.specs.Replay.{IsNodeRead}
-use Rattle.journal_audit.proofs.LeftLemmas.{jobs_all, ports_all}
-use Rattle.journal_audit.proofs.PartLemmas.{idle, idle_read}
+use Rattle.journal_audit.proofs.{LeftLemmas.jobs_all, LeftLemmas.ports_all, PartLemmas.idle, PartLemmas.idle_read}
 use Rattle.journal_audit.proofs.steps.read_node.Goals as goal
 
 pub returns-then-not-has_jobs-clause-read : goal.returns-then-not-has_jobs-clause-read

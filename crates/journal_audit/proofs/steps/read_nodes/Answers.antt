@@ -1,14 +1,11 @@
 use Rattle.std.proofs.Common.{◌≡◌, ◌+◌, suc, ℕ, List, length, sym, ap, subst, arith}
+use Rattle.srp_base.proofs.Options.{opened as of_some}
 use Rattle.topology_file.specs.Plan.{Plan}
 use Rattle.tree_topology.specs.Topology.{HasNode}
 use Rattle.world_core.specs.declared.journal.NodeSteps.{NodeSteps}
 use Rattle.world_core.specs.OneByOne.{node_jobs}
-use Rattle.journal_audit.specs.Reading.{IsStuck}
-use Rattle.journal_audit.specs.Follow.{FollowJobs}
-use Rattle.journal_audit.specs.Replay.{IsNodeRead, AreNodesRead}
-use Rattle.journal_audit.proofs.OptionLemmas.{of_some, of_none}
-use Rattle.journal_audit.proofs.FollowLemmas.{node}
-use Rattle.journal_audit.proofs.PartLemmas.{nodes_more, nodes_stuck}
+use Rattle.journal_audit.specs.{IsStuck, FollowJobs, IsNodeRead, AreNodesRead}
+use Rattle.journal_audit.proofs.{OptionLemmas.of_none, FollowLemmas.node, PartLemmas.nodes_more, PartLemmas.nodes_stuck}
 use Rattle.journal_audit.proofs.steps.read_nodes.Goals as goal
 
 pub returns-in_default-clause-stuck : goal.returns-in_default-clause-stuck

@@ -1,5 +1,5 @@
 use Rattle.std.proofs.Common.{◌+◌}
-use Rattle.journal_audit.specs.Replay.{AreNodesRead}
+use Rattle.journal_audit.specs.{AreNodesRead}
 use Rattle.journal_audit.proofs.steps.read_nodes.Given as goal
 
 -- the nodes so far have made their jobs

@@ -3,9 +3,8 @@ use Rattle.std.specs.Prelude.{slice_get, slice_set, Some}
 use Rattle.srp_base.specs.declared.numbers.PortNo.{PortNo}
 use Rattle.tree_topology.specs.Topology.{Topology, HasPort}
 use Rattle.node_core.specs.declared.types.PortStep.{PortStep}
-use Rattle.journal_audit.specs.Left.{LeftState, jobs_left, MayBeNext}
-use Rattle.journal_audit.specs.Reading.{Reading, IsStuck}
-use Rattle.journal_audit.specs.Follow.{FollowJobs}
+use Rattle.journal_audit.specs.{LeftState, jobs_left, MayBeNext, IsStuck, FollowJobs}
+use Rattle.journal_audit.specs.Reading.{Reading}
 use Rattle.journal_audit.proofs.StepLemmas.{found_within, found_port, job_port, step_is, ports_set, none_stuck, other_stuck}
 use Rattle.journal_audit.proofs.steps.read_step.Goals as goal
 

@@ -1,5 +1,4 @@
-use Rattle.std.proofs.lemmas.Bool.Decides.{Decides-eqb}
-use Rattle.std.proofs.lemmas.Slice.Eq.{strip_suffix_is}
+use Rattle.std.proofs.lemmas.{Bool.Decides.Decides-eqb, Slice.Eq.strip_suffix_is}
 use Rattle.journal_audit.proofs.TextLemmas.{found_is, none_is}
 use Rattle.journal_audit.proofs.texts.before.Goals as goal
 

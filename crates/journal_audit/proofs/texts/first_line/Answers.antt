@@ -1,5 +1,5 @@
 use Rattle.std.proofs.Common.{◌∷◌, ◌+◌, ℕ, List, drop, sym, ap, ◌∙◌}
-use Rattle.journal_audit.specs.Texts.{lines_of}
+use Rattle.journal_audit.specs.{lines_of}
 use Rattle.journal_audit.proofs.TextLemmas.{found_line, last_line}
 use Rattle.journal_audit.proofs.texts.first_line.Goals as goal
 

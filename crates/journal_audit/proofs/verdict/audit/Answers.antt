@@ -1,11 +1,10 @@
 use Rattle.std.proofs.Common.{subst}
+use Rattle.srp_base.proofs.Options.{opened as of_some}
 use Rattle.world_core.specs.declared.journal.Run.{Run}
 use Rattle.world_core.specs.Start.{world_of}
-use Rattle.journal_audit.specs.Reading.{Reading, IsStuck}
-use Rattle.journal_audit.specs.Follow.{FollowTicks}
-use Rattle.journal_audit.specs.Replay.{IsRunRead}
-use Rattle.journal_audit.proofs.OptionLemmas.{of_some, of_none}
-use Rattle.journal_audit.proofs.RunLemmas.{legal_is, first_is, none_is}
+use Rattle.journal_audit.specs.Reading.{Reading}
+use Rattle.journal_audit.specs.{IsStuck, FollowTicks, IsRunRead}
+use Rattle.journal_audit.proofs.{OptionLemmas.of_none, RunLemmas.legal_is, RunLemmas.first_is, RunLemmas.none_is}
 use Rattle.journal_audit.proofs.verdict.audit.Goals as goal
 
 pub refusal-requires-clause-none : goal.refusal-requires-clause-none

@@ -2,7 +2,7 @@ use Rattle.std.proofs.Common.{◌≡◌, ◌-◌, ◌+◌, ◌<◌, ℕ, length,
 use Rattle.topology_file.specs.Plan.{Plan}
 use Rattle.std.specs.Prelude.{flat_map}
 use Rattle.std.specs.List.{range_with_len}
-use Rattle.journal_audit.specs.Audit.{names_at}
+use Rattle.journal_audit.specs.{names_at}
 use Rattle.journal_audit.proofs.ListLemmas.{list_more}
 use Rattle.journal_audit.proofs.verdict.known_of.Goals as goal
 

@@ -1,7 +1,7 @@
 use Rattle.std.proofs.Common.{◌≡◌, ◌++◌, ◌-◌, ◌+◌, length}
 use Rattle.std.specs.Prelude.{flat_map}
 use Rattle.std.specs.List.{range_with_len}
-use Rattle.journal_audit.specs.Audit.{names_at}
+use Rattle.journal_audit.specs.{names_at}
 use Rattle.journal_audit.proofs.verdict.known_of.Given as goal
 
 -- the names so far and those of the nodes that are left are all

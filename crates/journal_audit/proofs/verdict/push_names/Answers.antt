@@ -5,7 +5,7 @@ use Rattle.topology_file.specs.declared.entries.NodeEntry.{NodeEntry}
 use Rattle.tree_topology.specs.Ports.{neighbours}
 use Rattle.frame_flow.specs.Copies.{port_of}
 use Rattle.report_words.specs.Names.{port_name}
-use Rattle.journal_audit.specs.Audit.{names_at}
+use Rattle.journal_audit.specs.{names_at}
 use Rattle.journal_audit.proofs.ListLemmas.{one_more}
 use Rattle.journal_audit.proofs.verdict.push_names.Goals as goal
 

@@ -3,7 +3,7 @@ use Rattle.std.specs.List.{range_with_len}
 use Rattle.tree_topology.specs.Ports.{neighbours}
 use Rattle.frame_flow.specs.Copies.{port_of}
 use Rattle.report_words.specs.Names.{port_name}
-use Rattle.journal_audit.specs.Audit.{names_at}
+use Rattle.journal_audit.specs.{names_at}
 use Rattle.journal_audit.proofs.verdict.push_names.Given as goal
 
 -- the names so far and those that are left are all

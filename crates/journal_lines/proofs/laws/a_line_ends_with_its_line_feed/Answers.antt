@@ -2,8 +2,7 @@ use Rattle.std.proofs.Common.{sym, subst}
 use Rattle.srp_base.specs.declared.numbers.EgressPort.{EgressPort}
 use Rattle.tree_topology.specs.Topology.{IsSound}
 use Rattle.report_words.specs.Names.{port_name}
-use Rattle.journal_lines.proofs.NameLemmas.{port_plain}
-use Rattle.journal_lines.proofs.LineLemmas.{event_is_line, step_is_line}
+use Rattle.journal_lines.proofs.{NameLemmas.port_plain, LineLemmas.event_is_line, LineLemmas.step_is_line}
 use Rattle.journal_lines.proofs.laws.a_line_ends_with_its_line_feed.Goals as goal
 
 pub returns-clause-event : goal.returns-clause-event

@@ -1,10 +1,11 @@
 use Rattle.std.proofs.Common.{◌≡◌, ℕ, List, [], ◌∷◌, ◌++◌, sym, ap, subst, ◌∙◌, append_assoc}
 use Rattle.std.specs.Prelude.{codes}
 use Rattle.std.specs.Fmt.{decimal}
+use Rattle.srp_base.proofs.Lists.{behind_same}
 use Rattle.tree_topology.specs.Topology.{IsSound}
 use Rattle.report_words.specs.Names.{port_name}
-use Rattle.journal_lines.specs.Lines.{place_text}
-use Rattle.journal_lines.proofs.NameLemmas.{behind_same, ports_tell}
+use Rattle.journal_lines.specs.{place_text}
+use Rattle.journal_lines.proofs.NameLemmas.{ports_tell}
 use Rattle.journal_lines.proofs.laws.a_line_tells_its_port.Goals as goal
 
 placed : (t : ℕ) (port rest : List ℕ) → place_text t port ++ rest ≡ (decimal t ++ codes " ") ++ (port ++ 32 ∷ rest)

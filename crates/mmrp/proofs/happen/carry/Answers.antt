@@ -1,8 +1,6 @@
 use Rattle.std.proofs.Common.{◌≡◌, refl, ap, ◌∙◌}
 use Rattle.attribute_propagation.specs.Ports.{place_of}
-use Rattle.mmrp.specs.declared.events.GroupReply.TheVariants.{Done}
-use Rattle.mmrp.specs.Node.{with_outbox}
-use Rattle.mmrp.specs.Net.{NetGroups, nodes_with}
+use Rattle.mmrp.specs.{Done, with_outbox, NetGroups, nodes_with}
 use Rattle.mmrp.proofs.Happenings.{carry_nothing, put_back_is}
 use Rattle.mmrp.proofs.happen.carry.Goals as goal
 

@@ -1,8 +1,9 @@
 use Rattle.std.proofs.Common.{ap, ◌∙◌}
 use Rattle.std.specs.Prelude.{slice_set}
+use Rattle.srp_base.proofs.Arithmetic.{on_ok}
 use Rattle.attribute_propagation.specs.Ports.{place_of}
-use Rattle.mmrp.specs.Node.{with_carried}
-use Rattle.mmrp.proofs.Happenings.{port_there, changed_here, on_ok}
+use Rattle.mmrp.specs.{with_carried}
+use Rattle.mmrp.proofs.Happenings.{port_there, changed_here}
 use Rattle.mmrp.proofs.happen.give.Goals as goal
 
 pub put_in-requires-clause-port : goal.put_in-requires-clause-port

@@ -1,6 +1,6 @@
 use Rattle.std.proofs.Common.{Bool, sym, ap, ◌∙◌}
 use Rattle.srp_base.specs.declared.numbers.Cs.{Cs}
-use Rattle.mmrp.specs.Net.{NetGroups, with_loss}
+use Rattle.mmrp.specs.{NetGroups, with_loss}
 use Rattle.mmrp.proofs.Happenings.{index_there, lose_is}
 use Rattle.mmrp.proofs.happen.lose.Goals as goal
 

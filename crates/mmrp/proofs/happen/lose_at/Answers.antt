@@ -1,7 +1,7 @@
 use Rattle.std.proofs.Common.{ap, ◌∙◌}
 use Rattle.std.specs.Prelude.{slice_set}
 use Rattle.attribute_propagation.specs.Ports.{place_of}
-use Rattle.mmrp.specs.Node.{lost_at, ports_of}
+use Rattle.mmrp.specs.{lost_at, ports_of}
 use Rattle.mmrp.proofs.Happenings.{port_there, get_there, changed_here, stands_still}
 use Rattle.mmrp.proofs.happen.lose_at.Goals as goal
 

@@ -1,7 +1,7 @@
 use Rattle.std.proofs.Common.{ap, ◌∙◌}
 use Rattle.std.specs.Prelude.{slice_set}
 use Rattle.attribute_propagation.specs.Ports.{place_of}
-use Rattle.mmrp.specs.Node.{with_outbox}
+use Rattle.mmrp.specs.{with_outbox}
 use Rattle.mmrp.proofs.Happenings.{port_there, changed_here}
 use Rattle.mmrp.proofs.happen.put_back.Goals as goal
 

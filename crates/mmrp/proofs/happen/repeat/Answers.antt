@@ -1,9 +1,7 @@
 use Rattle.std.proofs.Common.{Bool, List, [], sym, ap, ◌∙◌}
 use Rattle.srp_base.specs.declared.numbers.Cs.{Cs}
 use Rattle.tree_topology.specs.Topology.{Topology}
-use Rattle.mmrp.specs.declared.events.GroupReply.TheVariants.{Done}
-use Rattle.mmrp.specs.Node.{NodeGroups}
-use Rattle.mmrp.specs.Net.{NetGroups, after_repeat}
+use Rattle.mmrp.specs.{Done, NodeGroups, NetGroups, after_repeat}
 use Rattle.mmrp.proofs.Happenings.{index_there}
 use Rattle.mmrp.proofs.happen.repeat.Goals as goal
 

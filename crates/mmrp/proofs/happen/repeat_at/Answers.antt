@@ -1,7 +1,7 @@
 use Rattle.std.proofs.Common.{ap, ◌∙◌}
 use Rattle.std.specs.Prelude.{slice_set}
 use Rattle.attribute_propagation.specs.Ports.{place_of}
-use Rattle.mmrp.specs.Node.{repeated_at}
+use Rattle.mmrp.specs.{repeated_at}
 use Rattle.mmrp.proofs.Happenings.{port_there, get_there, changed_here}
 use Rattle.mmrp.proofs.happen.repeat_at.Goals as goal
 

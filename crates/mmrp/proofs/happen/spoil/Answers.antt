@@ -1,8 +1,7 @@
 use Rattle.std.proofs.Common.{ap, ◌∙◌}
 use Rattle.std.specs.Prelude.{slice_set}
 use Rattle.attribute_propagation.specs.Ports.{place_of}
-use Rattle.mmrp.specs.Node.{spoilt_at}
-use Rattle.mmrp.specs.Node.{ports_of}
+use Rattle.mmrp.specs.{spoilt_at, ports_of}
 use Rattle.mmrp.proofs.Happenings.{port_there, changed_here, stands_still, ports_spoilt}
 use Rattle.mmrp.proofs.happen.spoil.Goals as goal
 

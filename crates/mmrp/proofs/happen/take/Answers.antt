@@ -3,8 +3,7 @@ use Rattle.std.specs.Prelude.{slice_set}
 use Rattle.attribute_propagation.specs.Ports.{place_of}
 use Rattle.std.specs.Prelude.{[]}
 use Rattle.std.specs.Option.{option_map_or}
-use Rattle.mmrp.specs.Node.{with_outbox}
-use Rattle.mmrp.specs.Node.{NodeGroups, box_at, ports_of}
+use Rattle.mmrp.specs.{with_outbox, NodeGroups, box_at, ports_of}
 use Rattle.mmrp.proofs.Happenings.{port_there, get_there, changed_here, stands_still}
 use Rattle.mmrp.proofs.happen.take.Goals as goal
 

@@ -1,6 +1,5 @@
-use Rattle.mmrp.proofs.Keeping.{KeepingLaws, kept_event, kept_events}
+use Rattle.mmrp.proofs.{Keeping.KeepingLaws, Keeping.kept_event, Keeping.kept_events, laws.every_event_keeps_it.Goals.After-spoiling_keeps_duties}
 use Rattle.mmrp.proofs.laws.every_event_keeps_it.Goals as goal
-use Rattle.mmrp.proofs.laws.every_event_keeps_it.Goals.{After-spoiling_keeps_duties}
 
 laws : After-spoiling_keeps_duties → KeepingLaws
 laws c =

@@ -1,5 +1,4 @@
-use Rattle.mmrp.specs.Net.{groups_after}
-use Rattle.mmrp.specs.Start.{net_of}
+use Rattle.mmrp.specs.{groups_after, net_of}
 use Rattle.mmrp.proofs.laws.groups_match_after_every_list_of_events.Goals as goal
 
 pub returns-clause-kept : goal.returns-clause-kept

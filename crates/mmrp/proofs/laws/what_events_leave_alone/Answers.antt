@@ -1,7 +1,6 @@
-use Rattle.mmrp.specs.Node.{port_step}
+use Rattle.mmrp.specs.{port_step}
 use Rattle.attribute_propagation.specs.Ports.{place_of}
-use Rattle.mmrp.proofs.Keeping.{tree_stays, clock_stays}
-use Rattle.mmrp.proofs.Nodes.{node_other}
+use Rattle.mmrp.proofs.{Keeping.tree_stays, Keeping.clock_stays, Nodes.node_other}
 use Rattle.mmrp.proofs.laws.what_events_leave_alone.Goals as goal
 
 pub returns-clause-tree : goal.returns-clause-tree

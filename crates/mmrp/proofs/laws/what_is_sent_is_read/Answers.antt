@@ -3,7 +3,7 @@ use Rattle.mrp_participant.specs.State.{is_active, sent_events}
 use Rattle.std.specs.Ordering.{nat_cmp}
 use Rattle.flat_side.specs.Part.{key_events}
 use Rattle.mmrp_codec.specs.Writing.{IsWritable}
-use Rattle.mmrp.specs.Macs.{base, octets, pdu_sent}
+use Rattle.mmrp.specs.{base, octets, pdu_sent}
 use Rattle.mmrp.proofs.Writable.{writable}
 use Rattle.mmrp.proofs.laws.what_is_sent_is_read.Goals as goal
 

@@ -1,7 +1,7 @@
 use Rattle.std.proofs.Common.{◌≡◌, ◌+◌, ◌-◌, ◌&&◌, length}
 use Rattle.std.specs.List.{list_any, range_with_len}
 use Rattle.tree_topology.specs.Walk.{is_behind}
-use Rattle.mmrp.specs.Match.{is_joined_at, is_joined_behind}
+use Rattle.mmrp.specs.{is_joined_at, is_joined_behind}
 use Rattle.mmrp.proofs.matching.is_joined_by_some.Given as goal
 
 -- whether there is such a station is whether there is one from the next number on

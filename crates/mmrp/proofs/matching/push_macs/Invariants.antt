@@ -1,6 +1,6 @@
 use Rattle.std.proofs.Common.{◌≡◌, ◌++◌, drop}
 use Rattle.std.specs.Prelude.{filter_map}
-use Rattle.mmrp.specs.Match.{registered_in, registered_mac}
+use Rattle.mmrp.specs.{registered_in, registered_mac}
 use Rattle.mmrp.proofs.matching.push_macs.Given as goal
 
 -- the MAC addresses so far, and those of the rows from here on

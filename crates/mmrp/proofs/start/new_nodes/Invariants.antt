@@ -1,5 +1,5 @@
 use Rattle.std.proofs.Common.{◌≡◌, ◌+◌, ◌++◌, drop}
-use Rattle.mmrp.specs.Start.{nodes_from}
+use Rattle.mmrp.specs.{nodes_from}
 use Rattle.mmrp.proofs.start.new_nodes.Given as goal
 
 -- the nodes so far and those of the entries that are left are all

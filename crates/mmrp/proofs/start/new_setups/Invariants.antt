@@ -1,5 +1,5 @@
 use Rattle.std.proofs.Common.{◌≡◌, ◌+◌, ◌++◌, drop}
-use Rattle.mmrp.specs.Start.{setups_from}
+use Rattle.mmrp.specs.{setups_from}
 use Rattle.mmrp.proofs.start.new_setups.Given as goal
 
 -- the ports so far and those on the links that are left are all

@@ -1,12 +1,8 @@
 use Rattle.std.proofs.Common.{◌≡◌, ℕ, List, Option, Some, None, Result, Ok, Err, refl, sym, ap, subst, ◌∙◌, arith}
 use Rattle.std.specs.Option.{unwrap_or}
-use Rattle.mrpdu_codec.specs.declared.form.AppForm.TheVariants.{Mmrp}
-use Rattle.mrpdu_codec.specs.declared.pdu.Pdu.{Pdu}
-use Rattle.mrpdu_codec.specs.Grammar.{Spells, Breaks}
-use Rattle.mrpdu_codec.specs.Reading.{reading}
-use Rattle.mrpdu_codec.specs.Places.{first_places, AllStandAt}
-use Rattle.mmrp_codec.specs.declared.pdu.GroupPdu.{GroupPdu}
-use Rattle.mmrp_codec.specs.Meaning.{meaning, first_past, place_in, meaning_or_place, read_as, PassesEnd, MmrpBreaks}
+use Rattle.mrpdu_codec.specs.declared.{form.AppForm.TheVariants.Mmrp, pdu.Pdu.Pdu}
+use Rattle.mrpdu_codec.specs.{Grammar.Spells, Grammar.Breaks, Reading.reading, Places.first_places, Places.AllStandAt}
+use Rattle.mmrp_codec.specs.{GroupPdu, meaning, first_past, place_in, meaning_or_place, read_as, PassesEnd, MmrpBreaks}
 use Rattle.mmrp_codec.specs.Meaning.MmrpBreaks.{grammar, value}
 use Rattle.mmrp_codec.proofs.PastLemmas.{past_none, past_all, past_at, passes_end}
 use Rattle.mmrp_codec.proofs.laws.reading_is_the_grammar.Goals as goal

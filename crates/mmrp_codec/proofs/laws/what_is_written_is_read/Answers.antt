@@ -1,5 +1,5 @@
 use Rattle.mrpdu_codec.specs.declared.form.AppForm.TheVariants.{Mmrp}
-use Rattle.mmrp_codec.specs.Writing.{pdu_for}
+use Rattle.mmrp_codec.specs.{pdu_for}
 use Rattle.mmrp_codec.proofs.WrittenPdu.{is_well_formed, reads_again, few_in_all}
 use Rattle.mmrp_codec.proofs.laws.what_is_written_is_read.Goals as goal
 

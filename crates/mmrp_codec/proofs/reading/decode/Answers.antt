@@ -1,6 +1,6 @@
 use Rattle.std.proofs.Common.{◌≡◌, ℕ, refl, sym, subst, ◌∙◌}
 use Rattle.mrpdu_codec.specs.Raw.{pdu_in}
-use Rattle.mmrp_codec.specs.Meaning.{PassesEnd}
+use Rattle.mmrp_codec.specs.{PassesEnd}
 use Rattle.mmrp_codec.specs.Meaning.MmrpBreaks.{value}
 use Rattle.mmrp_codec.proofs.PastLemmas.{past_none, passes_end}
 use Rattle.mmrp_codec.proofs.reading.decode.Goals as goal

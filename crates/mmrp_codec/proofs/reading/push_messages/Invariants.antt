@@ -1,7 +1,7 @@
 use Rattle.std.proofs.Common.{◌≡◌, ◌++◌, take, drop, map}
 use Rattle.std.specs.List.{flat_map}
 use Rattle.mrpdu_codec.specs.Raw.{message_in}
-use Rattle.mmrp_codec.specs.Meaning.{message_events, first_past}
+use Rattle.mmrp_codec.specs.{message_events, first_past}
 use Rattle.mmrp_codec.proofs.reading.push_messages.Given as goal
 
 abbrev pub invariant-loop-i : goal.invariant-loop-i

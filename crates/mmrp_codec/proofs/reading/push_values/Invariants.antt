@@ -1,6 +1,6 @@
 use Rattle.std.proofs.Common.{◌≡◌, ◌+◌, ◌++◌, drop}
 use Rattle.mrpdu_codec.specs.Raw.{attr_in}
-use Rattle.mmrp_codec.specs.Meaning.{events_from}
+use Rattle.mmrp_codec.specs.{events_from}
 use Rattle.mmrp_codec.proofs.reading.push_values.Given as goal
 
 abbrev pub invariant-loop-i : goal.invariant-loop-i

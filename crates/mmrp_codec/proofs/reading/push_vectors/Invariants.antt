@@ -1,8 +1,7 @@
 use Rattle.std.proofs.Common.{◌≡◌, ◌++◌, take, drop}
 use Rattle.std.specs.List.{flat_map}
 use Rattle.mrpdu_codec.specs.Raw.{attrs_in}
-use Rattle.mmrp_codec.specs.InPlace.{events_in_place}
-use Rattle.mmrp_codec.specs.Meaning.{first_past_in}
+use Rattle.mmrp_codec.specs.{events_in_place, first_past_in}
 use Rattle.mmrp_codec.proofs.reading.push_vectors.Given as goal
 
 abbrev pub invariant-loop-i : goal.invariant-loop-i

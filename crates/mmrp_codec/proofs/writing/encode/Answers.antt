@@ -1,8 +1,6 @@
 use Rattle.std.proofs.Common.{◌≡◌, List, ℕ, length, ◌≤◌, sym, subst, ap, ◌∙◌}
 use Rattle.mrpdu_codec.specs.declared.form.AppForm.TheVariants.{Mmrp}
-use Rattle.mmrp_codec.specs.declared.pdu.GroupPdu.{GroupPdu}
-use Rattle.mmrp_codec.specs.Meaning.{AreMacs, MacEvent}
-use Rattle.mmrp_codec.specs.Writing.{pdu_for, mmrp_spelling}
+use Rattle.mmrp_codec.specs.{GroupPdu, AreMacs, MacEvent, pdu_for, mmrp_spelling}
 use Rattle.mmrp_codec.proofs.WrittenPdu.{is_well_formed, reads_again, few_in_all}
 use Rattle.mmrp_codec.proofs.writing.encode.Goals as goal
 

@@ -1,5 +1,5 @@
 use Rattle.std.proofs.Common.{◌≡◌, ◌+◌, List, ℕ, suc, ◌<◌, ◌^◌, take, sym, subst, arith}
-use Rattle.mmrp_codec.specs.Meaning.{AreMacs, MacEvent}
+use Rattle.mmrp_codec.specs.{AreMacs, MacEvent}
 use Rattle.mmrp_codec.proofs.WritingLemmas.{macs_more, octets_more}
 use Rattle.mmrp_codec.proofs.writing.put_events.Goals as goal
 

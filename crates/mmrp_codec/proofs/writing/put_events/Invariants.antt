@@ -1,5 +1,5 @@
 use Rattle.std.proofs.Common.{◌≡◌, ◌++◌, take, drop}
-use Rattle.mmrp_codec.specs.Meaning.{AreMacs}
+use Rattle.mmrp_codec.specs.{AreMacs}
 use Rattle.mmrp_codec.proofs.WritingLemmas.{octets_of}
 use Rattle.mmrp_codec.proofs.writing.put_events.Given as goal
 

@@ -1,8 +1,7 @@
 use Rattle.std.proofs.Common.{ap, ◌∙◌}
 use Rattle.std.specs.declared.option.Option.TheVariants.{Some}
-use Rattle.mrp_participant.specs.Row.{after_declare, declared_row}
-use Rattle.mrp_participant.proofs.Exits.{on_ok}
-use Rattle.mrp_participant.proofs.Places.{put-at_row, put-at_gap}
+use Rattle.mrp_participant.specs.{after_declare, declared_row}
+use Rattle.mrp_participant.proofs.{Exits.on_ok, Places.put-at_row, Places.put-at_gap}
 use Rattle.mrp_participant.proofs.calls.declare_in.Goals as goal
 
 pub returns-in-Ok-clause-ok : goal.returns-in-Ok-clause-ok

@@ -1,5 +1,5 @@
 use Rattle.std.proofs.Common.{rules, refl, sym, ap}
-use Rattle.mrp_participant.specs.Row.{after_leave, is_leaving_in}
+use Rattle.mrp_participant.specs.{after_leave, is_leaving_in}
 use Rattle.mrp_participant.proofs.Places.{found-at_row, absent-at_gap, put-at_row, put-none}
 use Rattle.mrp_participant.proofs.calls.leave_in.Goals as goal
 

@@ -1,6 +1,6 @@
 use Rattle.std.proofs.Common.{ap}
 use Rattle.std.specs.declared.option.Option.TheVariants.{Some}
-use Rattle.mrp_participant.specs.Row.{after_withdraw}
+use Rattle.mrp_participant.specs.{after_withdraw}
 use Rattle.mrp_participant.proofs.Places.{put-at_row}
 use Rattle.mrp_participant.proofs.calls.withdraw_in.Goals as goal
 

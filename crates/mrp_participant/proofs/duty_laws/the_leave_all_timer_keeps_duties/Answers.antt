@@ -1,5 +1,5 @@
 use Rattle.std.proofs.Common.{refl}
-use Rattle.mrp_participant.specs.State.{leave_all_state}
+use Rattle.mrp_participant.specs.{leave_all_state}
 use Rattle.mrp_participant.proofs.Duties.{own-same, far-kept}
 use Rattle.mrp_participant.proofs.duty_laws.the_leave_all_timer_keeps_duties.Goals as goal
 

@@ -1,7 +1,6 @@
 use Rattle.std.proofs.Common.{refl, sym, subst}
 use Rattle.mrp_participant.proofs.Hearings.{known-of, known-after, each-after, ascends-after}
-use Rattle.mrp_participant.specs.Lookup.{Ascends, key_of}
-use Rattle.mrp_participant.specs.Outlook.{IsOutlook}
+use Rattle.mrp_participant.specs.{Ascends, key_of, IsOutlook}
 use Rattle.mrp_participant.proofs.hearing.add_unknown.Goals as goal
 
 pub returns-then-are_known-clause-known : goal.returns-then-are_known-clause-known

@@ -1,8 +1,7 @@
 use Rattle.std.proofs.Common.{◌&&◌, ◌+◌, drop, refl, sym, ap, ◌∙◌}
 use Rattle.std.proofs.lemmas.List.{drop_all}
-use Rattle.std.specs.List.{list_all}
-use Rattle.std.specs.Option.{is_some}
-use Rattle.mrp_participant.specs.Lookup.{find}
+use Rattle.std.specs.{List.list_all, Option.is_some}
+use Rattle.mrp_participant.specs.{find}
 use Rattle.mrp_participant.proofs.Places.{all-front}
 use Rattle.mrp_participant.proofs.hearing.are_known.Goals as goal
 

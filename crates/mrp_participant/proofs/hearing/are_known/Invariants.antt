@@ -1,7 +1,6 @@
 use Rattle.std.proofs.Common.{◌≡◌, drop}
-use Rattle.std.specs.List.{list_all}
-use Rattle.std.specs.Option.{is_some}
-use Rattle.mrp_participant.specs.Lookup.{find}
+use Rattle.std.specs.{List.list_all, Option.is_some}
+use Rattle.mrp_participant.specs.{find}
 use Rattle.mrp_participant.proofs.hearing.are_known.Given as goal
 
 abbrev pub invariant-loop-row : goal.invariant-loop-row

@@ -1,5 +1,5 @@
 use Rattle.std.proofs.Common.{◌∙◌, ap, sym, map}
-use Rattle.mrp_participant.specs.Hearing.{begun_row}
+use Rattle.mrp_participant.specs.{begun_row}
 use Rattle.mrp_participant.proofs.Hearings.{map-begun_false}
 use Rattle.mrp_participant.proofs.hearing.begin_all.Goals as goal
 

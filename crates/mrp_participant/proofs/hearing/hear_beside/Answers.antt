@@ -2,9 +2,7 @@ use Rattle.std.proofs.Common.{ap}
 use Rattle.std.specs.Prelude.{option_map}
 use Rattle.std.proofs.lemmas.Result.{on_ok_weaker}
 use Rattle.std.specs.declared.option.Option.TheVariants.{Some}
-use Rattle.mrp_participant.specs.Lookup.{find}
-use Rattle.mrp_participant.specs.Row.{after_hear}
-use Rattle.mrp_participant.specs.Hearing.{first_of, begun_row}
+use Rattle.mrp_participant.specs.{find, after_hear, first_of, begun_row}
 use Rattle.mrp_participant.proofs.Places.{put-at_row, put-at_gap, put-none}
 use Rattle.mrp_participant.proofs.hearing.hear_beside.Goals as goal
 

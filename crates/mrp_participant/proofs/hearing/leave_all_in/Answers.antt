@@ -1,5 +1,5 @@
 use Rattle.std.proofs.Common.{true}
-use Rattle.mrp_participant.specs.Hearing.{begun_row}
+use Rattle.mrp_participant.specs.{begun_row}
 use Rattle.mrp_participant.proofs.Changed.{changed-in_place, changed-whole}
 use Rattle.mrp_participant.proofs.hearing.leave_all_in.Goals as goal
 

@@ -1,5 +1,5 @@
 use Rattle.std.proofs.Common.{◌≡◌, ◌++◌, true, map, take, drop}
-use Rattle.mrp_participant.specs.Hearing.{begun_row}
+use Rattle.mrp_participant.specs.{begun_row}
 use Rattle.mrp_participant.proofs.hearing.leave_all_in.Given as goal
 
 abbrev pub invariant-loop-row : goal.invariant-loop-row

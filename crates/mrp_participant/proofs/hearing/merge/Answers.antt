@@ -1,6 +1,5 @@
 use Rattle.std.proofs.Common.{sym, ap, ◌∙◌, subst}
-use Rattle.mrp_participant.specs.Lookup.{Ascends, key_of}
-use Rattle.mrp_participant.specs.Hearing.{rows_as_one}
+use Rattle.mrp_participant.specs.{Ascends, key_of, rows_as_one}
 use Rattle.mrp_participant.proofs.MergeLemmas.{room-front, room-within, room-for_all}
 use Rattle.mrp_participant.proofs.hearing.merge.Goals as goal
 

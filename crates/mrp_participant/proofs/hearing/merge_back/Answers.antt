@@ -1,5 +1,5 @@
 use Rattle.std.proofs.Common.{◌≡◌, [], ◌∷◌, ◌++◌, take, refl, subst, arith}
-use Rattle.mrp_participant.specs.Hearing.{rows_as_one}
+use Rattle.mrp_participant.specs.{rows_as_one}
 use Rattle.mrp_participant.proofs.MergeLemmas.{Ascends-front, back-more, back-all}
 use Rattle.mrp_participant.proofs.hearing.merge_back.Goals as goal
 

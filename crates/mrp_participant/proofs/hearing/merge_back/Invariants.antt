@@ -1,5 +1,5 @@
 use Rattle.std.proofs.Common.{◌+◌, take}
-use Rattle.mrp_participant.specs.Hearing.{rows_as_one}
+use Rattle.mrp_participant.specs.{rows_as_one}
 use Rattle.mrp_participant.proofs.MergeLemmas.{MergesBack}
 use Rattle.mrp_participant.proofs.hearing.merge_back.Given as goal
 

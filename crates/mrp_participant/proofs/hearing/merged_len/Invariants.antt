@@ -1,5 +1,5 @@
 use Rattle.std.proofs.Common.{◌≡◌, ◌≤◌, ◌+◌, ◌-◌, length, drop}
-use Rattle.mrp_participant.specs.Hearing.{rows_as_one}
+use Rattle.mrp_participant.specs.{rows_as_one}
 use Rattle.mrp_participant.proofs.hearing.merged_len.Given as goal
 
 abbrev pub invariant-loop-i : goal.invariant-loop-i

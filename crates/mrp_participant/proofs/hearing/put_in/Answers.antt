@@ -1,7 +1,6 @@
 use Rattle.std.proofs.Common.{◌<◌, ◌++◌, length, take, drop, suc, sym, ap, ◌∙◌, subst}
-use Rattle.std.specs.List.{cons_option}
-use Rattle.std.specs.declared.option.Option.TheVariants.{Some}
-use Rattle.mrp_participant.specs.Lookup.{Ascends, key_of, put}
+use Rattle.std.specs.{List.cons_option, declared.option.Option.TheVariants.Some}
+use Rattle.mrp_participant.specs.{Ascends, key_of, put}
 use Rattle.mrp_participant.proofs.hearing.put_in.Goals as goal
 
 pub place_near-requires : goal.place_near-requires

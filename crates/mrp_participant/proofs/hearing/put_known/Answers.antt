@@ -1,13 +1,9 @@
 use Rattle.std.proofs.Common.{refl, ap, sym, ◌∙◌, ◌+◌, subst, drop}
 use Rattle.std.proofs.lemmas.List.{drop_all}
-use Rattle.std.specs.List.{AllByRecursion}
+use Rattle.std.specs.{List.AllByRecursion, declared.option.Option.TheVariants.Some}
 use Rattle.std.specs.Prelude.{IsSome}
-use Rattle.std.specs.declared.option.Option.TheVariants.{Some}
-use Rattle.mrp_participant.specs.Lookup.{Ascends, key_of, find, put}
-use Rattle.mrp_participant.specs.Hearing.{put_over}
-use Rattle.mrp_participant.specs.Outlook.{Tells}
-use Rattle.mrp_participant.proofs.Lookups.{fold-step}
-use Rattle.mrp_participant.proofs.Hearings.{each-at_drop, Ascends-put_row, known-put}
+use Rattle.mrp_participant.specs.{Ascends, key_of, find, put, put_over, Tells}
+use Rattle.mrp_participant.proofs.{Lookups.fold-step, Hearings.each-at_drop, Hearings.Ascends-put_row, Hearings.known-put}
 use Rattle.mrp_participant.proofs.hearing.put_known.Goals as goal
 
 pub put_in-near-requires-clause-rows : goal.put_in-near-requires-clause-rows

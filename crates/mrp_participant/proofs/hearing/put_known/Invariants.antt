@@ -1,9 +1,7 @@
 use Rattle.std.proofs.Common.{◌≡◌, drop}
 use Rattle.std.specs.List.{AllByRecursion}
 use Rattle.std.specs.Prelude.{IsSome}
-use Rattle.mrp_participant.specs.Lookup.{Ascends, key_of, find}
-use Rattle.mrp_participant.specs.Hearing.{put_over}
-use Rattle.mrp_participant.specs.Outlook.{Tells}
+use Rattle.mrp_participant.specs.{Ascends, key_of, find, put_over, Tells}
 use Rattle.mrp_participant.proofs.hearing.put_known.Given as goal
 
 abbrev pub invariant-loop-row : goal.invariant-loop-row

@@ -1,10 +1,7 @@
 use Rattle.std.proofs.Common.{ap, sym, ◌∙◌, ◌+◌, subst, drop, fold, rules}
 use Rattle.std.proofs.lemmas.List.{drop_all}
-use Rattle.mrp_participant.proofs.Exits.{of_error}
-use Rattle.mrp_participant.specs.State.{AreRows}
-use Rattle.mrp_participant.specs.Hearing.{heard_with, row_so_far}
-use Rattle.mrp_participant.proofs.Lookups.{fold-step}
-use Rattle.mrp_participant.proofs.Hearings.{AreRows-heard, heard-each}
+use Rattle.mrp_participant.proofs.{Exits.of_error, Lookups.fold-step, Hearings.AreRows-heard, Hearings.heard-each}
+use Rattle.mrp_participant.specs.{AreRows, heard_with, row_so_far}
 use Rattle.mrp_participant.proofs.hearing.rows_heard.Goals as goal
 
 pub hear_beside-requires-clause-heard : goal.hear_beside-requires-clause-heard

@@ -1,6 +1,5 @@
 use Rattle.std.proofs.Common.{◌≡◌, fold, drop}
-use Rattle.mrp_participant.specs.State.{AreRows}
-use Rattle.mrp_participant.specs.Hearing.{heard_with, heard_rows}
+use Rattle.mrp_participant.specs.{AreRows, heard_with, heard_rows}
 use Rattle.mrp_participant.proofs.hearing.rows_heard.Given as goal
 
 abbrev pub invariant-loop-event : goal.invariant-loop-event

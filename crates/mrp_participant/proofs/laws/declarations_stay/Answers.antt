@@ -1,12 +1,7 @@
 use Rattle.std.proofs.Common.{◌∙◌, ap}
-use Rattle.mrp_participant.specs.Lookup.{find}
-use Rattle.mrp_participant.specs.Row.{declared_in, after_leave, after_leave_due, periodic_row}
-use Rattle.mrp_participant.specs.State.{after, is_active, takes, is_periodic_due}
+use Rattle.mrp_participant.specs.{find, declared_in, after_leave, after_leave_due, periodic_row, after, is_active, takes, is_periodic_due}
 use Rattle.std.proofs.Common.{option_and_then, refl}
-use Rattle.mrp_participant.proofs.EachKey.{each-receive, each-leave, each-mapped, each-kept}
-use Rattle.mrp_participant.proofs.Sendings.{sent-keeps}
-use Rattle.mrp_participant.proofs.StateLemmas.{each-due}
-use Rattle.mrp_participant.proofs.DeclarationLemmas.{receive-declared, leave-declared, due-declared, periodic-declared, periodic_if-declared, sent-declared, stays-at}
+use Rattle.mrp_participant.proofs.{EachKey.each-receive, EachKey.each-leave, EachKey.each-mapped, EachKey.each-kept, Sendings.sent-keeps, StateLemmas.each-due, DeclarationLemmas.receive-declared, DeclarationLemmas.leave-declared, DeclarationLemmas.due-declared, DeclarationLemmas.periodic-declared, DeclarationLemmas.periodic_if-declared, DeclarationLemmas.sent-declared, DeclarationLemmas.stays-at}
 use Rattle.mrp_participant.proofs.laws.declarations_stay.Goals as goal
 
 pub returns-clause-receive : goal.returns-clause-receive

@@ -1,6 +1,6 @@
 use Rattle.mrp_participant.proofs.EachKey.{each-mapped}
 use Rattle.std.proofs.Common.{refl}
-use Rattle.mrp_participant.specs.Row.{periodic_row}
+use Rattle.mrp_participant.specs.{periodic_row}
 use Rattle.mrp_participant.proofs.laws.each_key_after_periodic.Goals as goal
 
 pub returns : goal.returns

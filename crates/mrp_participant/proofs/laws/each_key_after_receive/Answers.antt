@@ -1,5 +1,5 @@
 use Rattle.mrp_participant.proofs.EachKey.{each-receive}
-use Rattle.mrp_participant.specs.State.{after}
+use Rattle.mrp_participant.specs.{after}
 use Rattle.mrp_participant.proofs.laws.each_key_after_receive.Goals as goal
 
 pub returns : goal.returns

@@ -1,6 +1,5 @@
-use Rattle.mrp_participant.proofs.EachKey.{each-kept}
-use Rattle.mrp_participant.specs.State.{after, is_active, takes}
-use Rattle.mrp_participant.proofs.Sendings.{sent-keeps}
+use Rattle.mrp_participant.proofs.{EachKey.each-kept, Sendings.sent-keeps}
+use Rattle.mrp_participant.specs.{after, is_active, takes}
 use Rattle.mrp_participant.proofs.laws.each_key_after_send.Goals as goal
 
 pub returns : goal.returns

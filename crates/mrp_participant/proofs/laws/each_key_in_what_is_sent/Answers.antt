@@ -1,4 +1,4 @@
-use Rattle.mrp_participant.specs.State.{after, is_active, takes}
+use Rattle.mrp_participant.specs.{after, is_active, takes}
 use Rattle.mrp_participant.proofs.StateLemmas.{one-sent}
 use Rattle.mrp_participant.proofs.laws.each_key_in_what_is_sent.Goals as goal
 

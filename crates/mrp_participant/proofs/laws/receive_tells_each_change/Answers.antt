@@ -1,6 +1,5 @@
-use Rattle.mrp_participant.specs.State.{after, rows_after_receive}
-use Rattle.mrp_participant.proofs.Changes.{changes-are_told, told-are_changes}
-use Rattle.mrp_participant.proofs.Transitions.{AreRows-receive}
+use Rattle.mrp_participant.specs.{after, rows_after_receive}
+use Rattle.mrp_participant.proofs.{Changes.changes-are_told, Changes.told-are_changes, Transitions.AreRows-receive}
 use Rattle.mrp_participant.proofs.laws.receive_tells_each_change.Goals as goal
 
 pub returns-clause-told : goal.returns-clause-told

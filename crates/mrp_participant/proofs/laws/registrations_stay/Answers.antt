@@ -1,11 +1,6 @@
 use Rattle.std.proofs.Common.{◌∙◌, ap, refl}
-use Rattle.mrp_participant.specs.Lookup.{find}
-use Rattle.mrp_participant.specs.Row.{registered_in, after_declare, after_withdraw, periodic_row}
-use Rattle.mrp_participant.specs.State.{after, is_active, takes}
-use Rattle.mrp_participant.proofs.Changes.{periodic-registered}
-use Rattle.mrp_participant.proofs.EachKey.{each-declare, each-withdraw, each-mapped, each-kept}
-use Rattle.mrp_participant.proofs.Sendings.{sent-keeps}
-use Rattle.mrp_participant.proofs.DeclarationLemmas.{declare-registered, withdraw-registered, sent-registered, stays-at}
+use Rattle.mrp_participant.specs.{find, registered_in, after_declare, after_withdraw, periodic_row, after, is_active, takes}
+use Rattle.mrp_participant.proofs.{Changes.periodic-registered, EachKey.each-declare, EachKey.each-withdraw, EachKey.each-mapped, EachKey.each-kept, Sendings.sent-keeps, DeclarationLemmas.declare-registered, DeclarationLemmas.withdraw-registered, DeclarationLemmas.sent-registered, DeclarationLemmas.stays-at}
 use Rattle.mrp_participant.proofs.laws.registrations_stay.Goals as goal
 
 pub returns-clause-declare : goal.returns-clause-declare

@@ -1,6 +1,5 @@
-use Rattle.mrp_participant.specs.State.{after, is_active, takes}
-use Rattle.mrp_participant.proofs.Transitions.{AreRows-declare, AreRows-withdraw, AreRows-leave, AreRows-receive, AreRows-due, AreRows-periodic, AreRows-filter_mapped}
-use Rattle.mrp_participant.proofs.Sendings.{sent-keeps}
+use Rattle.mrp_participant.specs.{after, is_active, takes}
+use Rattle.mrp_participant.proofs.{Transitions.AreRows-declare, Transitions.AreRows-withdraw, Transitions.AreRows-leave, Transitions.AreRows-receive, Transitions.AreRows-due, Transitions.AreRows-periodic, Transitions.AreRows-filter_mapped, Sendings.sent-keeps}
 use Rattle.mrp_participant.proofs.laws.rows_stay_rows.Goals as goal
 
 pub returns-clause-declare : goal.returns-clause-declare

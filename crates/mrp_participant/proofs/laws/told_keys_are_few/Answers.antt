@@ -1,6 +1,4 @@
-use Rattle.mrp_participant.specs.Lookup.{key_of}
-use Rattle.mrp_participant.specs.Row.{leave_is_due}
-use Rattle.mrp_participant.specs.State.{after}
+use Rattle.mrp_participant.specs.{key_of, leave_is_due, after}
 use Rattle.mrp_participant.proofs.Few.{filter-fewer, told_few}
 use Rattle.mrp_participant.proofs.laws.told_keys_are_few.Goals as goal
 

@@ -1,4 +1,4 @@
-use Rattle.mrp_participant.specs.Lookup.{key_of}
+use Rattle.mrp_participant.specs.{key_of}
 use Rattle.mrp_participant.proofs.Changes.{told-ascend, told-are_keys}
 use Rattle.mrp_participant.proofs.laws.told_keys_ascend.Goals as goal
 

@@ -1,4 +1,4 @@
-use Rattle.mrp_participant.specs.State.{after, is_active, takes}
+use Rattle.mrp_participant.specs.{after, is_active, takes}
 use Rattle.mrp_participant.proofs.SentEvents.{taken-says, not_taken-says}
 use Rattle.mrp_participant.proofs.laws.what_a_row_says.Goals as goal
 

@@ -1,9 +1,7 @@
 use Rattle.std.proofs.Common.{◌∙◌, ap}
 use Rattle.std.specs.declared.option.Option.TheVariants.{None, Some}
-use Rattle.mrp_participant.specs.Lookup.{find}
-use Rattle.mrp_participant.specs.Row.{declared_in, registered_in, after_declare, after_withdraw, after_leave, is_leaving_in}
-use Rattle.mrp_participant.proofs.EachKey.{each-declare, each-withdraw, each-leave}
-use Rattle.mrp_participant.proofs.DeclarationLemmas.{declare-declared, withdraw-declared, leave-registered, becomes-at, becomes_if-at}
+use Rattle.mrp_participant.specs.{find, declared_in, registered_in, after_declare, after_withdraw, after_leave, is_leaving_in}
+use Rattle.mrp_participant.proofs.{EachKey.each-declare, EachKey.each-withdraw, EachKey.each-leave, DeclarationLemmas.declare-declared, DeclarationLemmas.withdraw-declared, DeclarationLemmas.leave-registered, DeclarationLemmas.becomes-at, DeclarationLemmas.becomes_if-at}
 use Rattle.mrp_participant.proofs.laws.what_is_asked_holds.Goals as goal
 
 pub returns-clause-declare : goal.returns-clause-declare

@@ -1,9 +1,7 @@
 use Rattle.std.proofs.Common.{◌∙◌, ap, sym}
-use Rattle.mrp_participant.specs.State.{after, is_active, takes}
-use Rattle.mrp_participant.specs.Sending.{is_taken, sent_event}
+use Rattle.mrp_participant.specs.{after, is_active, takes, is_taken, sent_event}
 use Rattle.std.specs.List.{filter_map}
-use Rattle.mrp_participant.proofs.Octets.{events-ascend, events-fit, events-are_some}
-use Rattle.mrp_participant.proofs.SentEvents.{tried-where_not_silent}
+use Rattle.mrp_participant.proofs.{Octets.events-ascend, Octets.events-fit, Octets.events-are_some, SentEvents.tried-where_not_silent}
 use Rattle.mrp_participant.proofs.laws.what_is_sent_is_a_pdu.Goals as goal
 
 pub returns-clause-ascending : goal.returns-clause-ascending

@@ -1,8 +1,7 @@
 use Rattle.std.proofs.Common.{ap, sym, ◌∙◌, option_map, option_and_then}
 use Rattle.std.specs.declared.option.Option.TheVariants.{Some}
-use Rattle.mrp_participant.specs.State.{after, is_active, takes, event_sent}
-use Rattle.mrp_participant.proofs.Octets.{sent_is}
-use Rattle.mrp_participant.proofs.SentEvents.{row-of_event, event-declared}
+use Rattle.mrp_participant.specs.{after, is_active, takes, event_sent}
+use Rattle.mrp_participant.proofs.{Octets.sent_is, SentEvents.row-of_event, SentEvents.event-declared}
 use Rattle.mrp_participant.proofs.laws.what_is_sent_is_declared.Goals as goal
 
 pub returns-clause-event : goal.returns-clause-event

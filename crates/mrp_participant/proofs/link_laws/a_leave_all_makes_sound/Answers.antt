@@ -1,4 +1,4 @@
-use Rattle.mrp_participant.specs.Link.{other_view}
+use Rattle.mrp_participant.specs.{other_view}
 use Rattle.mrp_participant.proofs.Links.{leave_all-sound_after}
 use Rattle.mrp_participant.proofs.link_laws.a_leave_all_makes_sound.Goals as goal
 

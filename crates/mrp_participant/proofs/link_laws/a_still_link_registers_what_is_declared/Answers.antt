@@ -1,4 +1,4 @@
-use Rattle.mrp_participant.specs.Link.{other_view}
+use Rattle.mrp_participant.specs.{other_view}
 use Rattle.mrp_participant.proofs.Links.{still-far, turned-met}
 use Rattle.mrp_participant.proofs.link_laws.a_still_link_registers_what_is_declared.Goals as goal
 

@@ -1,13 +1,9 @@
 use Rattle.std.proofs.Common.{rules, ℕ, IfOk, IfErr, length}
-use Rattle.std.specs.declared.result.Result.{Result}
-use Rattle.std.specs.declared.result.Result.TheVariants.{Ok, Err}
-use Rattle.std.specs.List.Sorted.{IsBinarySearchResult, IsSearchInRange}
-use Rattle.std.specs.declared.cmp.Ordering.{Ordering}
-use Rattle.std.specs.Cmp.{IsTotalOrder}
+use Rattle.std.specs.{declared.result.Result.Result, declared.result.Result.TheVariants.Ok, declared.result.Result.TheVariants.Err, List.Sorted.IsBinarySearchResult, List.Sorted.IsSearchInRange, declared.cmp.Ordering.Ordering, Cmp.IsTotalOrder}
 use Rattle.std.proofs.lemmas.List.Sorted.{answers_always}
 use Rattle.std.proofs.Common.{List}
 use Rattle.mrp_participant.specs.declared.row.Row.{Row}
-use Rattle.mrp_participant.specs.Lookup.{Ascends, key_of, IsRowAt, IsGapAt}
+use Rattle.mrp_participant.specs.{Ascends, key_of, IsRowAt, IsGapAt}
 use Rattle.mrp_participant.proofs.Lookups.{row_at, gap_at, rises}
 use Rattle.mrp_participant.proofs.lookup.place.Goals as goal
 

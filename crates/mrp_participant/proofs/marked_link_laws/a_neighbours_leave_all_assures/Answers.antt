@@ -1,4 +1,4 @@
-use Rattle.mrp_participant.specs.State.{is_active, none_tried}
+use Rattle.mrp_participant.specs.{is_active, none_tried}
 use Rattle.mrp_participant.proofs.MarkedLinks.{clears, assures}
 use Rattle.mrp_participant.proofs.marked_link_laws.a_neighbours_leave_all_assures.Goals as goal
 

@@ -1,6 +1,5 @@
-use Rattle.mrp_participant.specs.MarkedLink.{seen_link, other_marked_view}
-use Rattle.mrp_participant.proofs.Links.{still-far}
-use Rattle.mrp_participant.proofs.MarkedLinks.{turned-marked}
+use Rattle.mrp_participant.specs.{seen_link, other_marked_view}
+use Rattle.mrp_participant.proofs.{Links.still-far, MarkedLinks.turned-marked}
 use Rattle.mrp_participant.proofs.marked_link_laws.a_still_marked_link_registers_what_is_declared.Goals as goal
 
 pub returns-clause-far : goal.returns-clause-far

@@ -1,6 +1,6 @@
 use Rattle.std.proofs.Common.{subst, refl, sym, []}
 use Rattle.std.proofs.lemmas.List.{take_all}
-use Rattle.mrp_participant.specs.Outlook.{IsOutlook}
+use Rattle.mrp_participant.specs.{IsOutlook}
 use Rattle.mrp_participant.proofs.OutlookLemmas.{room-walked, walk-step}
 use Rattle.mrp_participant.proofs.outlook.outlook_of.Goals as goal
 

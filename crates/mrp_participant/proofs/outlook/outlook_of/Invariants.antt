@@ -1,5 +1,5 @@
 use Rattle.std.proofs.Common.{take}
-use Rattle.mrp_participant.specs.Outlook.{IsOutlook}
+use Rattle.mrp_participant.specs.{IsOutlook}
 use Rattle.mrp_participant.proofs.outlook.outlook_of.Given as goal
 
 abbrev pub invariant-loop-row : goal.invariant-loop-row

@@ -1,5 +1,5 @@
 use Rattle.std.proofs.Common.{sym, subst}
-use Rattle.mrp_participant.specs.Outlook.{Tells}
+use Rattle.mrp_participant.specs.{Tells}
 use Rattle.mrp_participant.proofs.outlook.replace_row.Goals as goal
 
 pub or_anew-requires : goal.or_anew-requires

@@ -1,5 +1,5 @@
 use Rattle.std.proofs.Common.{◌∙◌}
-use Rattle.mrp_participant.specs.Lookup.{key_of}
+use Rattle.mrp_participant.specs.{key_of}
 use Rattle.mrp_participant.proofs.Places.{at-place, past-last}
 use Rattle.mrp_participant.proofs.participant.row_key.Goals as goal
 

@@ -1,6 +1,6 @@
 use Rattle.std.proofs.Common.{◌∙◌, ap, sym}
-use Rattle.mrp_participant.specs.Row.{registered_in}
-use Rattle.mrp_participant.proofs.Places.{get-place}
+use Rattle.srp_base.proofs.Lists.{get-place}
+use Rattle.mrp_participant.specs.{registered_in}
 use Rattle.mrp_participant.proofs.StateLemmas.{found-at}
 use Rattle.mrp_participant.proofs.participant.row_registration.Goals as goal
 

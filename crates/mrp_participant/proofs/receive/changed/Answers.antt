@@ -1,8 +1,6 @@
 use Rattle.std.proofs.Common.{not}
-use Rattle.std.specs.Option.{option_eq}
-use Rattle.std.specs.declared.option.Option.TheVariants.{Some}
-use Rattle.mrp_participant.specs.Lookup.{key_of, find}
-use Rattle.mrp_participant.specs.Row.{registered_in}
+use Rattle.std.specs.{Option.option_eq, declared.option.Option.TheVariants.Some}
+use Rattle.mrp_participant.specs.{key_of, find, registered_in}
 use Rattle.mrp_participant.proofs.Places.{kept_more, passed_over, all_kept}
 use Rattle.mrp_participant.proofs.receive.changed.Goals as goal
 

@@ -1,5 +1,5 @@
 use Rattle.std.proofs.Common.{◌≡◌, ◌++◌, drop}
-use Rattle.mrp_participant.specs.State.{changed_keys}
+use Rattle.mrp_participant.specs.{changed_keys}
 use Rattle.mrp_participant.proofs.receive.changed.Given as goal
 
 abbrev pub invariant-loop-row : goal.invariant-loop-row

@@ -1,7 +1,6 @@
 use Rattle.std.proofs.Common.{◌∙◌, ap}
 use Rattle.std.proofs.lemmas.Result.{IfOk-weaker}
-use Rattle.mrp_participant.specs.Lookup.{find}
-use Rattle.mrp_participant.specs.Row.{row_after_receive}
+use Rattle.mrp_participant.specs.{find, row_after_receive}
 use Rattle.mrp_participant.proofs.Exits.{of_error}
 use Rattle.mrp_participant.proofs.receive.hear.Goals as goal
 

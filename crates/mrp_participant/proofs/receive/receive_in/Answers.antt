@@ -1,9 +1,6 @@
 use Rattle.std.proofs.Common.{◌∙◌, refl, sym, subst}
-use Rattle.mrp_participant.specs.Lookup.{Ascends, key_of}
-use Rattle.mrp_participant.specs.State.{AreRows}
-use Rattle.mrp_participant.proofs.Exits.{of_error, on_error}
-use Rattle.mrp_participant.proofs.Transitions.{AreRows-receive}
-use Rattle.mrp_participant.proofs.Hearings.{rows-received, keys-told}
+use Rattle.mrp_participant.specs.{Ascends, key_of, AreRows}
+use Rattle.mrp_participant.proofs.{Exits.of_error, Exits.on_error, Transitions.AreRows-receive, Hearings.rows-received, Hearings.keys-told}
 use Rattle.mrp_participant.proofs.receive.receive_in.Goals as goal
 
 pub hear-requires : goal.hear-requires

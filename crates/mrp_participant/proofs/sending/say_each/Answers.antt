@@ -1,6 +1,5 @@
 use Rattle.std.proofs.Common.{ap, ◌∙◌}
-use Rattle.mrp_participant.specs.SendingLimit.{is_in_room}
-use Rattle.mrp_participant.specs.Sending.{sent_event}
+use Rattle.mrp_participant.specs.{is_in_room, sent_event}
 use Rattle.mrp_participant.proofs.Places.{made_more, all_made}
 use Rattle.mrp_participant.proofs.sending.say_each.Goals as goal
 

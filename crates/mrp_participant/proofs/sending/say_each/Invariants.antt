@@ -1,7 +1,6 @@
 use Rattle.std.proofs.Common.{◌≡◌, ◌++◌, drop}
 use Rattle.std.specs.List.{filter_map}
-use Rattle.mrp_participant.specs.SendingLimit.{is_in_room}
-use Rattle.mrp_participant.specs.Sending.{sent_event}
+use Rattle.mrp_participant.specs.{is_in_room, sent_event}
 use Rattle.mrp_participant.proofs.sending.say_each.Given as goal
 
 abbrev pub invariant-loop-row : goal.invariant-loop-row

@@ -1,6 +1,5 @@
 use Rattle.std.proofs.Common.{◌-◌, length}
-use Rattle.mrp_participant.specs.SendingLimit.{is_in_room}
-use Rattle.mrp_participant.specs.Sending.{sent_row}
+use Rattle.mrp_participant.specs.{is_in_room, sent_row}
 use Rattle.mrp_participant.proofs.Thinning.{ThinsInPlace}
 use Rattle.mrp_participant.proofs.sending.step_each.Given as goal
 

@@ -1,7 +1,5 @@
 use Rattle.std.proofs.Common.{◌∙◌, ap, subst}
-use Rattle.mrp_participant.specs.Outlook.{IsOutlook}
-use Rattle.mrp_participant.specs.Sending.{order}
-use Rattle.mrp_participant.specs.SendingLimit.{first_limit}
+use Rattle.mrp_participant.specs.{IsOutlook, order, first_limit}
 use Rattle.mrp_participant.proofs.Sendings.{rows-by_limit}
 use Rattle.mrp_participant.proofs.sending.step_rows.Goals as goal
 

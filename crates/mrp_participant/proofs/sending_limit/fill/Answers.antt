@@ -1,7 +1,6 @@
 use Rattle.std.proofs.Common.{◌+◌, ◌++◌, ◌<◌, ◌≤◌, ◌∙◌, drop, refl, ap, sym, subst, arith}
 use Rattle.std.proofs.lemmas.List.{drop_all}
-use Rattle.mrp_participant.specs.Sending.{rows_of_round}
-use Rattle.mrp_participant.specs.SendingLimit.{first_limit}
+use Rattle.mrp_participant.specs.{rows_of_round, first_limit}
 use Rattle.mrp_participant.proofs.Places.{finds_room, finds_none, not_in_round}
 use Rattle.mrp_participant.proofs.sending_limit.fill.Goals as goal
 

@@ -1,7 +1,6 @@
 use Rattle.std.proofs.Common.{◌≡◌, ◌≤◌, ◌++◌, List, drop}
 use Rattle.mrp_participant.specs.declared.row.Row.{Row}
-use Rattle.mrp_participant.specs.Sending.{rows_of_round}
-use Rattle.mrp_participant.specs.SendingLimit.{first_limit}
+use Rattle.mrp_participant.specs.{rows_of_round, first_limit}
 use Rattle.mrp_participant.proofs.sending_limit.fill.Given as goal
 
 abbrev pub invariant-loop-row : goal.invariant-loop-row

@@ -3,8 +3,7 @@ use Rattle.std.proofs.lemmas.List.{append-nil}
 use Rattle.std.specs.declared.option.Option.{Option}
 use Rattle.mrp_participant.specs.declared.row.Row.{Row}
 use Rattle.mrp_participant.specs.declared.sending_limit.SendingLimit.{SendingLimit}
-use Rattle.mrp_participant.specs.Sending.{rows_of_round, order}
-use Rattle.mrp_participant.specs.SendingLimit.{first_limit}
+use Rattle.mrp_participant.specs.{rows_of_round, order, first_limit}
 use Rattle.mrp_participant.proofs.sending_limit.find_limit.Goals as goal
 
 -- three rounds, one after the other

@@ -1,6 +1,5 @@
 use Rattle.std.proofs.Common.{subst}
-use Rattle.mrp_participant.specs.Outlook.{IsOutlook}
-use Rattle.mrp_participant.specs.Row.{periodic_row}
+use Rattle.mrp_participant.specs.{IsOutlook, periodic_row}
 use Rattle.mrp_participant.proofs.Changed.{changed-in_place, changed-whole}
 use Rattle.mrp_participant.proofs.timers.all_periodic.Goals as goal
 

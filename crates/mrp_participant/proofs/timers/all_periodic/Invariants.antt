@@ -1,5 +1,5 @@
 use Rattle.std.proofs.Common.{◌≡◌, ◌++◌, map, take, drop}
-use Rattle.mrp_participant.specs.Row.{periodic_row}
+use Rattle.mrp_participant.specs.{periodic_row}
 use Rattle.mrp_participant.proofs.timers.all_periodic.Given as goal
 
 abbrev pub invariant-loop-row : goal.invariant-loop-row

@@ -1,10 +1,7 @@
 use Rattle.std.proofs.Common.{◌≡◌, ◌∙◌, ◌++◌, true, false, refl, sym, ap, subst, map, filter}
 use Rattle.std.specs.List.{list_any}
-use Rattle.mrp_participant.specs.Lookup.{key_of}
-use Rattle.mrp_participant.specs.Outlook.{IsOutlook}
-use Rattle.mrp_participant.specs.Row.{leave_is_due}
-use Rattle.mrp_participant.proofs.Changes.{none-leave}
-use Rattle.mrp_participant.proofs.OutlookLemmas.{due-says}
+use Rattle.mrp_participant.specs.{key_of, IsOutlook, leave_is_due}
+use Rattle.mrp_participant.proofs.{Changes.none-leave, OutlookLemmas.due-says}
 use Rattle.mrp_participant.proofs.timers.fire_leaves.Goals as goal
 
 pub returns-then-not-has_due-clause-keys : goal.returns-then-not-has_due-clause-keys

@@ -1,6 +1,6 @@
 use Rattle.std.proofs.Common.{◌∙◌, ◌++◌, if◌then◌else◌, refl, ap, arith}
 use Rattle.std.specs.declared.option.Option.TheVariants.{Some, None}
-use Rattle.mrp_participant.specs.Row.{leave_is_due}
+use Rattle.mrp_participant.specs.{leave_is_due}
 use Rattle.mrp_participant.proofs.Places.{made_more, all_made, keys_of_leaving}
 use Rattle.mrp_participant.proofs.timers.keys_that_leave.Goals as goal
 

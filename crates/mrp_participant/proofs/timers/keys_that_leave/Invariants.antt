@@ -1,8 +1,6 @@
 use Rattle.std.proofs.Common.{◌≡◌, ◌≤◌, ◌+◌, ◌++◌, drop, if◌then◌else◌}
-use Rattle.std.specs.Vec.{vec_len, vec_capacity}
-use Rattle.std.specs.List.{filter_map}
-use Rattle.std.specs.declared.option.Option.TheVariants.{Some, None}
-use Rattle.mrp_participant.specs.Row.{leave_is_due}
+use Rattle.std.specs.{Vec.vec_len, Vec.vec_capacity, List.filter_map, declared.option.Option.TheVariants.Some, declared.option.Option.TheVariants.None}
+use Rattle.mrp_participant.specs.{leave_is_due}
 use Rattle.mrp_participant.proofs.timers.keys_that_leave.Given as goal
 
 abbrev pub invariant-loop-row : goal.invariant-loop-row

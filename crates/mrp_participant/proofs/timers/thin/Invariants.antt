@@ -1,5 +1,5 @@
 use Rattle.std.proofs.Common.{◌-◌, length}
-use Rattle.mrp_participant.specs.Row.{after_leave_due}
+use Rattle.mrp_participant.specs.{after_leave_due}
 use Rattle.mrp_participant.proofs.Thinning.{ThinsInPlace}
 use Rattle.mrp_participant.proofs.timers.thin.Given as goal
 

@@ -1,10 +1,6 @@
 use Rattle.std.proofs.Common.{◌≡◌, sym, subst, ◌∙◌}
-use Rattle.mrpdu_codec.specs.declared.error.DecodeErr.TheVariants.{Malformed}
-use Rattle.mrpdu_codec.specs.declared.raw.RawPdu.{RawPdu}
-use Rattle.mrpdu_codec.specs.Grammar.{Spells}
-use Rattle.mrpdu_codec.specs.Raw.{pdu_in}
-use Rattle.mrpdu_codec.proofs.ErrorLemmas.{pdu_within, pdu_spelled, pdu_broken, reading_ok, answers_err}
-use Rattle.mrpdu_codec.proofs.Formed.{pdu_formed}
+use Rattle.mrpdu_codec.specs.{Malformed, RawPdu, Spells, pdu_in}
+use Rattle.mrpdu_codec.proofs.{ErrorLemmas.pdu_within, ErrorLemmas.pdu_spelled, ErrorLemmas.pdu_broken, ErrorLemmas.reading_ok, ErrorLemmas.answers_err, Formed.pdu_formed}
 use Rattle.mrpdu_codec.proofs.decoding.decode_in_place.Goals as goal
 
 pub placed-requires-clause-within : goal.placed-requires-clause-within

@@ -1,5 +1,5 @@
 use Rattle.std.proofs.Common.{◌≡◌, ◌++◌, length}
-use Rattle.mrpdu_codec.specs.Canonical.{pack_events}
+use Rattle.mrpdu_codec.specs.{pack_events}
 use Rattle.mrpdu_codec.proofs.encoding.put_events.Given as goal
 
 abbrev pub invariant-more : goal.invariant-more

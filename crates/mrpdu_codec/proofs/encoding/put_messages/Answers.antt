@@ -1,7 +1,6 @@
 use Rattle.std.proofs.Common.{◌++◌, ap, sym, ◌∙◌, map}
 use Rattle.std.proofs.lemmas.List.{append-nil, take_all}
-use Rattle.mrpdu_codec.specs.Tree.{message_octets, messages_octets}
-use Rattle.mrpdu_codec.specs.Canonical.{message_for, message_fits}
+use Rattle.mrpdu_codec.specs.{message_octets, messages_octets, message_for, message_fits}
 use Rattle.mrpdu_codec.proofs.Loops.{spelled_more, all-at, of_error}
 use Rattle.mrpdu_codec.proofs.encoding.put_messages.Goals as goal
 

@@ -1,6 +1,6 @@
 use Rattle.std.proofs.Common.{◌≡◌, ◌++◌, true, nat_le, length}
 use Rattle.std.specs.List.{list_all}
-use Rattle.mrpdu_codec.specs.Canonical.{pack_params}
+use Rattle.mrpdu_codec.specs.{pack_params}
 use Rattle.mrpdu_codec.proofs.encoding.put_params.Given as goal
 
 abbrev pub invariant-more : goal.invariant-more

@@ -1,6 +1,5 @@
 use Rattle.std.proofs.Common.{◌≡◌, ◌++◌, take}
-use Rattle.mrpdu_codec.specs.Tree.{vectors_octets}
-use Rattle.mrpdu_codec.specs.Canonical.{vectors_for}
+use Rattle.mrpdu_codec.specs.{vectors_octets, vectors_for}
 use Rattle.mrpdu_codec.proofs.encoding.put_vectors.Given as goal
 
 abbrev pub invariant-loop-v : goal.invariant-loop-v

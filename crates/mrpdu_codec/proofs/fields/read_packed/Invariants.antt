@@ -1,5 +1,5 @@
 use Rattle.std.proofs.Common.{◌≤◌, length, take}
-use Rattle.mrpdu_codec.specs.Tree.{AllUpTo}
+use Rattle.mrpdu_codec.specs.{AllUpTo}
 use Rattle.mrpdu_codec.proofs.fields.read_packed.Given as goal
 
 abbrev pub invariant-loop-i : goal.invariant-loop-i

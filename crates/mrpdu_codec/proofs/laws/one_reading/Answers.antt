@@ -1,10 +1,6 @@
 use Rattle.std.proofs.Common.{◌≡◌, ℕ, ◌-◌, ◌≤◌, List, length, Result, Ok, Err, MatchResult, ◌⊎◌, inl, inr, arith}
-use Rattle.mrpdu_codec.specs.declared.form.AppForm.{AppForm}
-use Rattle.mrpdu_codec.specs.declared.pdu.Pdu.{Pdu}
-use Rattle.mrpdu_codec.specs.Grammar.{Spells, Breaks}
-use Rattle.mrpdu_codec.specs.Reading.{pdu_at}
-use Rattle.mrpdu_codec.proofs.ReadMessages.{reading_holds}
-use Rattle.mrpdu_codec.proofs.SpelledMessages.{spells_reads, breaks_reads}
+use Rattle.mrpdu_codec.specs.{AppForm, Pdu, Spells, Breaks, pdu_at}
+use Rattle.mrpdu_codec.proofs.{ReadMessages.reading_holds, SpelledMessages.spells_reads, SpelledMessages.breaks_reads}
 use Rattle.mrpdu_codec.proofs.laws.one_reading.Goals as goal
 
 either : (form : AppForm) (octets : List ℕ) (read : Result Pdu ℕ) → MatchResult read (λ pdu. Spells form octets pdu) (λ left. (left ≤ length octets) × Breaks form octets (length octets - left))

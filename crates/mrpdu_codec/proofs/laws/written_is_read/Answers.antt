@@ -1,5 +1,4 @@
-use Rattle.mrpdu_codec.proofs.RoundTrip.{spells_again}
-use Rattle.mrpdu_codec.proofs.Reread.{reread}
+use Rattle.mrpdu_codec.proofs.{RoundTrip.spells_again, Reread.reread}
 use Rattle.mrpdu_codec.proofs.laws.written_is_read.Goals as goal
 
 pub returns-clause-spelled : goal.returns-clause-spelled

@@ -1,7 +1,6 @@
 use Rattle.std.proofs.Common.{◌≡◌, map, Some, Ok}
 use Rattle.std.proofs.lemmas.Result.{err_from_is_err_and}
-use Rattle.mrpdu_codec.specs.Raw.{message_in, messages_in}
-use Rattle.mrpdu_codec.specs.Reading.{type_at}
+use Rattle.mrpdu_codec.specs.{message_in, messages_in, type_at}
 use Rattle.mrpdu_codec.proofs.MessageLoops.{step_falls, goes_on, fails_at_type, fails_in_message, ends}
 use Rattle.mrpdu_codec.proofs.messages.read_messages.Goals as goal
 

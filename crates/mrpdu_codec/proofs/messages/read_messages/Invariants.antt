@@ -1,6 +1,5 @@
 use Rattle.std.proofs.Common.{◌≡◌, length, map}
-use Rattle.mrpdu_codec.specs.Raw.{message_in}
-use Rattle.mrpdu_codec.specs.Reading.{messages_of}
+use Rattle.mrpdu_codec.specs.{message_in, messages_of}
 use Rattle.mrpdu_codec.proofs.MessageLoops.{with_messages}
 use Rattle.mrpdu_codec.proofs.messages.read_messages.Given as goal
 

@@ -1,5 +1,5 @@
 use Rattle.std.proofs.Common.{◌≡◌, length}
-use Rattle.mrpdu_codec.specs.Places.{behind_vectors}
+use Rattle.mrpdu_codec.specs.{behind_vectors}
 use Rattle.mrpdu_codec.proofs.places.behind_vectors.Given as goal
 
 abbrev pub invariant-more : goal.invariant-more

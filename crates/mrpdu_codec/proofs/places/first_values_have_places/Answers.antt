@@ -1,5 +1,4 @@
-use Rattle.mrpdu_codec.proofs.PlacesOfTree.{tree_walked}
-use Rattle.mrpdu_codec.proofs.PlacesStand.{first_values_stand}
+use Rattle.mrpdu_codec.proofs.{PlacesOfTree.tree_walked, PlacesStand.first_values_stand}
 use Rattle.mrpdu_codec.proofs.places.first_values_have_places.Goals as goal
 
 pub returns-clause-of_tree : goal.returns-clause-of_tree

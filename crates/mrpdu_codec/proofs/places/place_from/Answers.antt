@@ -1,5 +1,5 @@
 use Rattle.std.proofs.Common.{◌≡◌, length, sym, ap, ◌∙◌, arith}
-use Rattle.mrpdu_codec.specs.Places.{behind_body}
+use Rattle.mrpdu_codec.specs.{behind_body}
 use Rattle.mrpdu_codec.proofs.PlacesLemmas.{message_here, message_later, message_none, kind_falls, behind_body_falls}
 use Rattle.mrpdu_codec.proofs.places.place_from.Goals as goal
 

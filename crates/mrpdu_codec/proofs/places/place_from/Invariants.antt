@@ -1,5 +1,5 @@
 use Rattle.std.proofs.Common.{◌≡◌, ◌≤◌, length}
-use Rattle.mrpdu_codec.specs.Places.{places_from, first_value_place}
+use Rattle.mrpdu_codec.specs.{places_from, first_value_place}
 use Rattle.mrpdu_codec.proofs.places.place_from.Given as goal
 
 abbrev pub invariant-more : goal.invariant-more

@@ -1,6 +1,6 @@
 use Rattle.std.proofs.Common.{sym, ap, ◌∙◌, arith}
 use Rattle.std.specs.Prelude.{ℕ, slice_get}
-use Rattle.mrpdu_codec.specs.Places.{places_in}
+use Rattle.mrpdu_codec.specs.{places_in}
 use Rattle.mrpdu_codec.proofs.PlacesLemmas.{place_here, place_later, place_none, header_falls, drop_falls}
 use Rattle.mrpdu_codec.proofs.places.place_in.Goals as goal
 

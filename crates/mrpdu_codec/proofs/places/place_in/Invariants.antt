@@ -1,5 +1,5 @@
 use Rattle.std.proofs.Common.{◌≡◌, ◌≤◌, length, slice_get}
-use Rattle.mrpdu_codec.specs.Places.{places_in}
+use Rattle.mrpdu_codec.specs.{places_in}
 use Rattle.mrpdu_codec.proofs.places.place_in.Given as goal
 
 abbrev pub invariant-more : goal.invariant-more

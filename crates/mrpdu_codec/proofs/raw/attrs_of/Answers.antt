@@ -1,6 +1,6 @@
 use Rattle.std.proofs.Common.{ap, ◌∙◌, map}
 use Rattle.std.proofs.lemmas.List.{take_all}
-use Rattle.mrpdu_codec.specs.Raw.{attr_in}
+use Rattle.mrpdu_codec.specs.{attr_in}
 use Rattle.mrpdu_codec.proofs.Loops.{mapped_more, of_error}
 use Rattle.mrpdu_codec.proofs.raw.attrs_of.Goals as goal
 

@@ -1,5 +1,5 @@
 use Rattle.std.proofs.Common.{◌≡◌, take}
-use Rattle.mrpdu_codec.specs.Raw.{attrs_in}
+use Rattle.mrpdu_codec.specs.{attrs_in}
 use Rattle.mrpdu_codec.proofs.raw.attrs_of.Given as goal
 
 abbrev pub invariant-loop-raw : goal.invariant-loop-raw

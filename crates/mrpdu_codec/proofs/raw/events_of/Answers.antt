@@ -2,7 +2,7 @@ use Rattle.std.proofs.Common.{List, ap, ◌∙◌, ◌++◌, take}
 use Rattle.std.proofs.lemmas.List.{take_all}
 use Rattle.std.specs.List.{flat_map}
 use Rattle.srp_base.specs.declared.mrp.MrpEvent.{MrpEvent}
-use Rattle.mrpdu_codec.specs.Octets.{three_events}
+use Rattle.mrpdu_codec.specs.{three_events}
 use Rattle.mrpdu_codec.proofs.Loops.{unpacked_more, of_error}
 use Rattle.mrpdu_codec.proofs.raw.events_of.Goals as goal
 

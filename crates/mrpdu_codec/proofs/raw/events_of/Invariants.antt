@@ -1,6 +1,6 @@
 use Rattle.std.proofs.Common.{◌≡◌, ◌≤◌, length, take}
 use Rattle.std.specs.List.{flat_map}
-use Rattle.mrpdu_codec.specs.Octets.{three_events}
+use Rattle.mrpdu_codec.specs.{three_events}
 use Rattle.mrpdu_codec.proofs.raw.events_of.Given as goal
 
 abbrev pub invariant-loop-octet : goal.invariant-loop-octet

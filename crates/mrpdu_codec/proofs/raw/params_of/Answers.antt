@@ -1,7 +1,7 @@
 use Rattle.std.proofs.Common.{ℕ, List, ap, ◌∙◌, ◌++◌, take}
 use Rattle.std.proofs.lemmas.List.{take_all}
 use Rattle.std.specs.List.{flat_map}
-use Rattle.mrpdu_codec.specs.Octets.{four_params}
+use Rattle.mrpdu_codec.specs.{four_params}
 use Rattle.mrpdu_codec.proofs.Loops.{unpacked_more, of_error}
 use Rattle.mrpdu_codec.proofs.raw.params_of.Goals as goal
 

@@ -1,6 +1,6 @@
 use Rattle.std.proofs.Common.{◌≡◌, ◌≤◌, length, take}
 use Rattle.std.specs.List.{flat_map}
-use Rattle.mrpdu_codec.specs.Octets.{four_params}
+use Rattle.mrpdu_codec.specs.{four_params}
 use Rattle.mrpdu_codec.proofs.raw.params_of.Given as goal
 
 abbrev pub invariant-loop-octet : goal.invariant-loop-octet

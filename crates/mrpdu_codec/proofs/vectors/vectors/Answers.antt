@@ -1,6 +1,6 @@
 use Rattle.std.proofs.Common.{sym, ◌∙◌}
 use Rattle.std.proofs.lemmas.Result.{err_from_is_err_and}
-use Rattle.mrpdu_codec.specs.Raw.{vector_in, attrs_in}
+use Rattle.mrpdu_codec.specs.{vector_in, attrs_in}
 use Rattle.mrpdu_codec.proofs.VectorLoops.{falls, list_goes_on, list_fails, list_ends}
 use Rattle.mrpdu_codec.proofs.vectors.vectors.Goals as goal
 

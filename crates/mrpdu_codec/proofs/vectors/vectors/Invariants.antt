@@ -1,7 +1,5 @@
 use Rattle.std.proofs.Common.{◌≡◌, length}
-use Rattle.mrpdu_codec.specs.Raw.{attrs_in}
-use Rattle.mrpdu_codec.specs.Reading.{vectors_of}
-use Rattle.mrpdu_codec.specs.ReadErr.{list_kept}
+use Rattle.mrpdu_codec.specs.{attrs_in, vectors_of, list_kept}
 use Rattle.mrpdu_codec.proofs.VectorLoops.{with_front}
 use Rattle.mrpdu_codec.proofs.vectors.vectors.Given as goal
 

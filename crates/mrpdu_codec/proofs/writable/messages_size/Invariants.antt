@@ -1,6 +1,5 @@
 use Rattle.std.proofs.Common.{◌≡◌, ◌-◌, ◌^◌, min, length, map, take}
-use Rattle.mrpdu_codec.specs.Tree.{messages_octets}
-use Rattle.mrpdu_codec.specs.Canonical.{message_for}
+use Rattle.mrpdu_codec.specs.{messages_octets, message_for}
 use Rattle.mrpdu_codec.proofs.writable.messages_size.Given as goal
 
 abbrev pub invariant-loop-message : goal.invariant-loop-message

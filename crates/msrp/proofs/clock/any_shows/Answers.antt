@@ -1,8 +1,7 @@
 use Rattle.std.proofs.Common.{◌∙◌, sym}
-use Rattle.msrp.proofs.InPlace.{list_any-map}
-use Rattle.msrp.specs.Side.{shows_at}
+use Rattle.srp_base.proofs.Lists.{list_any-map}
+use Rattle.msrp.specs.{shows_at, PortHolding}
 use Rattle.msrp.specs.PortState.{PortState}
-use Rattle.msrp.specs.Holding.{PortHolding}
 use Rattle.msrp.proofs.clock.any_shows.Goals as goal
 
 pub returns : goal.returns

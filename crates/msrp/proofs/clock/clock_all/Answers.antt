@@ -2,11 +2,10 @@ use Rattle.std.proofs.Common.{◌∙◌, ◌≤◌, ◌<◌, ◌++◌, ℕ, zero
 use Rattle.std.specs.Prelude.{slice_index_or, slice_set}
 use Rattle.std.specs.List.{AllByRecursion}
 use Rattle.std.proofs.lemmas.List.Edits.{map_over_more}
+use Rattle.srp_base.proofs.Lists.{mapped_length}
 use Rattle.msrp.specs.PortState.{PortState}
-use Rattle.msrp.specs.Holding.{PortHolding, ports_in}
-use Rattle.msrp.specs.Side.{clocked_port}
+use Rattle.msrp.specs.{PortHolding, ports_in, clocked_port}
 use Rattle.msrp.proofs.InPlace.{state-read, states-set}
-use Rattle.msrp.proofs.Places.{mapped_length}
 use Rattle.msrp.proofs.clock.clock_all.Goals as goal
 
 -- the port that comes next is as it was

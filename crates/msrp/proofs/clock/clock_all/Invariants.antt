@@ -1,6 +1,5 @@
 use Rattle.std.proofs.Common.{◌≡◌, ◌++◌, take, drop, map}
-use Rattle.msrp.specs.Holding.{ports_in}
-use Rattle.msrp.specs.Side.{clocked_port}
+use Rattle.msrp.specs.{ports_in, clocked_port}
 use Rattle.msrp.proofs.clock.clock_all.Given as goal
 
 -- the ports so far are clocked, and the others are as they were

@@ -2,10 +2,8 @@ use Rattle.std.proofs.Common.{◌≡◌, ◌∙◌, ◌≤◌, ◌<◌, length, 
 use Rattle.std.specs.Prelude.{slice_get, Some}
 use Rattle.std.proofs.Math.ListN.{length-set}
 use Rattle.std.proofs.lemmas.Option.{slice_get_read}
-use Rattle.msrp.specs.Holding.{ports_in}
-use Rattle.msrp.specs.Settling.{talker_keys}
-use Rattle.msrp.proofs.Clocked.{all_shown, left_room, next_room, show_more}
-use Rattle.msrp.proofs.InPlace.{state_is}
+use Rattle.msrp.specs.{ports_in, talker_keys}
+use Rattle.msrp.proofs.{Clocked.all_shown, Clocked.left_room, Clocked.next_room, Clocked.show_more, InPlace.state_is}
 use Rattle.msrp.proofs.clock.show_all.Goals as goal
 
 pub loop-place-init : goal.loop-place-init

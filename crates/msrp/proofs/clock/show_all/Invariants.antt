@@ -1,8 +1,6 @@
 use Rattle.std.proofs.Common.{◌≡◌, ◌++◌, length, take, drop}
 use Rattle.attribute_propagation.specs.Ports.{HasRoom, keys_in}
-use Rattle.msrp.specs.Holding.{ports_in}
-use Rattle.msrp.specs.Settling.{talker_keys}
-use Rattle.msrp.specs.Side.{clocked_sets}
+use Rattle.msrp.specs.{ports_in, talker_keys, clocked_sets}
 use Rattle.msrp.proofs.clock.show_all.Given as goal
 
 -- the sets so far and what the clock makes of those that are left are all, and those that are left have room

@@ -1,15 +1,13 @@
 use Rattle.std.proofs.Common.{◌≡◌, ◌&&◌, true, List, [], if◌then◌else◌, length, ap, sym, ◌∙◌, arith}
 use Rattle.std.specs.Prelude.{slice_get, Some}
 use Rattle.std.specs.List.{list_any}
+use Rattle.srp_base.proofs.{Arithmetic.on_err, Options.one_some, Options.some_is}
 use Rattle.mrp_participant.specs.State.{due_count, due_state, left_keys}
 use Rattle.attribute_propagation.specs.Ports.{count_of, keys_in}
 use Rattle.msrp_codec.specs.declared.pdu.MsrpKey.{MsrpKey}
 use Rattle.msrp.specs.Part.{Part}
-use Rattle.msrp.specs.Domain.{are_counted}
-use Rattle.msrp.specs.Holding.{PortHolding, ports_in}
-use Rattle.msrp.specs.Settling.{is_domain, is_domain_leaving, known_keys, told_sets}
-use Rattle.msrp.proofs.InPlace.{fewer, known_there, left_leaving, on_err, port_is, same_states, state_is, told_is}
-use Rattle.msrp.proofs.Places.{one_some, some_is}
+use Rattle.msrp.specs.{are_counted, PortHolding, ports_in, is_domain, is_domain_leaving, known_keys, told_sets}
+use Rattle.msrp.proofs.InPlace.{fewer, known_there, left_leaving, port_is, same_states, state_is, told_is}
 use Rattle.msrp.proofs.in_place.fire_at.Goals as goal
 
 pub returns-in_err-fired-clause-ports : goal.returns-in_err-fired-clause-ports

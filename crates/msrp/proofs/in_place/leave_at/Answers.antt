@@ -1,17 +1,11 @@
 use Rattle.std.proofs.Common.{◌≡◌, ◌&&◌, List, [], ◌∷◌, if◌then◌else◌, ap, sym, ◌∙◌}
 use Rattle.std.specs.Prelude.{slice_get, Some}
-use Rattle.mrp_participant.specs.Lookup.{find}
-use Rattle.mrp_participant.specs.Row.{is_leaving_in}
-use Rattle.mrp_participant.specs.State.{left_state}
+use Rattle.srp_base.proofs.Options.{one_some, some_is}
+use Rattle.mrp_participant.specs.{Lookup.find, Row.is_leaving_in, State.left_state}
 use Rattle.attribute_propagation.specs.Ports.{keys_in}
 use Rattle.msrp_codec.specs.declared.pdu.MsrpKey.{MsrpKey}
-use Rattle.msrp.specs.Part.{key_cmp}
-use Rattle.msrp.specs.Domain.{are_counted}
-use Rattle.msrp.specs.Holding.{PortHolding, ports_in}
-use Rattle.msrp.specs.Settling.{known_keys, told_sets}
-use Rattle.msrp.specs.Side.{left_key}
+use Rattle.msrp.specs.{key_cmp, are_counted, PortHolding, ports_in, known_keys, told_sets, left_key}
 use Rattle.msrp.proofs.InPlace.{known_there, port_is, state_is, told_is}
-use Rattle.msrp.proofs.Places.{one_some, some_is}
 use Rattle.msrp.proofs.in_place.leave_at.Goals as goal
 
 pub returns-clause-ok : goal.returns-clause-ok

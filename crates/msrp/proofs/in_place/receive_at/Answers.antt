@@ -1,17 +1,13 @@
 use Rattle.std.proofs.Common.{◌≡◌, ◌&&◌, true, List, [], if◌then◌else◌, length, ap, sym, ◌∙◌, arith}
 use Rattle.std.specs.Prelude.{slice_get, Some}
 use Rattle.std.specs.List.{list_any}
+use Rattle.srp_base.proofs.{Arithmetic.on_err, Lists.each-get, Options.one_some}
 use Rattle.mrp_participant.specs.State.{AreRows, changed_keys}
 use Rattle.attribute_propagation.specs.Ports.{keys_in}
 use Rattle.msrp_codec.specs.declared.pdu.MsrpKey.{MsrpKey}
 use Rattle.msrp.specs.PortState.{PortState}
-use Rattle.msrp.specs.Part.{key_cmp, received_part, same_content, told_by_receipt}
-use Rattle.msrp.specs.Domain.{are_counted}
-use Rattle.msrp.specs.Holding.{PortHolding, ports_in}
-use Rattle.msrp.specs.Settling.{is_domain, known_keys, told_sets}
-use Rattle.msrp.proofs.Contents.{MsrpHeard}
-use Rattle.msrp.proofs.InPlace.{fewer, known_there, on_err, port_is, same_states, state_is, told_heard, told_is}
-use Rattle.msrp.proofs.Places.{each-get, one_some}
+use Rattle.msrp.specs.{key_cmp, received_part, same_content, told_by_receipt, are_counted, PortHolding, ports_in, is_domain, known_keys, told_sets}
+use Rattle.msrp.proofs.{Contents.MsrpHeard, InPlace.fewer, InPlace.known_there, InPlace.port_is, InPlace.same_states, InPlace.state_is, InPlace.told_heard, InPlace.told_is}
 use Rattle.msrp.proofs.in_place.receive_at.Goals as goal
 
 pub returns-in_err-told-clause-ports : goal.returns-in_err-told-clause-ports

@@ -1,4 +1,4 @@
-use Rattle.msrp.specs.Part.{sent_part}
+use Rattle.msrp.specs.{sent_part}
 use Rattle.msrp.proofs.InPlace.{changed_is}
 use Rattle.msrp.proofs.in_place.sent_at.Goals as goal
 

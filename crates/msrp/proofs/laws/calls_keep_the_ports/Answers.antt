@@ -1,7 +1,7 @@
 use Rattle.std.proofs.Common.{false}
 use Rattle.mrp_participant.specs.State.{due_state, leave_all_state, left_keys, left_state, periodic_state}
-use Rattle.msrp.specs.Part.{Part, key_cmp, received_part, sent_part, told_by_receipt}
-use Rattle.msrp.specs.Side.{left_key}
+use Rattle.msrp.specs.Part.{Part}
+use Rattle.msrp.specs.{key_cmp, received_part, sent_part, told_by_receipt, left_key}
 use Rattle.msrp.proofs.Setups.{same_count, setups-clocked, setups-replaced, setups-requested, setups-retold, setups-settled}
 use Rattle.msrp.proofs.laws.calls_keep_the_ports.Goals as goal
 

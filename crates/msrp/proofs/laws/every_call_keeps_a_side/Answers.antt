@@ -1,15 +1,10 @@
 use Rattle.std.proofs.Common.{false, refl}
 use Rattle.std.specs.Prelude.{slice_get}
-use Rattle.mrp_participant.specs.Lookup.{find}
-use Rattle.mrp_participant.specs.Row.{after_leave}
-use Rattle.mrp_participant.specs.State.{after, due_state, is_active, is_periodic_due, leave_all_state, left_keys, left_state, periodic_state, takes}
+use Rattle.mrp_participant.specs.{Lookup.find, Row.after_leave, State.after, State.due_state, State.is_active, State.is_periodic_due, State.leave_all_state, State.left_keys, State.left_state, State.periodic_state, State.takes}
 use Rattle.msrp_codec.specs.Content.{Belongs, base_octets, octets_of}
-use Rattle.msrp.specs.Part.{Part, key_cmp, received_part, sent_part, told_by_receipt}
-use Rattle.msrp.specs.Side.{left_key, with_port_at, with_told_port, with_part}
-use Rattle.msrp.proofs.Clocked.{Laws, kept-clocked}
-use Rattle.msrp.proofs.Contents.{left_own, own-changed, own-due, own-periodic, own-received, own-sent, own_row}
-use Rattle.msrp.proofs.Keeping.{kept-at, kept-heard, kept-replaced, port_kept}
-use Rattle.msrp.proofs.Telling.{leaving_told}
+use Rattle.msrp.specs.Part.{Part}
+use Rattle.msrp.specs.{key_cmp, received_part, sent_part, told_by_receipt, left_key, with_port_at, with_told_port, with_part}
+use Rattle.msrp.proofs.{Clocked.Laws, Clocked.kept-clocked, Contents.left_own, Contents.own-changed, Contents.own-due, Contents.own-periodic, Contents.own-received, Contents.own-sent, Contents.own_row, Keeping.kept-at, Keeping.kept-heard, Keeping.kept-replaced, Keeping.port_kept, Telling.leaving_told}
 use Rattle.msrp.proofs.laws.every_call_keeps_a_side.Goals as goal
 
 pub returns-clause-receive : goal.returns-clause-receive

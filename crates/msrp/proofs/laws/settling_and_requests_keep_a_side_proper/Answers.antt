@@ -1,8 +1,4 @@
-use Rattle.msrp.proofs.Clocked.{Laws}
-use Rattle.msrp.proofs.Ledgers.{BookLaws}
-use Rattle.msrp.proofs.Participants.{PartLaws}
-use Rattle.msrp.proofs.Settled.{MoveLaws}
-use Rattle.msrp.proofs.ProperLemmas.{proper-clocked, proper-requested, proper-settled}
+use Rattle.msrp.proofs.{Clocked.Laws, Ledgers.BookLaws, Participants.PartLaws, Settled.MoveLaws, ProperLemmas.proper-clocked, ProperLemmas.proper-requested, ProperLemmas.proper-settled}
 use Rattle.msrp.proofs.laws.settling_and_requests_keep_a_side_proper.Goals as goal
 
 pub returns-clause-settle : goal.returns-clause-settle

@@ -1,12 +1,8 @@
 use Rattle.std.proofs.Common.{refl, arith}
-use Rattle.mrp_participant.specs.Lookup.{same}
-use Rattle.mrp_participant.specs.State.{is_active, sent_events}
-use Rattle.msrp_codec.specs.Content.{Belongs, base_octets, octets_of}
-use Rattle.msrp_codec.specs.Writing.{AreInRange, IsWritable}
-use Rattle.msrp.specs.Part.{key_cmp, pdu_sent}
-use Rattle.msrp.proofs.Contents.{own_row}
-use Rattle.msrp.proofs.Ranges.{IsWithin, range_row}
-use Rattle.msrp.proofs.Said.{all_said, in_order, one_at_most, says_some}
+use Rattle.mrp_participant.specs.{Lookup.same, State.is_active, State.sent_events}
+use Rattle.msrp_codec.specs.{Content.Belongs, Content.base_octets, Content.octets_of, Writing.AreInRange, Writing.IsWritable}
+use Rattle.msrp.specs.{key_cmp, pdu_sent}
+use Rattle.msrp.proofs.{Contents.own_row, Ranges.IsWithin, Ranges.range_row, Said.all_said, Said.in_order, Said.one_at_most, Said.says_some}
 use Rattle.msrp.proofs.laws.what_is_sent_is_read.Goals as goal
 
 pub returns-clause-written : goal.returns-clause-written

@@ -1,6 +1,5 @@
 use Rattle.std.proofs.Common.{◌≡◌, ◌++◌, drop, map}
-use Rattle.msrp.specs.Holding.{ports_in}
-use Rattle.msrp.specs.Plan.{asked_at}
+use Rattle.msrp.specs.{ports_in, asked_at}
 use Rattle.msrp.proofs.plan.asked_of.Given as goal
 
 -- what was put there, with what is asked for the streams that are left, is all

@@ -1,17 +1,13 @@
 use Rattle.std.proofs.Common.{rules, ◌≡◌, ◌≤◌, ◌<◌, ◌+◌, ℕ, List, [], length, map, ap, sym, subst, ◌∙◌, arith}
 use Rattle.std.specs.Prelude.{Result, Ok, Err, IfOk, vec_capacity, vec_len}
+use Rattle.srp_base.proofs.Lists.{mapped_length}
 use Rattle.srp_base.specs.declared.streams.Talker.{Talker}
 use Rattle.stream_importance.specs.declared.entry.Entry.{Entry}
-use Rattle.port_ledger.specs.Book.{Book}
-use Rattle.port_ledger.specs.Decision.{booked_of, IsAscending}
+use Rattle.port_ledger.specs.{Book.Book, Decision.booked_of, Decision.IsAscending}
 use Rattle.msrp_codec.specs.declared.pdu.MsrpKey.{MsrpKey}
-use Rattle.msrp.specs.declared.plan.Asked.{Asked}
+use Rattle.msrp.specs.{Asked, PortHolding, ports_in, IsPlan, asked_at, streams_in, talker_keys}
 use Rattle.msrp.specs.declared.plan.Plan.{Plan}
 use Rattle.msrp.specs.PortState.{PortState}
-use Rattle.msrp.specs.Holding.{PortHolding, ports_in}
-use Rattle.msrp.specs.Plan.{IsPlan, asked_at}
-use Rattle.msrp.specs.Settling.{streams_in, talker_keys}
-use Rattle.msrp.proofs.Places.{mapped_length}
 use Rattle.msrp.proofs.plan.plan_of.Goals as goal
 
 planned : {E : Type 0} (at : ℕ) (talks : List Talker) (ports : List PortState) (ks : List MsrpKey) (port : PortState) (asked : List Asked) (before : List Entry)

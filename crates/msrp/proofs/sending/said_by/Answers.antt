@@ -1,14 +1,12 @@
 use Rattle.std.proofs.Common.{◌≡◌, List, sym, subst}
 use Rattle.std.specs.List.{AllByRecursion}
+use Rattle.srp_base.proofs.Options.{opened}
 use Rattle.srp_base.specs.declared.mrp.MrpEvent.{MrpEvent}
-use Rattle.msrp_codec.specs.declared.pdu.MsrpKey.{MsrpKey}
-use Rattle.msrp_codec.specs.declared.pdu.MsrpContent.{MsrpContent}
+use Rattle.msrp_codec.specs.declared.{pdu.MsrpKey.MsrpKey, pdu.MsrpContent.MsrpContent}
 use Rattle.msrp_codec.specs.Content.{Belongs, base_octets, octets_of}
 use Rattle.mrp_participant.specs.State.{sent_events}
-use Rattle.msrp.specs.Part.{key_cmp}
-use Rattle.msrp.proofs.Places.{opened}
-use Rattle.msrp.proofs.Contents.{own_row}
-use Rattle.msrp.proofs.Said.{all_said}
+use Rattle.msrp.specs.{key_cmp}
+use Rattle.msrp.proofs.{Contents.own_row, Said.all_said}
 use Rattle.msrp.proofs.sending.said_by.Goals as goal
 
 pub octets_of-requires-clause-belong : goal.octets_of-requires-clause-belong

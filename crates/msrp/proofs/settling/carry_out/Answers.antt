@@ -1,22 +1,14 @@
 use Rattle.std.proofs.Common.{◌≡◌, ◌≤◌, ◌<◌, ◌+◌, ◌++◌, ◌∙◌, ℕ, List, [], length, map, ap, sym, arith}
 use Rattle.std.specs.Prelude.{slice_get, slice_set, Some, vec_capacity}
 use Rattle.std.proofs.Math.ListN.{length-set}
+use Rattle.srp_base.proofs.{Lists.each-set, Lists.map-set, Lists.mapped_length, Options.opened}
 use Rattle.srp_base.specs.declared.numbers.StreamId.{StreamId}
 use Rattle.port_ledger.specs.Book.{Book, booked_only_in}
-use Rattle.attribute_propagation.specs.Dirty.{KeySet}
-use Rattle.attribute_propagation.specs.Ports.{keys_in, keys_or_none, marked_elsewhere}
+use Rattle.attribute_propagation.specs.{Dirty.KeySet, Ports.keys_in, Ports.keys_or_none, Ports.marked_elsewhere}
 use Rattle.msrp_codec.specs.declared.pdu.MsrpKey.{MsrpKey}
-use Rattle.msrp.specs.declared.plan.Stated.{Stated}
+use Rattle.msrp.specs.{Stated, key_cmp, listener_keys, settling_keys, streams_in, talker_keys, registrations_of, with_part, PortHolding, ports_in, asked_at, asked_book, stated_of, stated_part}
 use Rattle.msrp.specs.PortState.{PortState}
-use Rattle.msrp.specs.Part.{key_cmp}
-use Rattle.msrp.specs.Settling.{listener_keys, settling_keys, streams_in, talker_keys}
-use Rattle.msrp.specs.Stream.{registrations_of}
-use Rattle.msrp.specs.Side.{with_part}
-use Rattle.msrp.specs.Holding.{PortHolding, ports_in}
-use Rattle.msrp.specs.Plan.{asked_at, asked_book, stated_of, stated_part}
-use Rattle.msrp.proofs.Carried.{book_is, get-set, keys_is, keys_set, marked-many, moved_fits, moved_since, plan_at, port_has, read-set, set_has, set_is, stepped_is, talkers_fit, tried_fits}
-use Rattle.msrp.proofs.InPlace.{fewer, port_is, state_is, states-set}
-use Rattle.msrp.proofs.Places.{each-set, map-set, mapped_length, opened}
+use Rattle.msrp.proofs.{Carried.book_is, Carried.get-set, Carried.keys_is, Carried.keys_set, Carried.marked-many, Carried.moved_fits, Carried.moved_since, Carried.plan_at, Carried.port_has, Carried.read-set, Carried.set_has, Carried.set_is, Carried.stepped_is, Carried.talkers_fit, Carried.tried_fits, InPlace.fewer, InPlace.port_is, InPlace.state_is, InPlace.states-set}
 use Rattle.msrp.proofs.settling.carry_out.Goals as goal
 
 pub mark_moved-requires : goal.mark_moved-requires

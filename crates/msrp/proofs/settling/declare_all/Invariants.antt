@@ -1,5 +1,5 @@
 use Rattle.std.proofs.Common.{◌≡◌, ◌≤◌, length, drop}
-use Rattle.msrp.specs.Plan.{stated_part}
+use Rattle.msrp.specs.{stated_part}
 use Rattle.msrp.proofs.settling.declare_all.Given as goal
 
 -- with the keys that are left settled too, all are; and there is room for those that are left

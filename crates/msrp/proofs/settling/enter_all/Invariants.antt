@@ -1,5 +1,5 @@
 use Rattle.std.proofs.Common.{◌≡◌, ◌≤◌, length, drop}
-use Rattle.msrp.specs.Plan.{asked_in}
+use Rattle.msrp.specs.{asked_in}
 use Rattle.msrp.proofs.settling.enter_all.Given as goal
 
 -- with those of the streams that are left entered too, all are; and there is room for those that are left

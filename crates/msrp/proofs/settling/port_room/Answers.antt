@@ -1,8 +1,6 @@
 use Rattle.std.proofs.Common.{◌≤◌}
-use Rattle.msrp.specs.Holding.{PortHolding}
-use Rattle.msrp.proofs.Carried.{set_holds}
-use Rattle.msrp.proofs.InPlace.{same_states}
-use Rattle.msrp.proofs.Places.{on_ok}
+use Rattle.msrp.specs.{PortHolding}
+use Rattle.msrp.proofs.{Carried.set_holds, InPlace.same_states, Places.on_ok}
 use Rattle.msrp.proofs.settling.port_room.Goals as goal
 
 pub returns-clause-ports : goal.returns-clause-ports

@@ -1,5 +1,5 @@
 use Rattle.std.proofs.Common.{◌≡◌, ◌+◌, ◌++◌, drop, vec_capacity, vec_len}
-use Rattle.msrp.specs.Settling.{listener_keys}
+use Rattle.msrp.specs.{listener_keys}
 use Rattle.msrp.proofs.settling.push_listeners.Given as goal
 
 -- what was put there, with those of the streams that are left, is all; and for those there is room

@@ -1,9 +1,8 @@
 use Rattle.std.proofs.Common.{rules, ◌≡◌, ◌≤◌, ◌+◌, ◌∙◌, ℕ, length, subst, arith}
 use Rattle.std.specs.Prelude.{slice_get, vec_capacity, vec_len, IfSome}
-use Rattle.attribute_propagation.specs.Dirty.{KeySet}
-use Rattle.attribute_propagation.specs.Ports.{HasRoom}
+use Rattle.attribute_propagation.specs.{Dirty.KeySet, Ports.HasRoom}
 use Rattle.msrp_codec.specs.declared.pdu.MsrpKey.{MsrpKey}
-use Rattle.msrp.specs.Holding.{PortHolding}
+use Rattle.msrp.specs.{PortHolding}
 use Rattle.msrp.proofs.Places.{on_ok}
 use Rattle.msrp.proofs.settling.room_at.Goals as goal
 

@@ -1,8 +1,8 @@
 use Rattle.std.proofs.Common.{◌≤◌, arith}
+use Rattle.srp_base.proofs.Lists.{each-get, each-set, map-set_same}
 use Rattle.attribute_propagation.specs.Dirty.{KeySet}
 use Rattle.msrp_codec.specs.declared.pdu.MsrpKey.{MsrpKey}
-use Rattle.msrp.proofs.Carried.{set_holds, set_is}
-use Rattle.msrp.proofs.Places.{each-get, each-set, map-set_same, on_ok}
+use Rattle.msrp.proofs.{Carried.set_holds, Carried.set_is, Places.on_ok}
 use Rattle.msrp.proofs.settling.set_room.Goals as goal
 
 pub returns-clause-keys : goal.returns-clause-keys

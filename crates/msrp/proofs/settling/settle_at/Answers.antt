@@ -1,14 +1,10 @@
 use Rattle.std.proofs.Common.{◌≡◌, ◌∙◌, List, ap, sym, arith}
 use Rattle.std.specs.Prelude.{slice_get, Some}
-use Rattle.attribute_propagation.specs.Dirty.{KeySet}
-use Rattle.attribute_propagation.specs.Ports.{keys_at, keys_in, keys_or_none}
+use Rattle.srp_base.proofs.Options.{some_is}
+use Rattle.attribute_propagation.specs.{Dirty.KeySet, Ports.keys_at, Ports.keys_in, Ports.keys_or_none}
 use Rattle.msrp_codec.specs.declared.pdu.MsrpKey.{MsrpKey}
-use Rattle.msrp.specs.Side.{Streams, settled_streams}
-use Rattle.msrp.specs.Holding.{PortHolding, ports_in}
-use Rattle.msrp.specs.Plan.{IsPlan}
-use Rattle.msrp.proofs.Carried.{same_many, same_sets}
-use Rattle.msrp.proofs.InPlace.{same_streams, state_is}
-use Rattle.msrp.proofs.Places.{some_is}
+use Rattle.msrp.specs.{Streams, settled_streams, PortHolding, ports_in, IsPlan}
+use Rattle.msrp.proofs.{Carried.same_many, Carried.same_sets, InPlace.same_streams, InPlace.state_is}
 use Rattle.msrp.proofs.settling.settle_at.Goals as goal
 
 pub carry_out-requires-clause-place : goal.carry_out-requires-clause-place

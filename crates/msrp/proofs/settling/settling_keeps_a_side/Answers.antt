@@ -1,6 +1,4 @@
-use Rattle.msrp.proofs.Ledgers.{BookLaws}
-use Rattle.msrp.proofs.Participants.{PartLaws}
-use Rattle.msrp.proofs.Settled.{MoveLaws, settle-keeps}
+use Rattle.msrp.proofs.{Ledgers.BookLaws, Participants.PartLaws, Settled.MoveLaws, Settled.settle-keeps}
 use Rattle.msrp.proofs.settling.settling_keeps_a_side.Goals as goal
 
 pub returns : goal.returns

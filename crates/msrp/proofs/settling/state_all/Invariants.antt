@@ -1,6 +1,5 @@
 use Rattle.std.proofs.Common.{◌≡◌, ◌+◌, ◌++◌, drop, map, vec_capacity, vec_len}
-use Rattle.msrp.specs.Plan.{stated_of}
-use Rattle.msrp.specs.View.{registrations_from}
+use Rattle.msrp.specs.{stated_of, registrations_from}
 use Rattle.msrp.proofs.settling.state_all.Given as goal
 
 -- what was put there, with what is declared of the keys that are left, is all; and for those there is room

@@ -1,5 +1,5 @@
 use Rattle.std.proofs.Common.{◌≡◌, ◌≤◌, drop}
-use Rattle.msrp.specs.Plan.{asked_out}
+use Rattle.msrp.specs.{asked_out}
 use Rattle.msrp.proofs.settling.take_out_all.Given as goal
 
 -- with those of the streams that are left taken out too, all are

@@ -1,7 +1,7 @@
 use Rattle.std.proofs.Common.{◌∙◌, sym}
 use Rattle.std.proofs.lemmas.List.Folds.{list_all-map}
 use Rattle.msrp.specs.PortState.{PortState}
-use Rattle.msrp.specs.Holding.{PortHolding}
+use Rattle.msrp.specs.{PortHolding}
 use Rattle.msrp.proofs.side.all_sound.Goals as goal
 
 pub returns : goal.returns

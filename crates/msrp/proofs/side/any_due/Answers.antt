@@ -1,8 +1,8 @@
 use Rattle.std.proofs.Common.{◌∙◌, sym}
-use Rattle.msrp.proofs.InPlace.{list_any-map}
+use Rattle.srp_base.proofs.Lists.{list_any-map}
 use Rattle.mrp_participant.specs.State.{is_any_due}
 use Rattle.msrp.specs.PortState.{PortState}
-use Rattle.msrp.specs.Holding.{PortHolding}
+use Rattle.msrp.specs.{PortHolding}
 use Rattle.msrp.proofs.side.any_due.Goals as goal
 
 pub returns : goal.returns

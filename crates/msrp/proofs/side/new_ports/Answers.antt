@@ -2,10 +2,8 @@ use Rattle.std.proofs.Common.{◌+◌, ◌≤◌, [], ◌∷◌, ◌++◌, map, 
 use Rattle.mrp_participant.specs.State.{IsTime}
 use Rattle.srp_base.specs.declared.ports.PortSetup.{PortSetup}
 use Rattle.msrp.specs.PortState.{PortState}
-use Rattle.msrp.specs.Side.{new_port as port_of}
-use Rattle.msrp.specs.Holding.{ports_in}
-use Rattle.msrp.proofs.InPlace.{states_joined}
-use Rattle.msrp.proofs.Places.{each-at, one_more}
+use Rattle.msrp.specs.{new_port as port_of, ports_in}
+use Rattle.msrp.proofs.{InPlace.states_joined, Places.each-at, Places.one_more}
 use Rattle.msrp.proofs.side.new_ports.Goals as goal
 
 pub new-requires-clause-period : goal.new-requires-clause-period

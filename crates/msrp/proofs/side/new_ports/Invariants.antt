@@ -1,6 +1,5 @@
 use Rattle.std.proofs.Common.{◌≡◌, ◌++◌, map, drop}
-use Rattle.msrp.specs.Holding.{ports_in}
-use Rattle.msrp.specs.Side.{new_port}
+use Rattle.msrp.specs.{ports_in, new_port}
 use Rattle.msrp.proofs.side.new_ports.Given as goal
 
 -- the ports so far and those that are left are all

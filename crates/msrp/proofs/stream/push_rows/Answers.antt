@@ -3,8 +3,7 @@ use Rattle.std.specs.Prelude.{Option}
 use Rattle.std.specs.List.{filter_map}
 use Rattle.std.proofs.lemmas.List.Elements.{filter_map-append}
 use Rattle.msrp_listener.specs.declared.port_listener.PortListener.{PortListener}
-use Rattle.msrp.specs.Holding.{PortHolding, ports_in}
-use Rattle.msrp.specs.Stream.{listener_row}
+use Rattle.msrp.specs.{PortHolding, ports_in, listener_row}
 use Rattle.msrp.proofs.Places.{one_more}
 use Rattle.msrp.proofs.stream.push_rows.Goals as goal
 

@@ -1,7 +1,6 @@
 use Rattle.std.proofs.Common.{◌≡◌, ◌≤◌, ◌+◌, ◌++◌, drop, map, vec_capacity, vec_len}
 use Rattle.std.specs.List.{filter_map}
-use Rattle.msrp.specs.Holding.{ports_in}
-use Rattle.msrp.specs.Stream.{listener_row}
+use Rattle.msrp.specs.{ports_in, listener_row}
 use Rattle.msrp.proofs.stream.push_rows.Given as goal
 
 -- what was put there, with those of the ports that are left, is all; and for those there is room

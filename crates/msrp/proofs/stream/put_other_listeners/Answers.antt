@@ -1,14 +1,11 @@
 use Rattle.std.proofs.Common.{◌≡◌, ◌∙◌, ℕ, suc, List, [], ◌∷◌, ◌++◌, map, take, drop, if◌then◌else◌, sym, ap, append_assoc}
 use Rattle.std.specs.Prelude.{Option, Some, None}
 use Rattle.std.specs.List.{filter_map}
-use Rattle.std.proofs.lemmas.List.{drop-map, take-map}
-use Rattle.std.proofs.lemmas.List.Elements.{filter_map-append}
-use Rattle.srp_base.specs.declared.streams.TalkerReg.{TalkerReg}
-use Rattle.srp_base.specs.declared.streams.ListenerKind.TheVariants.{Ready}
+use Rattle.std.proofs.lemmas.{List.drop-map, List.take-map, List.Elements.filter_map-append}
+use Rattle.srp_base.specs.declared.{streams.TalkerReg.TalkerReg, streams.ListenerKind.TheVariants.Ready}
 use Rattle.msrp.specs.PortState.{PortState}
 use Rattle.msrp_listener.specs.declared.port_listener.PortListener.{PortListener}
-use Rattle.msrp.specs.Holding.{PortHolding, ports_in}
-use Rattle.msrp.specs.Stream.{is_advertised, is_listened, listener_row}
+use Rattle.msrp.specs.{PortHolding, ports_in, is_advertised, is_listened, listener_row}
 use Rattle.msrp.proofs.stream.put_other_listeners.Goals as goal
 
 abbrev there : List (Option PortListener) → List PortListener

@@ -1,5 +1,5 @@
 use Rattle.std.proofs.Common.{◌≡◌, drop}
-use Rattle.msrp.specs.Stream.{talk_of}
+use Rattle.msrp.specs.{talk_of}
 use Rattle.msrp.proofs.stream.talk_of.Given as goal
 
 -- the first of those that are left is the first of all

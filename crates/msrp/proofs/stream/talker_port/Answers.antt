@@ -4,9 +4,7 @@ use Rattle.std.specs.List.{position_from}
 use Rattle.std.proofs.lemmas.Iterator.Adapters.{position_from-zero}
 use Rattle.srp_base.specs.declared.numbers.StreamId.{StreamId}
 use Rattle.msrp.specs.PortState.{PortState}
-use Rattle.msrp.specs.Holding.{PortHolding, ports_in}
-use Rattle.msrp.specs.Part.{registered_talker}
-use Rattle.msrp.specs.Stream.{is_present}
+use Rattle.msrp.specs.{PortHolding, ports_in, registered_talker, is_present}
 use Rattle.msrp.proofs.stream.talker_port.Goals as goal
 
 -- the port at a place has a Talker, or there is no port from the place on

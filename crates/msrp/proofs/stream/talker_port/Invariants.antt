@@ -2,9 +2,7 @@ use Rattle.std.proofs.Common.{◌≡◌, drop, map}
 use Rattle.std.specs.Prelude.{find}
 use Rattle.std.specs.List.{position_from}
 use Rattle.msrp.specs.PortState.{PortState}
-use Rattle.msrp.specs.Part.{registered_talker}
-use Rattle.msrp.specs.Holding.{ports_in}
-use Rattle.msrp.specs.Stream.{is_present}
+use Rattle.msrp.specs.{registered_talker, ports_in, is_present}
 use Rattle.msrp.proofs.stream.talker_port.Given as goal
 
 -- the first of the ports that are left is the first of all

@@ -1,9 +1,7 @@
 use Rattle.std.proofs.Common.{◌≡◌, ◌≤◌, ◌+◌, length, drop}
 use Rattle.std.specs.List.{flat_map}
 use Rattle.attribute_propagation.specs.Dirty.{all_marked}
-use Rattle.msrp.specs.Part.{key_cmp}
-use Rattle.msrp.specs.Holding.{ports_in}
-use Rattle.msrp.specs.Settling.{talker_keys_in}
+use Rattle.msrp.specs.{key_cmp, ports_in, talker_keys_in}
 use Rattle.msrp.proofs.talker_keys.mark_all_registered.Given as goal
 
 -- the keys that are there, with those of the ports that are left, are what all make, and those that are left have room

@@ -1,7 +1,7 @@
 use Rattle.std.proofs.Common.{◌≡◌, ◌≤◌, ◌+◌, length, drop, map}
 use Rattle.attribute_propagation.specs.Dirty.{all_marked}
 use Rattle.msrp_codec.specs.declared.pdu.MsrpKey.TheVariants as keys
-use Rattle.msrp.specs.Part.{key_cmp}
+use Rattle.msrp.specs.{key_cmp}
 use Rattle.msrp.proofs.talker_keys.mark_own.Given as goal
 
 -- the keys that are there, with those that are left, are what all make, and those that are left have room

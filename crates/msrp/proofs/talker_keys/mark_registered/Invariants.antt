@@ -1,10 +1,8 @@
 use Rattle.std.proofs.Common.{◌≡◌, ◌≤◌, ◌+◌, length, drop, map}
 use Rattle.std.specs.List.{flat_map}
 use Rattle.attribute_propagation.specs.Dirty.{all_marked}
-use Rattle.mrp_participant.specs.Lookup.{key_of}
-use Rattle.mrp_participant.specs.State.{registered_at}
-use Rattle.msrp.specs.Part.{key_cmp}
-use Rattle.msrp.specs.Settling.{talker_key_if, talker_keys_in}
+use Rattle.mrp_participant.specs.{Lookup.key_of, State.registered_at}
+use Rattle.msrp.specs.{key_cmp, talker_key_if, talker_keys_in}
 use Rattle.msrp.proofs.talker_keys.mark_registered.Given as goal
 
 -- the keys that are there, with those of the rows that are left, are what all make, and those that are left have room

@@ -1,8 +1,7 @@
 use Rattle.std.proofs.Common.{◌+◌, length, List, ap, sym, ◌∙◌, arith}
 use Rattle.attribute_propagation.specs.Dirty.{all_marked}
 use Rattle.msrp_codec.specs.declared.pdu.MsrpKey.{MsrpKey}
-use Rattle.msrp.specs.Part.{key_cmp}
-use Rattle.msrp.specs.Settling.{talker_key_if}
+use Rattle.msrp.specs.{key_cmp, talker_key_if}
 use Rattle.msrp.proofs.Marking.{length_joined, marked_joined, talker_keys_from, talkers_end, talkers_more}
 use Rattle.msrp.proofs.talker_keys.mark_row.Goals as goal
 

@@ -1,8 +1,7 @@
 use Rattle.std.proofs.Common.{◌≡◌, length, ap, refl, arith}
 use Rattle.std.specs.List.{flat_map}
 use Rattle.msrp.specs.Part.{Part}
-use Rattle.msrp.specs.Holding.{PortHolding, ports_in}
-use Rattle.msrp.specs.Settling.{talker_keys_in}
+use Rattle.msrp.specs.{PortHolding, ports_in, talker_keys_in}
 use Rattle.msrp.proofs.Marking.{few_talkers, left_less, own_count}
 use Rattle.msrp.proofs.talker_keys.talker_count.Goals as goal
 

@@ -1,7 +1,6 @@
 use Rattle.std.proofs.Common.{◌≤◌, ◌+◌, length, drop}
 use Rattle.std.specs.List.{flat_map}
-use Rattle.msrp.specs.Holding.{ports_in}
-use Rattle.msrp.specs.Settling.{talker_keys, talker_keys_in}
+use Rattle.msrp.specs.{ports_in, talker_keys, talker_keys_in}
 use Rattle.msrp.proofs.talker_keys.talker_count.Given as goal
 
 -- all keys are no more than were counted, with those of the ports that are left

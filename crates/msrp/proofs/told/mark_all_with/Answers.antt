@@ -1,5 +1,5 @@
 use Rattle.std.proofs.Common.{refl, arith}
-use Rattle.msrp.specs.Settling.{all_keys_with, keys_with}
+use Rattle.msrp.specs.{all_keys_with, keys_with}
 use Rattle.msrp.proofs.Marking.{mark_more, two_less}
 use Rattle.msrp.proofs.told.mark_all_with.Goals as goal
 

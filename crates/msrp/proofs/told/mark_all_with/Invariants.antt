@@ -1,7 +1,6 @@
 use Rattle.std.proofs.Common.{◌≡◌, ◌≤◌, ◌+◌, length, drop}
 use Rattle.attribute_propagation.specs.Dirty.{all_marked}
-use Rattle.msrp.specs.Part.{key_cmp}
-use Rattle.msrp.specs.Settling.{all_keys_with}
+use Rattle.msrp.specs.{key_cmp, all_keys_with}
 use Rattle.msrp.proofs.told.mark_all_with.Given as goal
 
 -- the keys that are there, with those that are left, are what all make, and there is room for those that are left

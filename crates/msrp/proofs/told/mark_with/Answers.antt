@@ -1,6 +1,6 @@
 use Rattle.std.proofs.Common.{ap, sym, ◌∙◌}
 use Rattle.attribute_propagation.specs.Dirty.{all_marked}
-use Rattle.msrp.specs.Part.{key_cmp}
+use Rattle.msrp.specs.{key_cmp}
 use Rattle.msrp.proofs.Marking.{keys_none, keys_some}
 use Rattle.msrp.proofs.told.mark_with.Goals as goal
 

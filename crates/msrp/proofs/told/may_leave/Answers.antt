@@ -1,9 +1,8 @@
 use Rattle.std.proofs.Common.{◌≡◌, ◌<◌, ◌+◌, ◌||◌, length, drop, ap, sym, ◌∙◌, arith}
 use Rattle.std.specs.List.{list_any}
-use Rattle.msrp.specs.Settling.{is_domain_leaving}
-use Rattle.msrp.proofs.Contents.{MsrpRow}
-use Rattle.msrp.proofs.Marking.{split_at}
-use Rattle.msrp.proofs.Places.{opened}
+use Rattle.srp_base.proofs.Options.{opened}
+use Rattle.msrp.specs.{is_domain_leaving}
+use Rattle.msrp.proofs.{Contents.MsrpRow, Marking.split_at}
 use Rattle.msrp.proofs.told.may_leave.Goals as goal
 
 pub returns-then-may_leave_at : goal.returns-then-may_leave_at

@@ -1,6 +1,6 @@
 use Rattle.std.proofs.Common.{◌≡◌, drop}
 use Rattle.std.specs.List.{list_any}
-use Rattle.msrp.specs.Settling.{is_domain_leaving}
+use Rattle.msrp.specs.{is_domain_leaving}
 use Rattle.msrp.proofs.told.may_leave.Given as goal
 
 -- whether it is so in a row is whether it is so in one of those that are left

@@ -2,8 +2,7 @@ use Rattle.std.proofs.Common.{◌++◌, refl, ap, ◌∙◌}
 use Rattle.std.specs.List.{flat_map}
 use Rattle.msrp.specs.Part.{Part}
 use Rattle.msrp.specs.PortState.{PortState}
-use Rattle.msrp.specs.Holding.{PortHolding, ports_in}
-use Rattle.msrp.specs.Settling.{registered_keys}
+use Rattle.msrp.specs.{PortHolding, ports_in, registered_keys}
 use Rattle.msrp.proofs.Places.{one_more}
 use Rattle.msrp.proofs.told.push_all_registered.Goals as goal
 

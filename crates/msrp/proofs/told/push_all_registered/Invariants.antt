@@ -1,8 +1,7 @@
 use Rattle.std.proofs.Common.{◌≡◌, ◌++◌, drop}
 use Rattle.std.specs.List.{flat_map}
 use Rattle.msrp.specs.PortState.{PortState}
-use Rattle.msrp.specs.Holding.{ports_in}
-use Rattle.msrp.specs.Settling.{registered_keys}
+use Rattle.msrp.specs.{ports_in, registered_keys}
 use Rattle.msrp.proofs.told.push_all_registered.Given as goal
 
 -- what was put there, with those of the ports that are left, is all

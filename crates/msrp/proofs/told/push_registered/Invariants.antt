@@ -1,9 +1,7 @@
 use Rattle.std.proofs.Common.{◌≡◌, ◌++◌, drop, map}
 use Rattle.std.specs.Prelude.{filter, is_some}
-use Rattle.mrp_participant.specs.Lookup.{key_of}
-use Rattle.mrp_participant.specs.State.{registered_at}
-use Rattle.msrp.specs.Part.{key_cmp}
-use Rattle.msrp.specs.Settling.{registered_keys}
+use Rattle.mrp_participant.specs.{Lookup.key_of, State.registered_at}
+use Rattle.msrp.specs.{key_cmp, registered_keys}
 use Rattle.msrp.proofs.told.push_registered.Given as goal
 
 -- what was put there, with those of the rows that are left, is all

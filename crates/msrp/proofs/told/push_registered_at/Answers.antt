@@ -1,9 +1,9 @@
 use Rattle.std.proofs.Common.{◌≡◌, ◌∙◌, ℕ, zero, suc, ◌+◌, Bool, true, false, if◌then◌else◌, List, [], ◌∷◌, ◌++◌, map, drop, Some, None, refl, sym, ap, append_assoc, add-one}
 use Rattle.std.specs.Prelude.{slice_get, filter, is_some}
-use Rattle.mrp_participant.specs.Lookup.{key_of}
-use Rattle.mrp_participant.specs.State.{registered_at}
+use Rattle.mrp_participant.specs.{Lookup.key_of, State.registered_at}
 use Rattle.msrp_codec.specs.declared.pdu.MsrpKey.{MsrpKey}
-use Rattle.msrp.specs.Part.{Part, key_cmp}
+use Rattle.msrp.specs.Part.{Part}
+use Rattle.msrp.specs.{key_cmp}
 use Rattle.msrp.proofs.Places.{on_ok}
 use Rattle.msrp.proofs.told.push_registered_at.Goals as goal
 

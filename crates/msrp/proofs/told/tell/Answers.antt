@@ -1,10 +1,8 @@
 use Rattle.std.proofs.Common.{◌≤◌, ◌<◌, ◌+◌, ◌&&◌, length, ap, sym, ◌∙◌, arith}
 use Rattle.attribute_propagation.specs.Dirty.{KeySet}
 use Rattle.msrp_codec.specs.declared.pdu.MsrpKey.{MsrpKey}
-use Rattle.msrp.specs.Domain.{are_counted}
-use Rattle.msrp.specs.Settling.{all_keys_with}
-use Rattle.msrp.proofs.Marking.{as_many_told, told_here}
-use Rattle.msrp.proofs.Places.{each-at}
+use Rattle.msrp.specs.{are_counted, all_keys_with}
+use Rattle.msrp.proofs.{Marking.as_many_told, Marking.told_here, Places.each-at}
 use Rattle.msrp.proofs.told.tell.Goals as goal
 
 pub mark_all_with-requires : goal.mark_all_with-requires

@@ -1,9 +1,8 @@
 use Rattle.std.proofs.Common.{◌≡◌, ◌+◌, ℕ, [], length, drop, ap, refl, sym, ◌∙◌, arith}
+use Rattle.srp_base.proofs.Lists.{drop_none}
 use Rattle.attribute_propagation.specs.Ports.{keys_in, marked_everywhere}
-use Rattle.msrp.specs.Part.{key_cmp}
-use Rattle.msrp.specs.Settling.{all_keys_with, keys_with}
-use Rattle.msrp.proofs.InPlace.{fewer}
-use Rattle.msrp.proofs.Marking.{drop_none, everywhere_more, none_marked, two_less}
+use Rattle.msrp.specs.{key_cmp, all_keys_with, keys_with}
+use Rattle.msrp.proofs.{InPlace.fewer, Marking.everywhere_more, Marking.none_marked, Marking.two_less}
 use Rattle.msrp.proofs.told.tell_all.Goals as goal
 
 pub loop-key-init : goal.loop-key-init

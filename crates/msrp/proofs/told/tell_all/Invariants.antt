@@ -1,7 +1,6 @@
 use Rattle.std.proofs.Common.{◌≡◌, ◌+◌, ℕ, length, drop}
 use Rattle.attribute_propagation.specs.Ports.{HasRoom, keys_in, marked_everywhere}
-use Rattle.msrp.specs.Part.{key_cmp}
-use Rattle.msrp.specs.Settling.{all_keys_with}
+use Rattle.msrp.specs.{key_cmp, all_keys_with}
 use Rattle.msrp.proofs.told.tell_all.Given as goal
 
 -- the keys that are there, with those that are left, are what all make, and there is room for those that are left

@@ -1,8 +1,7 @@
 use Rattle.std.proofs.Common.{◌+◌, ap, sym, ◌∙◌, arith}
 use Rattle.attribute_propagation.specs.Ports.{keys_in, marked_everywhere}
-use Rattle.msrp.specs.Part.{key_cmp}
-use Rattle.msrp.proofs.InPlace.{fewer}
-use Rattle.msrp.proofs.Marking.{keys_none, keys_some, none_marked}
+use Rattle.msrp.specs.{key_cmp}
+use Rattle.msrp.proofs.{InPlace.fewer, Marking.keys_none, Marking.keys_some, Marking.none_marked}
 use Rattle.msrp.proofs.told.tell_with.Goals as goal
 
 pub returns-in-Some-clause-keys : goal.returns-in-Some-clause-keys

@@ -1,8 +1,6 @@
 use Rattle.std.proofs.Common.{◌≡◌, take}
 use Rattle.std.specs.List.{AllByRecursion}
-use Rattle.msrp_codec.specs.FirstValue.{IsFirst}
-use Rattle.msrp_codec.specs.Content.{value_of}
-use Rattle.msrp_codec.specs.Counts.{counts_of, total_of}
+use Rattle.msrp_codec.specs.{IsFirst, value_of, counts_of, total_of}
 use Rattle.msrp_codec.proofs.counts.counts_of.Given as goal
 
 abbrev pub invariant-loop-event : goal.invariant-loop-event

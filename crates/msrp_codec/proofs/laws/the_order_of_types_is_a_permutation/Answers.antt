@@ -3,11 +3,8 @@ use Rattle.std.specs.Prelude.{IsPermutation}
 use Rattle.std.proofs.lemmas.List.Sorted.{IsPermutation-refl, IsPermutation-trans, IsPermutation-cons, IsPermutation-append_comm, IsPermutation-append_left, IsPermutation-append_right}
 use Rattle.msrp_codec.specs.declared.attribute_type.AttributeType.TheVariants.{Advertise, Failed, Listener, Domain}
 use Rattle.srp_base.specs.declared.mrp.MrpEvent.{MrpEvent}
-use Rattle.msrp_codec.specs.declared.pdu.MsrpKey.{MsrpKey}
-use Rattle.msrp_codec.specs.declared.pdu.MsrpContent.{MsrpContent}
+use Rattle.msrp_codec.specs.{MsrpKey, MsrpContent, KeyEvent, of_type, in_type_order}
 use Rattle.msrp_codec.specs.declared.pdu.MsrpContent.TheVariants as contents
-use Rattle.msrp_codec.specs.Meaning.{KeyEvent}
-use Rattle.msrp_codec.specs.Writing.{of_type, in_type_order}
 use Rattle.msrp_codec.proofs.laws.the_order_of_types_is_a_permutation.Goals as goal
 
 -- an event goes behind some others

@@ -1,5 +1,5 @@
 use Rattle.mrpdu_codec.specs.declared.form.AppForm.TheVariants.{Msrp}
-use Rattle.msrp_codec.specs.Writing.{pdu_for}
+use Rattle.msrp_codec.specs.{pdu_for}
 use Rattle.msrp_codec.proofs.WrittenPdu.{reads_again, is_well_formed}
 use Rattle.msrp_codec.proofs.laws.what_is_written_is_read.Goals as goal
 

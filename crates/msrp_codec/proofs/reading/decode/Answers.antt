@@ -1,6 +1,6 @@
 use Rattle.std.proofs.Common.{◌≡◌, ℕ, refl, sym, subst, ◌∙◌}
 use Rattle.mrpdu_codec.specs.Raw.{pdu_in}
-use Rattle.msrp_codec.specs.Meaning.{PassesEnd}
+use Rattle.msrp_codec.specs.{PassesEnd}
 use Rattle.msrp_codec.specs.Meaning.MsrpBreaks.{value}
 use Rattle.msrp_codec.proofs.PastLemmas.{past_none, passes_end}
 use Rattle.msrp_codec.proofs.reading.decode.Goals as goal

@@ -1,5 +1,5 @@
 use Rattle.std.proofs.Common.{◌≡◌, ◌++◌, ◌-◌}
-use Rattle.msrp_codec.specs.InPlace.{values_from}
+use Rattle.msrp_codec.specs.{values_from}
 use Rattle.msrp_codec.proofs.reading.push_values.Given as goal
 
 abbrev pub invariant-loop-i : goal.invariant-loop-i

@@ -1,6 +1,6 @@
 use Rattle.std.proofs.Common.{◌∙◌, arith}
 use Rattle.mrpdu_codec.specs.declared.form.AppForm.TheVariants.{Msrp}
-use Rattle.msrp_codec.specs.Writing.{pdu_for}
+use Rattle.msrp_codec.specs.{pdu_for}
 use Rattle.msrp_codec.proofs.WrittenPdu.{reads_again, stated_suffice, is_well_formed}
 use Rattle.msrp_codec.proofs.writing.encode.Goals as goal
 

@@ -1,4 +1,4 @@
-use Rattle.msrp_codec.proofs.WritingLemmas.{three_pieces}
+use Rattle.srp_base.proofs.Lists.{three_pieces}
 use Rattle.msrp_codec.proofs.writing.put_failed.Goals as goal
 
 pub returns : goal.returns

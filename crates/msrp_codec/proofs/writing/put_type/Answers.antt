@@ -1,10 +1,7 @@
 use Rattle.std.proofs.Common.{ℕ, ◌+◌, List, [], ◌∷◌, ◌++◌, ap, ◌∙◌, arith}
-use Rattle.mrpdu_codec.specs.Tree.{vectors_octets}
-use Rattle.mrpdu_codec.specs.Canonical.{vectors_for}
-use Rattle.msrp_codec.specs.Meaning.{KeyEvent}
-use Rattle.msrp_codec.specs.Writing.{type_vectors}
-use Rattle.msrp_codec.proofs.WritingLemmas.{message_written}
-use Rattle.msrp_codec.proofs.SizeLemmas.{list_counted}
+use Rattle.mrpdu_codec.specs.{Tree.vectors_octets, Canonical.vectors_for}
+use Rattle.msrp_codec.specs.{KeyEvent, type_vectors}
+use Rattle.msrp_codec.proofs.{WritingLemmas.message_written, SizeLemmas.list_counted}
 use Rattle.msrp_codec.proofs.writing.put_type.Goals as goal
 
 pub returns : goal.returns

@@ -1,6 +1,6 @@
 use Rattle.std.proofs.Common.{refl}
 use Rattle.mvrp_codec.specs.Writing.{IsWritable}
-use Rattle.mvrp.specs.Part.{pdu_sent}
+use Rattle.mvrp.specs.{pdu_sent}
 use Rattle.mvrp.proofs.Writable.{writable}
 use Rattle.mvrp.proofs.laws.what_is_sent_is_read.Goals as goal
 

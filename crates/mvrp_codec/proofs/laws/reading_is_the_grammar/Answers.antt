@@ -1,9 +1,7 @@
 use Rattle.std.proofs.Common.{◌≡◌, ℕ, Result, Ok, Err, refl, sym, ap, ◌∙◌}
-use Rattle.mrpdu_codec.specs.declared.form.AppForm.TheVariants.{Mvrp}
-use Rattle.mrpdu_codec.specs.declared.pdu.Pdu.{Pdu}
+use Rattle.mrpdu_codec.specs.declared.{form.AppForm.TheVariants.Mvrp, pdu.Pdu.Pdu}
 use Rattle.mrpdu_codec.specs.Reading.{reading}
-use Rattle.mvrp_codec.specs.declared.pdu.MvrpPdu.{MvrpPdu}
-use Rattle.mvrp_codec.specs.Meaning.{meaning, read_as}
+use Rattle.mvrp_codec.specs.{MvrpPdu, meaning, read_as}
 use Rattle.mvrp_codec.proofs.laws.reading_is_the_grammar.Goals as goal
 
 means : (read : Result Pdu ℕ) (m : MvrpPdu) → read_as read ≡ Ok m → (pdu : Pdu) × (read ≡ Ok pdu) × (m ≡ meaning pdu)

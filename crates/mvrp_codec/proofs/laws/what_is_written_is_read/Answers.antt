@@ -1,5 +1,5 @@
 use Rattle.mrpdu_codec.specs.declared.form.AppForm.TheVariants.{Mvrp}
-use Rattle.mvrp_codec.specs.Writing.{pdu_for}
+use Rattle.mvrp_codec.specs.{pdu_for}
 use Rattle.mvrp_codec.proofs.WritingLemmas.{is_well_formed, reads_again, few_in_all}
 use Rattle.mvrp_codec.proofs.laws.what_is_written_is_read.Goals as goal
 

@@ -1,7 +1,7 @@
 use Rattle.std.proofs.Common.{◌≡◌, ◌++◌, take, drop}
 use Rattle.std.specs.List.{flat_map}
 use Rattle.mrpdu_codec.specs.Octets.{three_events}
-use Rattle.mvrp_codec.specs.Meaning.{events_from}
+use Rattle.mvrp_codec.specs.{events_from}
 use Rattle.mvrp_codec.proofs.reading.push_events.Given as goal
 
 abbrev pub invariant-loop-octet : goal.invariant-loop-octet

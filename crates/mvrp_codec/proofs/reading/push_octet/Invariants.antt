@@ -1,5 +1,5 @@
 use Rattle.std.proofs.Common.{◌≡◌, ◌+◌, ◌++◌, drop}
-use Rattle.mvrp_codec.specs.Meaning.{events_from}
+use Rattle.mvrp_codec.specs.{events_from}
 use Rattle.mvrp_codec.proofs.reading.push_octet.Given as goal
 
 abbrev pub invariant-loop-event : goal.invariant-loop-event

@@ -1,6 +1,6 @@
 use Rattle.std.proofs.Common.{◌≡◌, ◌++◌, take}
 use Rattle.std.specs.List.{flat_map}
-use Rattle.mvrp_codec.specs.Meaning.{events_in_place}
+use Rattle.mvrp_codec.specs.{events_in_place}
 use Rattle.mvrp_codec.proofs.reading.push_vectors.Given as goal
 
 abbrev pub invariant-loop-v : goal.invariant-loop-v

@@ -1,6 +1,6 @@
 use Rattle.std.proofs.Common.{◌≡◌, List, ℕ, length, ◌≤◌, sym, subst, ◌∙◌}
 use Rattle.mrpdu_codec.specs.declared.form.AppForm.TheVariants.{Mvrp}
-use Rattle.mvrp_codec.specs.Writing.{pdu_for, mvrp_spelling}
+use Rattle.mvrp_codec.specs.{pdu_for, mvrp_spelling}
 use Rattle.mvrp_codec.proofs.WritingLemmas.{is_well_formed, reads_again, few_in_all, octets_are}
 use Rattle.mvrp_codec.proofs.writing.encode.Goals as goal
 

@@ -1,7 +1,6 @@
 use Rattle.std.proofs.Common.{◌≡◌, ◌<◌, length, map, take, drop, ap, sym, ◌∙◌, arith, length-drop}
 use Rattle.mvrp_codec.proofs.StreakLemmas.{octets_alone, octets_end, octets_go_on, vids_join, vids_none}
-use Rattle.std.proofs.lemmas.Bool.{eqb-true}
-use Rattle.std.proofs.lemmas.List.{drop-map, length-map, take-map}
+use Rattle.std.proofs.lemmas.{Bool.eqb-true, List.drop-map, List.length-map, List.take-map}
 use Rattle.mvrp_codec.proofs.writing.put_streaks.Goals as goal
 
 pub split_at-requires-in-more : goal.split_at-requires-in-more

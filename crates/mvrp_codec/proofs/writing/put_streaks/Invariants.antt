@@ -1,5 +1,5 @@
 use Rattle.std.proofs.Common.{◌≡◌, ◌≤◌, ◌++◌, length, map}
-use Rattle.mvrp_codec.specs.Writing.{streaks, streaks_octets, AreVids}
+use Rattle.mvrp_codec.specs.{streaks, streaks_octets, AreVids}
 use Rattle.mvrp_codec.proofs.writing.put_streaks.Given as goal
 
 abbrev pub invariant-more : goal.invariant-more

@@ -1,5 +1,5 @@
 use Rattle.std.proofs.Common.{◌≡◌, ◌+◌, ◌-◌, ◌<◌, length, take, drop}
-use Rattle.mvrp_codec.specs.Writing.{streak_len, AreVids}
+use Rattle.mvrp_codec.specs.{streak_len, AreVids}
 use Rattle.mvrp_codec.proofs.writing.streak_len.Given as goal
 
 abbrev pub invariant-more : goal.invariant-more

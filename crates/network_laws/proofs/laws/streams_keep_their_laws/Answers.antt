@@ -1,6 +1,4 @@
-use Rattle.network_laws.proofs.StreamRest.{are-still, keeps-stream-laws}
-use Rattle.network_laws.proofs.StreamLaw.{sides-are-one}
-use Rattle.network_laws.proofs.Refusals.{some-shown}
+use Rattle.network_laws.proofs.{StreamRest.are-still, StreamRest.keeps-stream-laws, StreamLaw.sides-are-one, Refusals.some-shown}
 use Rattle.network_laws.proofs.laws.streams_keep_their_laws.Goals as goal
 
 pub returns-clause-law : goal.returns-clause-law

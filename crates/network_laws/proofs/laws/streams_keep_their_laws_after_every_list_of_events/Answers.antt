@@ -1,5 +1,4 @@
-use Rattle.world_core.specs.World.{world_after}
-use Rattle.world_core.specs.Start.{world_of}
+use Rattle.world_core.specs.{World.world_after, Start.world_of}
 use Rattle.network_laws.proofs.laws.streams_keep_their_laws_after_every_list_of_events.Goals as goal
 
 pub returns : goal.returns

@@ -1,6 +1,6 @@
 use Rattle.std.proofs.Common.{drop}
 use Rattle.std.specs.List.{list_all}
-use Rattle.network_laws.specs.Streams.{has_booked}
+use Rattle.network_laws.specs.{has_booked}
 use Rattle.network_laws.proofs.Paths.{Checked}
 use Rattle.network_laws.proofs.streams.are_booked.Given as goal
 

@@ -1,5 +1,5 @@
 use Rattle.std.proofs.Common.{drop}
-use Rattle.network_laws.specs.Streams.{first_refusal, refusal_at}
+use Rattle.network_laws.specs.{first_refusal, refusal_at}
 use Rattle.network_laws.proofs.Paths.{Checked}
 use Rattle.network_laws.proofs.streams.refusal_along.Given as goal
 

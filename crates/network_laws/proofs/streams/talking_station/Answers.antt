@@ -2,7 +2,7 @@ use Rattle.std.proofs.Common.{◌≡◌, ◌<◌, ◌+◌, ◌-◌, ℕ, Bool, f
 use Rattle.std.specs.Prelude.{find}
 use Rattle.std.specs.List.{range_with_len}
 use Rattle.tree_topology.specs.Topology.{Topology}
-use Rattle.network_laws.specs.Streams.{is_talked_at}
+use Rattle.network_laws.specs.{is_talked_at}
 use Rattle.network_laws.proofs.Paths.{find-later}
 use Rattle.network_laws.proofs.streams.talking_station.Goals as goal
 

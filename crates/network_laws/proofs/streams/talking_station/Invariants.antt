@@ -1,7 +1,7 @@
 use Rattle.std.proofs.Common.{◌≡◌, ◌+◌, ◌-◌, length}
 use Rattle.std.specs.Prelude.{find}
 use Rattle.std.specs.List.{range_with_len}
-use Rattle.network_laws.specs.Streams.{is_talked_at, talking_node}
+use Rattle.network_laws.specs.{is_talked_at, talking_node}
 use Rattle.network_laws.proofs.streams.talking_station.Given as goal
 
 -- the lowest of all is the lowest from the next number on

@@ -1,9 +1,8 @@
 use Rattle.std.proofs.Common.{◌≡◌, ◌<◌, ◌+◌, ◌-◌, ◌&&◌, ℕ, Bool, false, length, sym, ap, ◌∙◌, arith}
 use Rattle.std.specs.List.{list_any, range_with_len}
-use Rattle.tree_topology.specs.Topology.{Topology}
-use Rattle.tree_topology.specs.Walk.{is_behind}
-use Rattle.network_laws.specs.Vlans.{is_declared_at}
-use Rattle.network_laws.proofs.Places.{any-later}
+use Rattle.srp_base.proofs.Bools.{any-later}
+use Rattle.tree_topology.specs.{Topology.Topology, Walk.is_behind}
+use Rattle.network_laws.specs.{is_declared_at}
 use Rattle.network_laws.proofs.vlans.is_declared_by_some.Goals as goal
 
 pub loop-y-preserved : goal.loop-y-preserved

@@ -1,7 +1,7 @@
 use Rattle.std.proofs.Common.{◌≡◌, ◌+◌, ◌-◌, ◌&&◌, length}
 use Rattle.std.specs.List.{list_any, range_with_len}
 use Rattle.tree_topology.specs.Walk.{is_behind}
-use Rattle.network_laws.specs.Vlans.{is_declared_at, is_declared_behind}
+use Rattle.network_laws.specs.{is_declared_at, is_declared_behind}
 use Rattle.network_laws.proofs.vlans.is_declared_by_some.Given as goal
 
 -- whether there is such a station is whether there is one from the next number on

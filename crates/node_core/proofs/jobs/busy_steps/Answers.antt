@@ -1,6 +1,5 @@
 use Rattle.std.proofs.Common.{◌++◌, [], ◌∷◌, ap, ◌∙◌, append_assoc}
-use Rattle.node_core.specs.declared.types.PortStep.TheVariants.{Due, Settle}
-use Rattle.node_core.specs.State.{works}
+use Rattle.node_core.specs.{Due, Settle, works}
 use Rattle.node_core.proofs.jobs.busy_steps.Goals as goal
 
 pub returns : goal.returns

@@ -1,6 +1,5 @@
-use Rattle.node_core.proofs.ProperSteps.{SideLaws, StreamLaws, proper-step}
+use Rattle.node_core.proofs.{ProperSteps.SideLaws, ProperSteps.StreamLaws, ProperSteps.proper-step, laws.every_step_keeps_a_node_proper.Goals.After-what_is_read_belongs_to_its_keys}
 use Rattle.node_core.proofs.laws.every_step_keeps_a_node_proper.Goals as goal
-use Rattle.node_core.proofs.laws.every_step_keeps_a_node_proper.Goals.{After-what_is_read_belongs_to_its_keys}
 
 vlans : After-what_is_read_belongs_to_its_keys → SideLaws
 vlans c = record {

@@ -1,8 +1,7 @@
 use Rattle.std.specs.Prelude.{List, ℕ}
-use Rattle.srp_base.specs.declared.mrp.App.{App}
-use Rattle.srp_base.specs.declared.mrp.App.TheVariants.{Mvrp, Msrp}
+use Rattle.srp_base.specs.declared.{mrp.App.App, mrp.App.TheVariants.Mvrp, mrp.App.TheVariants.Msrp}
 use Rattle.mrpdu_codec.specs.Octets.{AreOctets}
-use Rattle.node_core.specs.Proper.{SayWhatFits}
+use Rattle.node_core.specs.{SayWhatFits}
 use Rattle.node_core.proofs.laws.octets_say_what_fits.Goals as goal
 
 pub returns : goal.returns

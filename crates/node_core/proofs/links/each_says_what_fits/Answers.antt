@@ -1,7 +1,6 @@
 use Rattle.std.proofs.Common.{List, sym, subst}
 use Rattle.std.proofs.lemmas.List.{at_drop_more}
-use Rattle.node_core.specs.declared.types.Wire.{Wire}
-use Rattle.node_core.specs.Proper.{AreProperWires, IsProperWire}
+use Rattle.node_core.specs.{Wire, AreProperWires, IsProperWire}
 use Rattle.node_core.proofs.links.each_says_what_fits.Goals as goal
 
 pub loop-wire-preserved : goal.loop-wire-preserved

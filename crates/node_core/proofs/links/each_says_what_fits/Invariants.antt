@@ -1,5 +1,5 @@
 use Rattle.std.proofs.Common.{drop}
-use Rattle.node_core.specs.Proper.{AreProperWires}
+use Rattle.node_core.specs.{AreProperWires}
 use Rattle.node_core.proofs.links.each_says_what_fits.Given as goal
 
 -- where it is so of the PDUs that are left, it is so of all

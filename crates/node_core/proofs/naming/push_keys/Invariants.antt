@@ -1,6 +1,6 @@
 use Rattle.std.proofs.Common.{◌≡◌, ◌++◌, drop}
 use Rattle.std.specs.Prelude.{filter_map}
-use Rattle.node_core.specs.State.{registered_key, registered_in}
+use Rattle.node_core.specs.{registered_key, registered_in}
 use Rattle.node_core.proofs.naming.push_keys.Given as goal
 
 -- the attributes so far, and those of the rows from here on

@@ -1,7 +1,7 @@
 use Rattle.std.proofs.Common.{List, [], ◌∷◌, ◌++◌, ◌+◌, map, drop, sym, ap, ◌∙◌, append_assoc}
 use Rattle.std.proofs.lemmas.List.{at_drop_more}
 use Rattle.srp_base.specs.declared.ports.PortSetup.{PortSetup}
-use Rattle.node_core.specs.declared.types.Wire.{Wire}
+use Rattle.node_core.specs.{Wire}
 use Rattle.node_core.proofs.node.new_outboxes.Goals as goal
 
 pub loop-port-preserved : goal.loop-port-preserved

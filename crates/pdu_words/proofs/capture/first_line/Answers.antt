@@ -1,5 +1,5 @@
 use Rattle.std.proofs.Common.{◌+◌, ◌∷◌, ℕ, List, take, ap, sym, ◌∙◌}
-use Rattle.pdu_words.specs.Capture.{lines_of}
+use Rattle.pdu_words.specs.{lines_of}
 use Rattle.pdu_words.proofs.CaptureLemmas.{first_at, one_line, rest_is}
 use Rattle.pdu_words.proofs.capture.first_line.Goals as goal
 

@@ -1,6 +1,5 @@
 use Rattle.std.proofs.Common.{◌≡◌, ◌+◌, ◌≤◌, ◌++◌, length, string_bytes}
-use Rattle.pdu_words.specs.Capture.{lines_of}
-use Rattle.pdu_words.specs.Decoded.{lines_said, decoded_text}
+use Rattle.pdu_words.specs.{lines_of, lines_said, decoded_text}
 use Rattle.pdu_words.proofs.text.decoded_text.Given as goal
 
 -- the text so far with what the lines that are left say is the whole

@@ -1,6 +1,6 @@
 use Rattle.std.proofs.Common.{◌≡◌, ◌++◌, drop, string_bytes}
 use Rattle.std.specs.Prelude.{flat_map}
-use Rattle.pdu_words.specs.Events.{vid_line}
+use Rattle.pdu_words.specs.{vid_line}
 use Rattle.pdu_words.proofs.vlans.write_events.Given as goal
 
 -- the text so far with the lines of the events that are left is the whole

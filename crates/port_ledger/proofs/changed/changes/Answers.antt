@@ -1,7 +1,6 @@
 use Rattle.std.proofs.Common.{get_or, refl, sym, ◌∙◌}
 use Rattle.stream_importance.specs.declared.entry.Entry.{Entry}
-use Rattle.port_ledger.proofs.Finding.{blank}
-use Rattle.port_ledger.proofs.Merging.{begins-some, walk-booked, walk-dropped, walk-notes, walk-shares, walk-starts}
+use Rattle.port_ledger.proofs.{Finding.blank, Merging.begins-some, Merging.walk-booked, Merging.walk-dropped, Merging.walk-notes, Merging.walk-shares, Merging.walk-starts}
 use Rattle.port_ledger.proofs.changed.changes.Goals as goal
 
 pub loop-x-init : goal.loop-x-init

@@ -1,5 +1,5 @@
 use Rattle.std.proofs.Common.{◌≡◌, ◌≤◌, ◌-◌, length, drop}
-use Rattle.port_ledger.specs.Pass.{from_stream}
+use Rattle.port_ledger.specs.{from_stream}
 use Rattle.port_ledger.proofs.changed.from_stream.Given as goal
 
 abbrev pub invariant-loop-at : goal.invariant-loop-at

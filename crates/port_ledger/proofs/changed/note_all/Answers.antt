@@ -1,5 +1,4 @@
-use Rattle.port_ledger.proofs.Finding.{blank}
-use Rattle.port_ledger.proofs.Walks.{all-more}
+use Rattle.port_ledger.proofs.{Finding.blank, Walks.all-more}
 use Rattle.port_ledger.proofs.changed.note_all.Goals as goal
 
 pub loop-x-preserved : goal.loop-x-preserved

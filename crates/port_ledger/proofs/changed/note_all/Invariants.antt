@@ -1,5 +1,5 @@
 use Rattle.std.proofs.Common.{◌≡◌, ◌++◌, [], drop}
-use Rattle.port_ledger.specs.Book.{booked_only_in}
+use Rattle.port_ledger.specs.{booked_only_in}
 use Rattle.port_ledger.proofs.changed.note_all.Given as goal
 
 abbrev pub invariant-loop-x : goal.invariant-loop-x

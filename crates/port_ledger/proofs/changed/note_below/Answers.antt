@@ -1,5 +1,4 @@
-use Rattle.port_ledger.proofs.Finding.{blank}
-use Rattle.port_ledger.proofs.Walks.{below-more, below-ends}
+use Rattle.port_ledger.proofs.{Finding.blank, Walks.below-more, Walks.below-ends}
 use Rattle.port_ledger.proofs.changed.note_below.Goals as goal
 
 pub returns-then-x-stream : goal.returns-then-x-stream

@@ -1,5 +1,5 @@
 use Rattle.std.proofs.Common.{◌≡◌, ◌++◌, drop}
-use Rattle.port_ledger.specs.Pass.{booked_streams_below}
+use Rattle.port_ledger.specs.{booked_streams_below}
 use Rattle.port_ledger.proofs.changed.note_below.Given as goal
 
 abbrev pub invariant-loop-x : goal.invariant-loop-x

@@ -1,5 +1,5 @@
 use Rattle.std.proofs.Common.{◌≡◌, ◌≤◌, ◌+◌, ◌-◌, ◌++◌, drop, length, vec_capacity, vec_len}
-use Rattle.port_ledger.specs.Book.{booked_only_in}
+use Rattle.port_ledger.specs.{booked_only_in}
 use Rattle.port_ledger.proofs.changed.push_only_in.Given as goal
 
 abbrev pub invariant-loop-x : goal.invariant-loop-x

@@ -1,11 +1,8 @@
 use Rattle.std.proofs.Common.{◌≡◌, List, ap, subst, sym, ◌∙◌}
 use Rattle.std.specs.List.{AllByRecursion}
 use Rattle.stream_importance.specs.declared.entry.Entry.{Entry}
-use Rattle.port_ledger.specs.Decision.{AreOfDifferentStreams}
-use Rattle.port_ledger.specs.Pass.{entries_passed, importance_order, IsOnlyIn, with_pass}
-use Rattle.port_ledger.specs.Notes.{has_loss}
-use Rattle.port_ledger.proofs.Ranking.{ranked_is_ranked, IsPermutation-ranked, all_permuted, different_permuted}
-use Rattle.port_ledger.proofs.Passing.{stays_ranked}
+use Rattle.port_ledger.specs.{AreOfDifferentStreams, entries_passed, importance_order, IsOnlyIn, with_pass, has_loss}
+use Rattle.port_ledger.proofs.{Ranking.ranked_is_ranked, Ranking.IsPermutation-ranked, Ranking.all_permuted, Ranking.different_permuted, Passing.stays_ranked}
 use Rattle.port_ledger.proofs.decide.decide_behind.Goals as goal
 
 pub pass-lost-requires-clause-different : goal.pass-lost-requires-clause-different

@@ -1,11 +1,7 @@
 use Rattle.std.proofs.Common.{◌≡◌, ◌+◌, ◌≤◌, ◌<◌, ◌^◌, ◌++◌, List, length, take, drop, ap, subst, sym, ◌∙◌}
 use Rattle.srp_base.specs.declared.bandwidth.Class.TheVariants.{A, B}
 use Rattle.stream_importance.specs.declared.entry.Entry.{Entry}
-use Rattle.port_ledger.specs.Book.{booked_slope}
-use Rattle.port_ledger.specs.Decision.{decided_entries}
-use Rattle.port_ledger.specs.Front.{settled_front, decided_behind, IsOrdered}
-use Rattle.port_ledger.specs.Pass.{importance_order, with_pass}
-use Rattle.port_ledger.specs.Totals.{together, totals_of}
+use Rattle.port_ledger.specs.{booked_slope, decided_entries, settled_front, decided_behind, IsOrdered, importance_order, with_pass, together, totals_of}
 use Rattle.port_ledger.proofs.Fronts.{front_decided, front_different, front_only, front_ordered, front_place, front_range, front_taken, later, seam-drop, seam-take, seam-within}
 use Rattle.port_ledger.proofs.decide.decide_from.Goals as goal
 

@@ -1,6 +1,6 @@
 use Rattle.std.proofs.Common.{◌++◌, take, ap, ◌∙◌}
 use Rattle.std.proofs.lemmas.List.{append-nil}
-use Rattle.port_ledger.specs.Front.{decided_behind}
+use Rattle.port_ledger.specs.{decided_behind}
 use Rattle.port_ledger.proofs.Fronts.{none-past, rest-whole}
 use Rattle.port_ledger.proofs.decide.decide_part.Goals as goal
 

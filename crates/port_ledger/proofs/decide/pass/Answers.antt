@@ -1,11 +1,7 @@
 use Rattle.std.proofs.Common.{◌<◌, ◌+◌, not, List, length, get_or, set, arith, ◌∙◌, ap, refl, subst, sym, vec_capacity, ◌||◌}
 use Rattle.stream_importance.specs.declared.entry.Entry.{Entry}
-use Rattle.port_ledger.specs.Decision.{since_after}
-use Rattle.port_ledger.specs.Notes.{gains, loses, moves, noted, stream_where}
-use Rattle.port_ledger.specs.Pass.{sum_with}
-use Rattle.port_ledger.proofs.Finding.{blank}
-use Rattle.port_ledger.proofs.Noting.{noted-more, passed-more, skipped_gains, skipped_loses, skipped_passed}
-use Rattle.port_ledger.proofs.Passing.{PassesAt, pass_more, pass_skip, passes_first}
+use Rattle.port_ledger.specs.{since_after, gains, loses, moves, noted, stream_where, sum_with}
+use Rattle.port_ledger.proofs.{Finding.blank, Noting.noted-more, Noting.passed-more, Noting.skipped_gains, Noting.skipped_loses, Noting.skipped_passed, Passing.PassesAt, Passing.pass_more, Passing.pass_skip, Passing.passes_first}
 use Rattle.port_ledger.proofs.decide.pass.Goals as goal
 
 pub loop-x-init : goal.loop-x-init

@@ -1,5 +1,5 @@
 use Rattle.std.proofs.Common.{◌≡◌, ◌||◌, drop, vec_capacity}
-use Rattle.port_ledger.specs.Notes.{gains, has_loss, has_move, loses, noted, streams_passed}
+use Rattle.port_ledger.specs.{gains, has_loss, has_move, loses, noted, streams_passed}
 use Rattle.port_ledger.proofs.Passing.{PassesAt}
 use Rattle.port_ledger.proofs.decide.pass.Given as goal
 

@@ -1,6 +1,5 @@
 use Rattle.std.proofs.Common.{◌∙◌, sym}
-use Rattle.port_ledger.proofs.Passing.{with_since-found, with_since-missing, with_since-own}
-use Rattle.port_ledger.proofs.PerStream.{same_since-is}
+use Rattle.port_ledger.proofs.{Passing.with_since-found, Passing.with_since-missing, Passing.with_since-own, PerStream.same_since-is}
 use Rattle.port_ledger.proofs.decide.set_since.Goals as goal
 
 pub returns-then-same_since : goal.returns-then-same_since

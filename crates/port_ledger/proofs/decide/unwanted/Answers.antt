@@ -1,8 +1,6 @@
 use Rattle.std.proofs.Common.{◌≡◌, ℕ, List, take, ap, subst, sym, ◌∙◌}
 use Rattle.stream_importance.specs.declared.entry.Entry.{Entry}
-use Rattle.port_ledger.specs.Book.{entry_of, without}
-use Rattle.port_ledger.specs.Front.{ArePriorTo, IsFront, IsSettled}
-use Rattle.port_ledger.specs.Totals.{totals_of}
+use Rattle.port_ledger.specs.{entry_of, without, ArePriorTo, IsFront, IsSettled, totals_of}
 use Rattle.port_ledger.proofs.Changing.{book_different, book_place, book_range, book_totals, entry_goes}
 use Rattle.port_ledger.proofs.decide.unwanted.Goals as goal
 

@@ -2,14 +2,8 @@ use Rattle.std.proofs.Common.{◌≡◌, ◌≢◌, ◌+◌, ◌-◌, ◌≤◌,
 use Rattle.std.specs.List.{AllByRecursion}
 use Rattle.std.proofs.lemmas.List.{length-drop}
 use Rattle.stream_importance.specs.declared.entry.Entry.{Entry}
-use Rattle.port_ledger.specs.Book.{booked_only_in, entry_of, with_want}
-use Rattle.port_ledger.specs.Decision.{decided_entries, stream_of, IsAscending}
-use Rattle.port_ledger.specs.Front.{AreBehind, IsFront}
-use Rattle.port_ledger.specs.Notes.{booking_of, gains, loses, noted, streams_passed}
-use Rattle.port_ledger.specs.Pass.{exchanged, importance_order}
-use Rattle.port_ledger.specs.Totals.{both_of}
-use Rattle.port_ledger.proofs.Keeping.{ascending_wanted}
-use Rattle.port_ledger.proofs.Noting.{all_gained, all_lost, rising_only}
+use Rattle.port_ledger.specs.{booked_only_in, entry_of, with_want, decided_entries, stream_of, IsAscending, AreBehind, IsFront, booking_of, gains, loses, noted, streams_passed, exchanged, importance_order, both_of}
+use Rattle.port_ledger.proofs.{Keeping.ascending_wanted, Noting.all_gained, Noting.all_lost, Noting.rising_only}
 use Rattle.port_ledger.proofs.decide.wanted.Goals as goal
 
 -- what is known of the cut, told of the entries and the order themselves

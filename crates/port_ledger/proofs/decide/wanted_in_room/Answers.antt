@@ -1,17 +1,9 @@
 use Rattle.std.proofs.Common.{◌≡◌, ◌≢◌, ◌↔◌, ◌≤◌, ◌++◌, ◌||◌, ℕ, Bool, IsTrue, List, length, take, drop, ap, subst, sym, ◌∙◌}
 use Rattle.std.specs.List.{AllByRecursion}
-use Rattle.stream_importance.specs.declared.entry.Entry.{Entry}
-use Rattle.stream_importance.specs.declared.entry.Want.{Want}
-use Rattle.stream_importance.specs.declared.slope.Caps.{Caps}
+use Rattle.stream_importance.specs.declared.{entry.Entry.Entry, entry.Want.Want, slope.Caps.Caps}
 use Rattle.port_ledger.specs.declared.totals.Totals.{Totals}
-use Rattle.port_ledger.specs.Book.{entry_of, with_want}
-use Rattle.port_ledger.specs.Decision.{booked_of, stream_of, IsAscending}
-use Rattle.port_ledger.specs.Front.{AreBehind, IsFront}
-use Rattle.port_ledger.specs.Notes.{has_booking, has_move}
-use Rattle.port_ledger.specs.Pass.{exchanged, importance_order}
-use Rattle.port_ledger.specs.Totals.{both_of}
-use Rattle.port_ledger.proofs.Keeping.{ascending_wanted}
-use Rattle.port_ledger.proofs.Noting.{any_changed, found_behind, none_behind}
+use Rattle.port_ledger.specs.{entry_of, with_want, booked_of, stream_of, IsAscending, AreBehind, IsFront, has_booking, has_move, exchanged, importance_order, both_of}
+use Rattle.port_ledger.proofs.{Keeping.ascending_wanted, Noting.any_changed, Noting.found_behind, Noting.none_behind}
 use Rattle.port_ledger.proofs.decide.wanted_in_room.Goals as goal
 
 -- what is known of the cut, told of the entries and the order themselves

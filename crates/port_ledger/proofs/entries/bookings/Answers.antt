@@ -1,6 +1,5 @@
 use Rattle.std.proofs.Common.{◌∙◌}
-use Rattle.port_ledger.proofs.Finding.{blank}
-use Rattle.port_ledger.proofs.Walks.{booked-ends, booked-more, booked-over}
+use Rattle.port_ledger.proofs.{Finding.blank, Walks.booked-ends, Walks.booked-more, Walks.booked-over}
 use Rattle.port_ledger.proofs.entries.bookings.Goals as goal
 
 pub loop-x-preserved-then-is_none : goal.loop-x-preserved-then-is_none

@@ -1,5 +1,5 @@
 use Rattle.std.proofs.Common.{◌≡◌, ◌++◌, drop}
-use Rattle.port_ledger.specs.Decision.{booked_of}
+use Rattle.port_ledger.specs.{booked_of}
 use Rattle.port_ledger.proofs.entries.bookings.Given as goal
 
 abbrev pub invariant-loop-x : goal.invariant-loop-x

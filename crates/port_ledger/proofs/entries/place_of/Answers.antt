@@ -1,6 +1,6 @@
 use Rattle.std.proofs.Common.{rules}
 use Rattle.std.proofs.lemmas.List.Sorted.{answers_always}
-use Rattle.port_ledger.specs.Decision.{stream_of}
+use Rattle.port_ledger.specs.{stream_of}
 use Rattle.port_ledger.proofs.Finding.{place_found, place_missing}
 use Rattle.port_ledger.proofs.entries.place_of.Goals as goal
 

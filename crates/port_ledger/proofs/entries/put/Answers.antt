@@ -1,5 +1,5 @@
 use Rattle.std.proofs.Common.{◌∙◌, ap, is_some, set, sym, true≢false}
-use Rattle.port_ledger.specs.Book.{entry_with}
+use Rattle.port_ledger.specs.{entry_with}
 use Rattle.port_ledger.proofs.Finding.{missing_is, with_want-found, with_want-missing}
 use Rattle.port_ledger.proofs.entries.put.Goals as goal
 

@@ -1,8 +1,5 @@
 use Rattle.std.proofs.Common.{◌∙◌}
-use Rattle.port_ledger.proofs.Changing.{none_found}
-use Rattle.port_ledger.proofs.Finding.{blank, missing_is}
-use Rattle.port_ledger.proofs.Marking.{different_from_ascending}
-use Rattle.port_ledger.proofs.TakingOut.{without-at, without-others}
+use Rattle.port_ledger.proofs.{Changing.none_found, Finding.blank, Finding.missing_is, Marking.different_from_ascending, TakingOut.without-at, TakingOut.without-others}
 use Rattle.port_ledger.proofs.entries.take_out.Goals as goal
 
 pub returns-in-Ok-clause-items : goal.returns-in-Ok-clause-items

@@ -1,5 +1,5 @@
 use Rattle.std.proofs.Common.{◌≡◌, sum_by, rules, ◌∙◌}
-use Rattle.port_ledger.specs.Pass.{slope_before}
+use Rattle.port_ledger.specs.{slope_before}
 use Rattle.port_ledger.proofs.Fitting.{above-summed}
 use Rattle.port_ledger.proofs.fit.above.Goals as goal
 

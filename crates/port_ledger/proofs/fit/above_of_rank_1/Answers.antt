@@ -1,5 +1,5 @@
 use Rattle.std.proofs.Common.{◌≡◌, sum_by, rules, ◌∙◌}
-use Rattle.port_ledger.specs.Pass.{normal_slope_before}
+use Rattle.port_ledger.specs.{normal_slope_before}
 use Rattle.port_ledger.proofs.Fitting.{normal-summed}
 use Rattle.port_ledger.proofs.fit.above_of_rank_1.Goals as goal
 

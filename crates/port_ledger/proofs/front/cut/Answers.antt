@@ -2,9 +2,8 @@ use Rattle.std.proofs.Common.{◌≡◌, ◌≤◌, false, true, List, length, t
 use Rattle.std.specs.List.{AllByRecursion}
 use Rattle.std.proofs.lemmas.List.{length-take-le, take-append-drop, take-take}
 use Rattle.stream_importance.specs.declared.entry.Entry.{Entry}
-use Rattle.port_ledger.specs.Front.{AreLasting, IsSettled}
-use Rattle.port_ledger.proofs.Settling.{cut_settled, is_prior_to_both, prior_comes, prior_goes}
-use Rattle.port_ledger.proofs.TotalsLemmas.{front-is, part-within, rest-fits}
+use Rattle.port_ledger.specs.{AreLasting, IsSettled}
+use Rattle.port_ledger.proofs.{Settling.cut_settled, Settling.is_prior_to_both, Settling.prior_comes, Settling.prior_goes, TotalsLemmas.front-is, TotalsLemmas.part-within, TotalsLemmas.rest-fits}
 use Rattle.port_ledger.proofs.front.cut.Goals as goal
 
 pub ahead-requires : goal.ahead-requires

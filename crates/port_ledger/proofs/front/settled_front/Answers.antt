@@ -1,5 +1,5 @@
 use Rattle.std.proofs.Common.{◌≡◌, ap, drop, arith, ◌∙◌}
-use Rattle.port_ledger.specs.Front.{settled_levels}
+use Rattle.port_ledger.specs.{settled_levels}
 use Rattle.std.proofs.lemmas.List.{length-drop}
 use Rattle.port_ledger.proofs.Settling.{levels_settled, settled_short}
 use Rattle.port_ledger.proofs.front.settled_front.Goals as goal

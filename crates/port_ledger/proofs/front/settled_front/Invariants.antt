@@ -1,5 +1,5 @@
 use Rattle.std.proofs.Common.{◌≡◌, ◌≤◌, length, drop}
-use Rattle.port_ledger.specs.Front.{first_level, settled_levels}
+use Rattle.port_ledger.specs.{first_level, settled_levels}
 use Rattle.port_ledger.proofs.front.settled_front.Given as goal
 
 abbrev pub invariant-loop-at : goal.invariant-loop-at

@@ -1,5 +1,5 @@
 use Rattle.std.proofs.Common.{refl}
-use Rattle.port_ledger.specs.Book.{fit_for, tested_entry}
+use Rattle.port_ledger.specs.{fit_for, tested_entry}
 use Rattle.port_ledger.proofs.Shares.{book_within, fit_within}
 use Rattle.port_ledger.proofs.laws.bookings_are_within_caps.Goals as goal
 

@@ -1,7 +1,6 @@
 use Rattle.std.proofs.Common.{refl}
-use Rattle.port_ledger.specs.Book.{fit_for}
-use Rattle.port_ledger.proofs.PerStream.{kept_fits, one_booked}
-use Rattle.port_ledger.proofs.Standing.{book_stands}
+use Rattle.port_ledger.specs.{fit_for}
+use Rattle.port_ledger.proofs.{PerStream.kept_fits, PerStream.one_booked, Standing.book_stands}
 use Rattle.port_ledger.proofs.laws.decisions_stand.Goals as goal
 
 pub returns-clause-decided : goal.returns-clause-decided

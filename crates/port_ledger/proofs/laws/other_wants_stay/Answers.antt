@@ -1,5 +1,4 @@
-use Rattle.port_ledger.proofs.PerStream.{wants_wanted}
-use Rattle.port_ledger.proofs.Unwanting.{wants_left}
+use Rattle.port_ledger.proofs.{PerStream.wants_wanted, Unwanting.wants_left}
 use Rattle.port_ledger.proofs.laws.other_wants_stay.Goals as goal
 
 pub returns-clause-wanted : goal.returns-clause-wanted

@@ -1,6 +1,6 @@
 use Rattle.std.proofs.Common.{◌≡◌, Some, None, refl, drop, ap, sym, ◌==◌, ◌∙◌, true≢false}
 use Rattle.std.specs.Prelude.{position}
-use Rattle.port_ledger.specs.Decision.{stream_of}
+use Rattle.port_ledger.specs.{stream_of}
 use Rattle.port_ledger.proofs.TakingOut.{nowhere-none, without_behind, without_nowhere}
 use Rattle.port_ledger.proofs.order.leave.Goals as goal
 

@@ -1,10 +1,8 @@
 use Rattle.std.proofs.Common.{◌≡◌, ℕ, suc, ◌+◌, ◌-◌, ◌++◌, List, get_or, take, drop, false, true, ap, subst, ◌∙◌, arith, sym}
 use Rattle.std.specs.List.{swap}
 use Rattle.stream_importance.specs.declared.entry.Entry.{Entry}
-use Rattle.port_ledger.specs.Decision.{comes_after}
-use Rattle.port_ledger.specs.Pass.{place_first}
-use Rattle.port_ledger.proofs.Finding.{blank}
-use Rattle.port_ledger.proofs.Sinking.{sink_done, sink_end, sink_step}
+use Rattle.port_ledger.specs.{comes_after, place_first}
+use Rattle.port_ledger.proofs.{Finding.blank, Sinking.sink_done, Sinking.sink_end, Sinking.sink_step}
 use Rattle.port_ledger.proofs.order.place_first.Goals as goal
 
 pub returns-then-comes_after : goal.returns-then-comes_after

@@ -1,5 +1,5 @@
 use Rattle.std.proofs.Common.{◌≡◌, ◌-◌, ◌++◌, length, take, drop}
-use Rattle.port_ledger.specs.Pass.{place_first}
+use Rattle.port_ledger.specs.{place_first}
 use Rattle.port_ledger.proofs.order.place_first.Given as goal
 
 abbrev pub invariant-loop-at : goal.invariant-loop-at

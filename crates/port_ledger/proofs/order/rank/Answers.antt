@@ -1,5 +1,5 @@
 use Rattle.std.proofs.Common.{◌≡◌, ◌<◌, suc, ◌-◌, ◌++◌, length, take, drop, ◌∙◌, ap, arith}
-use Rattle.port_ledger.specs.Pass.{importance_order}
+use Rattle.port_ledger.specs.{importance_order}
 use Rattle.port_ledger.proofs.Sinking.{rank_step}
 use Rattle.port_ledger.proofs.order.rank.Goals as goal
 

@@ -1,5 +1,5 @@
 use Rattle.std.proofs.Common.{◌≡◌, ◌≤◌, ◌++◌, length, take, drop}
-use Rattle.port_ledger.specs.Pass.{importance_order}
+use Rattle.port_ledger.specs.{importance_order}
 use Rattle.port_ledger.proofs.order.rank.Given as goal
 
 abbrev pub invariant-loop-rest : goal.invariant-loop-rest

@@ -1,8 +1,7 @@
 use Rattle.std.proofs.Common.{get_or}
 use Rattle.std.proofs.lemmas.List.{get_or_default}
 use Rattle.stream_importance.specs.declared.entry.Entry.{Entry}
-use Rattle.port_ledger.proofs.Finding.{blank}
-use Rattle.port_ledger.proofs.TotalsLemmas.{walks-end, walks-on}
+use Rattle.port_ledger.proofs.{Finding.blank, TotalsLemmas.walks-end, TotalsLemmas.walks-on}
 use Rattle.port_ledger.proofs.totals.totals_of.Goals as goal
 
 pub loop-x-preserved : goal.loop-x-preserved

@@ -1,6 +1,6 @@
 use Rattle.std.proofs.Common.{◌≡◌, ◌++◌, drop}
 use Rattle.std.specs.Prelude.{flat_map}
-use Rattle.port_margins.specs.Margins.{port_lines}
+use Rattle.port_margins.specs.{port_lines}
 use Rattle.port_margins.proofs.ports.put_each.Given as goal
 
 -- the text so far with the lines of the ports that are left is the whole

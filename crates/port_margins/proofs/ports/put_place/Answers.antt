@@ -1,11 +1,11 @@
 use Rattle.std.proofs.Common.{ℕ, ◌++◌, ap, ◌∙◌}
+use Rattle.srp_base.proofs.Lists.{three_pieces}
 use Rattle.stream_importance.specs.declared.slope.Caps.{Caps}
 use Rattle.srp_base.specs.declared.bandwidth.Class.TheVariants.{A}
 use Rattle.attribute_propagation.specs.Ports.{place_of}
 use Rattle.node_core.specs.State.{slope_at}
 use Rattle.scenario_bounds.specs.Caps.{caps_of_link}
-use Rattle.port_margins.specs.Margins.{lines_by, refused_lines}
-use Rattle.port_margins.proofs.Pieces.{three_pieces}
+use Rattle.port_margins.specs.{lines_by, refused_lines}
 use Rattle.port_margins.proofs.ports.put_place.Goals as goal
 
 pub returns : goal.returns

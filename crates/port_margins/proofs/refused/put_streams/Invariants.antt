@@ -1,7 +1,7 @@
 use Rattle.std.proofs.Common.{◌≡◌, ◌++◌, drop}
 use Rattle.std.specs.Prelude.{flat_map}
 use Rattle.attribute_propagation.specs.Ports.{place_of}
-use Rattle.port_margins.specs.Margins.{stream_line}
+use Rattle.port_margins.specs.{stream_line}
 use Rattle.port_margins.proofs.refused.put_streams.Given as goal
 
 -- the text so far with the lines of the streams that are left is the whole

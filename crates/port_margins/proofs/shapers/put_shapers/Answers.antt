@@ -1,7 +1,7 @@
 use Rattle.std.proofs.Common.{◌++◌, ap, ◌∙◌}
 use Rattle.std.specs.Prelude.{codes}
 use Rattle.class_b_bound.specs.declared.bound.BoundB.{BoundB}
-use Rattle.port_margins.specs.Margins.{shaper_line}
+use Rattle.port_margins.specs.{shaper_line}
 use Rattle.port_margins.proofs.Pieces.{two_pieces}
 use Rattle.port_margins.proofs.shapers.put_shapers.Goals as goal
 

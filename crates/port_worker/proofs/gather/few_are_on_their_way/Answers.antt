@@ -1,7 +1,6 @@
 use Rattle.std.proofs.Common.{◌≡◌, ◌⊎◌, inl, inr, ℕ, ◌+◌, ◌<◌, ◌≤◌, sym, subst}
 use Rattle.std.specs.Prelude.{◌^◌}
-use Rattle.srp_base.specs.declared.mrp.App.{App}
-use Rattle.srp_base.specs.declared.numbers.EgressPort.{EgressPort}
+use Rattle.srp_base.specs.declared.{mrp.App.App, numbers.EgressPort.EgressPort}
 use Rattle.tree_topology.specs.Topology.{Topology, HasPort}
 use Rattle.world_core.specs.Marks.{MarksState, mark_at}
 use Rattle.port_worker.proofs.Lists.{up_to}

@@ -1,6 +1,5 @@
 use Rattle.std.proofs.Common.{◌<◌, ◌≤◌, ◌^◌}
-use Rattle.srp_base.specs.declared.mrp.App.{App}
-use Rattle.srp_base.specs.declared.numbers.EgressPort.{EgressPort}
+use Rattle.srp_base.specs.declared.{mrp.App.App, numbers.EgressPort.EgressPort}
 use Rattle.tree_topology.specs.Topology.{HasPort}
 use Rattle.world_core.specs.Marks.{mark_at}
 use Rattle.port_worker.proofs.gather.few_are_on_their_way.Given as goal

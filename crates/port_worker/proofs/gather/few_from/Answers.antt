@@ -2,8 +2,7 @@ use Rattle.std.proofs.Common.{◌≡◌, ℕ, ◌<◌, length, sym, ap, ◌∙�
 use Rattle.std.specs.Prelude.{Option, ◌^◌}
 use Rattle.std.specs.Option.{option_map_or}
 use Rattle.srp_base.specs.declared.numbers.EgressPort.{EgressPort}
-use Rattle.tree_topology.specs.Topology.{Topology, HasPort}
-use Rattle.tree_topology.specs.Ports.{peer_of}
+use Rattle.tree_topology.specs.{Topology.Topology, Topology.HasPort, Ports.peer_of}
 use Rattle.attribute_propagation.specs.Ports.{place_of}
 use Rattle.node_core.specs.State.{NodeState, box_at}
 use Rattle.world_core.specs.World.{inbox, outbox}

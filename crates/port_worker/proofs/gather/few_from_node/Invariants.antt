@@ -1,6 +1,5 @@
 use Rattle.std.proofs.Common.{◌<◌, ◌≤◌, ◌^◌}
-use Rattle.srp_base.specs.declared.mrp.App.{App}
-use Rattle.srp_base.specs.declared.numbers.PortNo.{PortNo}
+use Rattle.srp_base.specs.declared.{mrp.App.App, numbers.PortNo.PortNo}
 use Rattle.tree_topology.specs.Topology.{HasPort}
 use Rattle.world_core.specs.Marks.{mark_at}
 use Rattle.port_worker.proofs.gather.few_from_node.Given as goal

@@ -1,5 +1,5 @@
 use Rattle.std.proofs.Common.{◌≡◌, drop}
-use Rattle.port_worker.specs.Marked.{marks_by, CanMarkAll}
+use Rattle.port_worker.specs.{marks_by, CanMarkAll}
 use Rattle.port_worker.proofs.gather.follow.Given as goal
 
 abbrev pub invariant-loop-i : goal.invariant-loop-i

@@ -1,14 +1,12 @@
 use Rattle.std.proofs.Common.{◌≡◌, ◌∷◌, [], ◌++◌, List, refl, sym, ap, ◌∙◌, subst, arith}
 use Rattle.std.proofs.lemmas.List.{map-append}
+use Rattle.srp_base.proofs.Lists.{no_more as no_items}
 use Rattle.node_core.specs.Holding.{NodeHolding}
 use Rattle.world_core.specs.declared.journal.NodeSteps.{NodeSteps}
-use Rattle.world_core.specs.Marks.{MarksState}
-use Rattle.world_core.specs.OneByOne.{steps_before}
+use Rattle.world_core.specs.{Marks.MarksState, OneByOne.steps_before}
 use Rattle.port_worker.specs.declared.node.Worked.{Worked}
-use Rattle.port_worker.specs.Marked.{marks_by}
-use Rattle.port_worker.specs.Gathered.{CanFollow, marks_made, nodes_of, steps_made}
-use Rattle.port_worker.proofs.Lists.{rest_less, rest_none, no_items}
-use Rattle.port_worker.proofs.GroupLemmas.{steps_more, marks_more}
+use Rattle.port_worker.specs.{marks_by, CanFollow, marks_made, nodes_of, steps_made}
+use Rattle.port_worker.proofs.{Lists.rest_less, Lists.rest_none, GroupLemmas.steps_more, GroupLemmas.marks_more}
 use Rattle.port_worker.proofs.gather.gather.Goals as goal
 
 pub loop-worked-init : goal.loop-worked-init

@@ -1,5 +1,5 @@
 use Rattle.std.proofs.Common.{◌≡◌, ◌++◌}
-use Rattle.port_worker.specs.Gathered.{CanFollow, marks_made, nodes_of, steps_made}
+use Rattle.port_worker.specs.{CanFollow, marks_made, nodes_of, steps_made}
 use Rattle.port_worker.proofs.gather.gather.Given as goal
 
 abbrev pub invariant-loop-worked : goal.invariant-loop-worked

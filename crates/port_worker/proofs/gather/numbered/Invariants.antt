@@ -1,5 +1,5 @@
 use Rattle.std.proofs.Common.{◌≡◌, ◌++◌, length, map}
-use Rattle.port_worker.specs.Gathered.{AreNumbered}
+use Rattle.port_worker.specs.{AreNumbered}
 use Rattle.port_worker.proofs.gather.numbered.Given as goal
 
 abbrev pub invariant-loop-node : goal.invariant-loop-node

@@ -1,8 +1,7 @@
 use Rattle.std.proofs.Common.{◌≡◌, ◌∷◌, [], ◌++◌, List, ap, ◌∙◌, refl, arith}
-use Rattle.port_worker.specs.declared.node.Task.{Task}
-use Rattle.port_worker.specs.Gathered.{joined}
-use Rattle.port_worker.proofs.Lists.{rest_less, rest_none, no_items}
-use Rattle.port_worker.proofs.GroupLemmas.{grouped_more, grouped_all}
+use Rattle.srp_base.proofs.Lists.{no_more as no_items}
+use Rattle.port_worker.specs.{Task, joined}
+use Rattle.port_worker.proofs.{Lists.rest_less, Lists.rest_none, GroupLemmas.grouped_more, GroupLemmas.grouped_all}
 use Rattle.port_worker.proofs.group.in_groups.Goals as goal
 
 pub loop-task-init : goal.loop-task-init

@@ -1,5 +1,5 @@
 use Rattle.std.proofs.Common.{◌≡◌, ◌++◌}
-use Rattle.port_worker.specs.Gathered.{joined}
+use Rattle.port_worker.specs.{joined}
 use Rattle.port_worker.proofs.group.in_groups.Given as goal
 
 abbrev pub invariant-loop-task : goal.invariant-loop-task

@@ -1,10 +1,10 @@
 use Rattle.std.proofs.Common.{◌≡◌, ◌∷◌, [], ◌++◌, List, refl, sym, ap, ◌∙◌, subst, arith}
 use Rattle.std.specs.Prelude.{Result}
+use Rattle.srp_base.proofs.Lists.{no_more as no_items}
 use Rattle.srp_base.specs.declared.memory.NoMemory.{NoMemory}
 use Rattle.port_worker.specs.declared.node.Worked.{Worked}
-use Rattle.port_worker.specs.Gathered.{AreParts}
-use Rattle.port_worker.proofs.Lists.{rest_less, rest_none, no_items}
-use Rattle.port_worker.proofs.GroupLemmas.{parts_more}
+use Rattle.port_worker.specs.{AreParts}
+use Rattle.port_worker.proofs.{Lists.rest_less, Lists.rest_none, GroupLemmas.parts_more}
 use Rattle.port_worker.proofs.group.join_parts.Goals as goal
 
 pub loop-part-init : goal.loop-part-init

@@ -1,5 +1,5 @@
 use Rattle.std.proofs.Common.{◌≡◌, ◌++◌}
-use Rattle.port_worker.specs.Gathered.{AreParts}
+use Rattle.port_worker.specs.{AreParts}
 use Rattle.port_worker.proofs.group.join_parts.Given as goal
 
 abbrev pub invariant-loop-part : goal.invariant-loop-part

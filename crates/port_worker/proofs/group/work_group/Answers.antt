@@ -1,9 +1,8 @@
 use Rattle.std.proofs.Common.{◌≡◌, ◌∷◌, [], List, sym, ◌∙◌, subst, arith}
-use Rattle.port_worker.specs.declared.node.Task.{Task}
+use Rattle.srp_base.proofs.Lists.{no_more as no_items}
+use Rattle.port_worker.specs.{Task, AreWorked}
 use Rattle.port_worker.specs.declared.node.Worked.{Worked}
-use Rattle.port_worker.specs.Gathered.{AreWorked}
-use Rattle.port_worker.proofs.Lists.{rest_less, rest_none, no_items}
-use Rattle.port_worker.proofs.GroupLemmas.{worked_more}
+use Rattle.port_worker.proofs.{Lists.rest_less, Lists.rest_none, GroupLemmas.worked_more}
 use Rattle.port_worker.proofs.group.work_group.Goals as goal
 
 pub loop-task-init : goal.loop-task-init

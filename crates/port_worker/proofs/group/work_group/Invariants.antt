@@ -1,5 +1,5 @@
 use Rattle.std.proofs.Common.{◌≡◌, ◌++◌}
-use Rattle.port_worker.specs.Gathered.{AreWorked}
+use Rattle.port_worker.specs.{AreWorked}
 use Rattle.port_worker.proofs.group.work_group.Given as goal
 
 abbrev pub invariant-loop-task : goal.invariant-loop-task

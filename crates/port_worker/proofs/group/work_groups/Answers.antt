@@ -1,11 +1,10 @@
 use Rattle.std.proofs.Common.{◌≡◌, List, length, subst, refl, arith}
 use Rattle.std.specs.Prelude.{slice_get, slice_index_or, Result, IfOk}
 use Rattle.std.proofs.lemmas.Option.{slice_get_within, slice_get-get_or, slice_get_read}
+use Rattle.srp_base.proofs.Options.{one_some}
 use Rattle.srp_base.specs.declared.memory.NoMemory.{NoMemory}
-use Rattle.port_worker.specs.declared.node.Task.{Task}
+use Rattle.port_worker.specs.{Task, AreWorked}
 use Rattle.port_worker.specs.declared.node.Worked.{Worked}
-use Rattle.port_worker.specs.Gathered.{AreWorked}
-use Rattle.port_worker.proofs.Lists.{one_some}
 use Rattle.port_worker.proofs.GroupLemmas.{parts_worked}
 use Rattle.port_worker.proofs.group.work_groups.Goals as goal
 

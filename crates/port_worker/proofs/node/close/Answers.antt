@@ -3,8 +3,7 @@ use Rattle.std.specs.Prelude.{All, slice_index_or}
 use Rattle.std.proofs.lemmas.Option.{slice_get-get_or}
 use Rattle.turn_lock.specs.Passes.{is_given}
 use Rattle.bridge_book.specs.declared.hub.HubCloseErr.{HubCloseErr}
-use Rattle.bridge_book.specs.Hub.{PortPass, HasClosedHub}
-use Rattle.bridge_book.specs.Refusal.{IsRefusedHub}
+use Rattle.bridge_book.specs.{Hub.PortPass, Hub.HasClosedHub, Refusal.IsRefusedHub}
 use Rattle.port_worker.proofs.WorkedLemmas.{closed_worked, none_missing}
 use Rattle.port_worker.proofs.node.close.Goals as goal
 

@@ -1,10 +1,10 @@
 use denote.Param.Send.{sendable}
 use Rattle.std.proofs.Common.{◌≡◌, ◌∷◌, [], ◌++◌, ◌+◌, ℕ, List, length, sym, ap, ◌∙◌, arith}
 use Rattle.std.specs.Prelude.{slice_get, Some}
+use Rattle.srp_base.proofs.Lists.{no_more as no_items}
 use Rattle.bridge_book.specs.Hub.{PortPass}
-use Rattle.port_worker.specs.declared.turn.Turn.{Turn}
-use Rattle.port_worker.proofs.Lists.{rest_less, rest_first, rest_none, count_more, no_items}
-use Rattle.port_worker.proofs.TurnLemmas.{done_more}
+use Rattle.port_worker.specs.{Turn}
+use Rattle.port_worker.proofs.{Lists.rest_less, Lists.rest_first, Lists.rest_none, Lists.count_more, TurnLemmas.done_more}
 use Rattle.port_worker.proofs.node.finish_all.Goals as goal
 
 pub loop-turn-init : goal.loop-turn-init

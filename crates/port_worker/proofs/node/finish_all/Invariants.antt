@@ -1,5 +1,5 @@
 use Rattle.std.proofs.Common.{◌≡◌, ◌++◌, length}
-use Rattle.port_worker.specs.Turns.{AreDone}
+use Rattle.port_worker.specs.{AreDone}
 use Rattle.port_worker.proofs.node.finish_all.Given as goal
 
 abbrev pub invariant-loop-turn : goal.invariant-loop-turn

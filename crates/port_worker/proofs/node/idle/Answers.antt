@@ -1,7 +1,7 @@
 use Rattle.std.proofs.Common.{List, [], sym, subst}
 use Rattle.node_core.specs.declared.types.NodeStep.{NodeStep}
 use Rattle.bridge_book.specs.declared.notice.Notice.{Notice}
-use Rattle.port_worker.specs.Worked.{IsNodeWorked}
+use Rattle.port_worker.specs.{IsNodeWorked}
 use Rattle.port_worker.proofs.WorkedLemmas.{idle_worked}
 use Rattle.port_worker.proofs.node.idle.Goals as goal
 

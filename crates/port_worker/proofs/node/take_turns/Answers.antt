@@ -2,13 +2,11 @@ use denote.Param.Send.{sendable}
 use Rattle.std.proofs.Common.{◌≡◌, ◌+◌, List, length, sym, ap, ◌∙◌, subst, refl, arith}
 use Rattle.std.specs.Prelude.{slice_get, slice_index_or}
 use Rattle.std.proofs.lemmas.Option.{slice_get_within, slice_get-get_or, slice_get_read}
+use Rattle.srp_base.proofs.Options.{one_some}
 use Rattle.turn_lock.specs.Passes.{first_passes}
 use Rattle.bridge_book.specs.Hub.{PortPass}
-use Rattle.port_worker.specs.declared.turn.Turn.{Turn}
-use Rattle.port_worker.specs.Turns.{IsTurn}
-use Rattle.port_worker.proofs.CrossingLemmas.{pass_crosses, turn_crosses}
-use Rattle.port_worker.proofs.Lists.{one_some}
-use Rattle.port_worker.proofs.TurnLemmas.{first_at, first_many}
+use Rattle.port_worker.specs.{Turn, IsTurn}
+use Rattle.port_worker.proofs.{CrossingLemmas.pass_crosses, CrossingLemmas.turn_crosses, TurnLemmas.first_at, TurnLemmas.first_many}
 use Rattle.port_worker.proofs.node.take_turns.Goals as goal
 
 pub map_vec-requires-send-J : goal.map_vec-requires-send-J

@@ -2,7 +2,7 @@ use Rattle.std.proofs.Common.{map, sym, ap, ◌∙◌, subst}
 use Rattle.std.specs.List.{range_with_len}
 use Rattle.node_core.specs.State.{NodeState, ports_of, job_list}
 use Rattle.bridge_book.specs.Hub.{first_node}
-use Rattle.port_worker.specs.Worked.{IsNodeWorked}
+use Rattle.port_worker.specs.{IsNodeWorked}
 use Rattle.port_worker.proofs.node.work_by_ports.Goals as goal
 
 pub close-requires-clause-jobs : goal.close-requires-clause-jobs

@@ -3,10 +3,7 @@ use Rattle.std.proofs.Common.{[], ℕ, List, sym, ap, subst, ◌∙◌, ◌<◌}
 use Rattle.srp_base.specs.declared.ports.PortChange.{PortChange}
 use Rattle.topology_file.specs.Plan.{Plan}
 use Rattle.world_core.specs.declared.journal.Tick.{Tick}
-use Rattle.world_core.specs.World.{WorldState}
-use Rattle.world_core.specs.Start.{world_of}
-use Rattle.world_core.specs.Carrying.{NothingWaits}
-use Rattle.world_core.specs.NotedRuns.{IsNotedRun}
+use Rattle.world_core.specs.{World.WorldState, Start.world_of, Carrying.NothingWaits, NotedRuns.IsNotedRun}
 use Rattle.port_worker.proofs.RunLemmas.{first_cursor, one_tick}
 use Rattle.port_worker.proofs.run.run_ports.Goals as goal
 

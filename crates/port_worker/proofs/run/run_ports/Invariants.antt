@@ -1,7 +1,5 @@
 use Rattle.std.proofs.Common.{◌≡◌}
-use Rattle.world_core.specs.Carrying.{NothingWaits}
-use Rattle.world_core.specs.Cursor.{IsCursor}
-use Rattle.world_core.specs.NotedRuns.{IsNotedRun}
+use Rattle.world_core.specs.{Carrying.NothingWaits, Cursor.IsCursor, NotedRuns.IsNotedRun}
 use Rattle.port_worker.proofs.run.run_ports.Given as goal
 
 abbrev pub invariant-loop-t : goal.invariant-loop-t

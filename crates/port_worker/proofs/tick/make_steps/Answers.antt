@@ -1,11 +1,8 @@
 use Rattle.std.proofs.Common.{◌≡◌, ◌<◌, List, length, ap, sym, subst, ◌∙◌, arith, rules}
 use Rattle.tree_topology.specs.Topology.{Topology}
-use Rattle.node_core.specs.Holding.{states_in}
-use Rattle.node_core.specs.State.{NodeState}
-use Rattle.world_core.specs.Kept.{IsWhole}
-use Rattle.world_core.specs.Marks.{MarksState}
-use Rattle.world_core.specs.World.{WorldState}
-use Rattle.port_worker.specs.Gathered.{CanFollow, marks_made}
+use Rattle.node_core.specs.{Holding.states_in, State.NodeState}
+use Rattle.world_core.specs.{Kept.IsWhole, Marks.MarksState, World.WorldState}
+use Rattle.port_worker.specs.{CanFollow, marks_made}
 use Rattle.port_worker.proofs.GatherLemmas.{all_gathered, steps_are}
 use Rattle.port_worker.proofs.tick.make_steps.Goals as goal
 

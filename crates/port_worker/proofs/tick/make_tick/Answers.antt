@@ -1,11 +1,8 @@
 use Rattle.std.proofs.Common.{List, [], ap, sym, subst, ◌∙◌, refl}
 use Rattle.std.specs.List.{AllByRecursion}
 use Rattle.tree_topology.specs.Topology.{Topology}
-use Rattle.world_core.specs.declared.journal.NodeSteps.{NodeSteps}
-use Rattle.world_core.specs.declared.journal.Tick.{Tick}
-use Rattle.world_core.specs.Timeline.{AreChanges}
-use Rattle.world_core.specs.History.{HasPortsOf, acts_noted}
-use Rattle.world_core.specs.Carrying.{NothingWaits, has_send}
+use Rattle.world_core.specs.declared.{journal.NodeSteps.NodeSteps, journal.Tick.Tick}
+use Rattle.world_core.specs.{Timeline.AreChanges, History.HasPortsOf, History.acts_noted, Carrying.NothingWaits, Carrying.has_send}
 use Rattle.port_worker.proofs.TickLemmas.{stepped_stays, steps_known, steps_reach, clock_can, nothing_carried, tick_made}
 use Rattle.port_worker.proofs.tick.make_tick.Goals as goal
 

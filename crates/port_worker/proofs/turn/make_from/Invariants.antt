@@ -1,5 +1,5 @@
 use Rattle.std.proofs.Common.{◌≡◌, take}
-use Rattle.port_worker.specs.Turns.{asks_of, asked_by}
+use Rattle.port_worker.specs.{asks_of, asked_by}
 use Rattle.port_worker.proofs.turn.make_from.Given as goal
 
 abbrev pub invariant-loop-i : goal.invariant-loop-i

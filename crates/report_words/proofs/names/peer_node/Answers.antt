@@ -2,8 +2,7 @@ use Rattle.std.proofs.Common.{◌≡◌, ◌≤◌, ◌-◌, ℕ, sym, ap, ◌�
 use Rattle.std.specs.Prelude.{slice_index}
 use Rattle.std.proofs.lemmas.Bool.{false≢true}
 use Rattle.srp_base.specs.declared.numbers.EgressPort.{EgressPort}
-use Rattle.tree_topology.specs.Topology.{HasPort}
-use Rattle.tree_topology.specs.Ports.{neighbours, far_node}
+use Rattle.tree_topology.specs.{Topology.HasPort, Ports.neighbours, Ports.far_node}
 use Rattle.report_words.proofs.PeerLemmas.{no-far-node}
 use Rattle.report_words.proofs.names.peer_node.Goals as goal
 

@@ -2,8 +2,7 @@ use Rattle.std.proofs.Common.{◌≡◌, ◌≤◌, ◌<◌, ◌+◌, ◌++◌, 
 use Rattle.std.specs.Prelude.{flat_map}
 use Rattle.std.specs.List.{AllByRecursion}
 use Rattle.srp_base.specs.declared.numbers.EgressPort.{EgressPort}
-use Rattle.tree_topology.specs.Topology.{HasPort, HasLink}
-use Rattle.tree_topology.specs.Ports.{ends_of}
+use Rattle.tree_topology.specs.{Topology.HasPort, Topology.HasLink, Ports.ends_of}
 use Rattle.report_words.proofs.LinkPorts.{both_ends, next-link, each-two}
 use Rattle.report_words.proofs.ports.ports_of_links.Goals as goal
 

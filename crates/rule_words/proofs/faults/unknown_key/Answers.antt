@@ -1,5 +1,5 @@
 use Rattle.std.proofs.Common.{ap, ◌∙◌, Some, option_map, string_bytes, not}
-use Rattle.rule_words.specs.Faults.{is_key_of}
+use Rattle.rule_words.specs.{is_key_of}
 use Rattle.rule_words.proofs.FaultLemmas.{find-member_keys}
 use Rattle.rule_words.proofs.faults.unknown_key.Goals as goal
 

@@ -1,6 +1,6 @@
 use Rattle.std.proofs.Common.{◌≡◌, drop}
 use Rattle.toml.specs.View.{table_view}
-use Rattle.rule_words.specs.Faults.{wrong_key}
+use Rattle.rule_words.specs.{wrong_key}
 use Rattle.rule_words.proofs.faults.wrong_key.Given as goal
 
 -- the first of the keys that are left is the first of all

@@ -1,7 +1,7 @@
 use Rattle.std.proofs.Common.{◌≡◌, ◌++◌, drop}
 use Rattle.std.specs.Prelude.{flat_map}
 use Rattle.toml.specs.View.{table_view}
-use Rattle.rule_words.specs.Refusal.{there_line}
+use Rattle.rule_words.specs.{there_line}
 use Rattle.rule_words.proofs.refusal.put_each_there.Given as goal
 
 -- the text so far with the lines of the keys that are left is the whole

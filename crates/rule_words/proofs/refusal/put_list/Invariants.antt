@@ -1,6 +1,6 @@
 use Rattle.std.proofs.Common.{◌≡◌, ◌++◌, drop}
 use Rattle.std.specs.Prelude.{flat_map}
-use Rattle.rule_words.specs.Refusal.{listed}
+use Rattle.rule_words.specs.{listed}
 use Rattle.rule_words.proofs.refusal.put_list.Given as goal
 
 -- the text so far with the lines of the keys that are left is the whole

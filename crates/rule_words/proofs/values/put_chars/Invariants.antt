@@ -1,6 +1,6 @@
 use Rattle.std.proofs.Common.{◌≡◌, ◌++◌, drop}
 use Rattle.std.specs.Prelude.{flat_map}
-use Rattle.rule_words.specs.Values.{shown_char}
+use Rattle.rule_words.specs.{shown_char}
 use Rattle.rule_words.proofs.values.put_chars.Given as goal
 
 -- the text so far with the characters that are left is the whole

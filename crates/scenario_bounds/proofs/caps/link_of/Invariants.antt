@@ -1,6 +1,6 @@
 use Rattle.std.proofs.Common.{◌≡◌, ◌-◌, drop}
 use Rattle.std.specs.Prelude.{filter, slice_get}
-use Rattle.scenario_bounds.specs.Caps.{is_link_of}
+use Rattle.scenario_bounds.specs.{is_link_of}
 use Rattle.scenario_bounds.proofs.caps.link_of.Given as goal
 
 abbrev pub invariant-loop-link : goal.invariant-loop-link

@@ -1,7 +1,6 @@
 use Rattle.std.proofs.Common.{get_or}
-use Rattle.class_b_bound.specs.Bound.{HasCaps}
-use Rattle.class_b_bound.specs.Waits.{worst_wait_of}
-use Rattle.scenario_bounds.specs.Caps.{caps_at}
+use Rattle.class_b_bound.specs.{Bound.HasCaps, Waits.worst_wait_of}
+use Rattle.scenario_bounds.specs.{caps_at}
 use Rattle.scenario_bounds.proofs.laws.class_b_stays_within_at_every_port.Goals as goal
 
 pub returns : goal.returns

@@ -1,6 +1,6 @@
 use Rattle.std.proofs.Common.{◌≡◌, ◌++◌, map}
 use Rattle.std.specs.List.{range_with_len}
-use Rattle.scenario_frames.specs.PlanFrames.{copy_of}
+use Rattle.scenario_frames.specs.{copy_of}
 use Rattle.scenario_frames.proofs.frames.add_copies.Given as goal
 
 abbrev pub invariant-loop-index : goal.invariant-loop-index

@@ -1,6 +1,6 @@
 use Rattle.std.proofs.Common.{◌≡◌, ◌+◌, ◌≤◌, ◌++◌, drop}
 use Rattle.topology_file.specs.Frames.{frame_copies}
-use Rattle.scenario_frames.specs.PlanFrames.{frames_from}
+use Rattle.scenario_frames.specs.{frames_from}
 use Rattle.scenario_frames.proofs.frames.add_entries.Given as goal
 
 abbrev pub invariant-loop-entry : goal.invariant-loop-entry

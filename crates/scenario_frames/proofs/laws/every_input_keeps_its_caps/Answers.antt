@@ -1,4 +1,4 @@
-use Rattle.scenario_frames.specs.Setting.{setting_of}
+use Rattle.scenario_frames.specs.{setting_of}
 use Rattle.scenario_frames.proofs.laws.every_input_keeps_its_caps.Goals as goal
 
 pub returns-clause-valid : goal.returns-clause-valid

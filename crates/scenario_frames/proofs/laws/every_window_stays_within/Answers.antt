@@ -1,4 +1,4 @@
-use Rattle.scenario_frames.specs.Setting.{setting_of}
+use Rattle.scenario_frames.specs.{setting_of}
 use Rattle.scenario_frames.proofs.WindowLemmas.{windows-of-cap}
 use Rattle.scenario_frames.proofs.laws.every_window_stays_within.Goals as goal
 

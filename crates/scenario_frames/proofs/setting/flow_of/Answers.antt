@@ -1,7 +1,6 @@
 use Rattle.std.proofs.Common.{◌≡◌, ap, ◌∙◌}
 use Rattle.topology_file.specs.Plan.{Plan}
-use Rattle.scenario_frames.specs.PlanFrames.{plan_frames}
-use Rattle.scenario_frames.specs.Setting.{plan_rates}
+use Rattle.scenario_frames.specs.{plan_frames, plan_rates}
 use Rattle.scenario_frames.proofs.setting.flow_of.Goals as goal
 
 pub flow-requires : goal.flow-requires

@@ -1,8 +1,7 @@
 use Rattle.std.proofs.Common.{ℕ, List, length, get_or, ap, ◌∙◌, arith}
 use Rattle.std.proofs.lemmas.List.{get_or_default}
 use Rattle.topology_file.specs.declared.entries.LinkEntry.{LinkEntry}
-use Rattle.scenario_generator.specs.Network.{link_entry, drawn_links}
-use Rattle.scenario_generator.specs.Events.{loss_draw}
+use Rattle.scenario_generator.specs.{link_entry, drawn_links, loss_draw}
 use Rattle.scenario_generator.proofs.NetworkLemmas.{links-counted}
 use Rattle.scenario_generator.proofs.events.loss_link.Goals as goal
 

@@ -1,7 +1,7 @@
 use Rattle.std.proofs.Common.{List, rules, subst, sym}
 use Rattle.std.proofs.lemmas.List.Sorted.{answers_always}
 use Rattle.topology_file.specs.declared.entries.EventEntry.{EventEntry}
-use Rattle.scenario_generator.specs.Events.{drawn_events, IsSortedByTick}
+use Rattle.scenario_generator.specs.{drawn_events, IsSortedByTick}
 use Rattle.scenario_generator.proofs.EventLemmas.{sorted-of}
 use Rattle.scenario_generator.proofs.events.make_events.Goals as goal
 

@@ -1,5 +1,5 @@
 use Rattle.std.proofs.Common.{◌+◌, arith}
-use Rattle.scenario_generator.specs.Events.{declaration}
+use Rattle.scenario_generator.specs.{declaration}
 use Rattle.scenario_generator.proofs.PairLemmas.{push-more}
 use Rattle.scenario_generator.proofs.events.push_declarations.Goals as goal
 

@@ -1,6 +1,6 @@
 use Rattle.std.proofs.Common.{◌≡◌, ◌++◌, map}
 use Rattle.std.specs.List.{range_with_len}
-use Rattle.scenario_generator.specs.Events.{declaration}
+use Rattle.scenario_generator.specs.{declaration}
 use Rattle.scenario_generator.proofs.events.push_declarations.Given as goal
 
 abbrev pub invariant-loop-i : goal.invariant-loop-i

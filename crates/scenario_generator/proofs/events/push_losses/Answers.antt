@@ -1,5 +1,5 @@
 use Rattle.std.proofs.Common.{arith}
-use Rattle.scenario_generator.specs.Events.{loss}
+use Rattle.scenario_generator.specs.{loss}
 use Rattle.scenario_generator.proofs.PairLemmas.{push-more}
 use Rattle.scenario_generator.proofs.events.push_losses.Goals as goal
 

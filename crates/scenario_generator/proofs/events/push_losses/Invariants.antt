@@ -1,6 +1,6 @@
 use Rattle.std.proofs.Common.{◌≡◌, ◌++◌, map}
 use Rattle.std.specs.List.{range_with_len}
-use Rattle.scenario_generator.specs.Events.{loss}
+use Rattle.scenario_generator.specs.{loss}
 use Rattle.scenario_generator.proofs.events.push_losses.Given as goal
 
 abbrev pub invariant-loop-n : goal.invariant-loop-n

@@ -1,5 +1,5 @@
 use Rattle.std.proofs.Common.{◌+◌, arith}
-use Rattle.scenario_generator.specs.Events.{stream_events}
+use Rattle.scenario_generator.specs.{stream_events}
 use Rattle.scenario_generator.proofs.PairLemmas.{extend-more}
 use Rattle.scenario_generator.proofs.events.push_streams.Goals as goal
 

@@ -1,6 +1,6 @@
 use Rattle.std.proofs.Common.{◌≡◌, ◌++◌}
 use Rattle.std.specs.List.{flat_map, range_with_len}
-use Rattle.scenario_generator.specs.Events.{stream_events}
+use Rattle.scenario_generator.specs.{stream_events}
 use Rattle.scenario_generator.proofs.events.push_streams.Given as goal
 
 abbrev pub invariant-loop-i : goal.invariant-loop-i

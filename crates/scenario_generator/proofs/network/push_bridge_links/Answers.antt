@@ -1,5 +1,5 @@
 use Rattle.std.proofs.Common.{◌+◌, arith}
-use Rattle.scenario_generator.specs.Network.{bridge_link}
+use Rattle.scenario_generator.specs.{bridge_link}
 use Rattle.scenario_generator.proofs.PairLemmas.{push-more}
 use Rattle.scenario_generator.proofs.network.push_bridge_links.Goals as goal
 

@@ -1,5 +1,5 @@
 use Rattle.std.proofs.Common.{◌+◌, arith}
-use Rattle.scenario_generator.specs.Network.{station_link}
+use Rattle.scenario_generator.specs.{station_link}
 use Rattle.scenario_generator.proofs.PairLemmas.{push-more}
 use Rattle.scenario_generator.proofs.network.push_station_links.Goals as goal
 

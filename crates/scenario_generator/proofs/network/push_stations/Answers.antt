@@ -1,5 +1,5 @@
 use Rattle.std.proofs.Common.{◌+◌, arith}
-use Rattle.scenario_generator.specs.Network.{station_entry}
+use Rattle.scenario_generator.specs.{station_entry}
 use Rattle.scenario_generator.proofs.PairLemmas.{push-more}
 use Rattle.scenario_generator.proofs.network.push_stations.Goals as goal
 

@@ -1,6 +1,6 @@
 use Rattle.std.proofs.Common.{◌≡◌, ◌++◌, map}
 use Rattle.std.specs.List.{range_with_len}
-use Rattle.scenario_generator.specs.Network.{station_entry}
+use Rattle.scenario_generator.specs.{station_entry}
 use Rattle.scenario_generator.proofs.network.push_stations.Given as goal
 
 abbrev pub invariant-loop-i : goal.invariant-loop-i

@@ -1,5 +1,5 @@
 use Rattle.std.proofs.Common.{◌+◌, [], arith}
-use Rattle.scenario_generator.specs.Streams.{stream_entry}
+use Rattle.scenario_generator.specs.{stream_entry}
 use Rattle.scenario_generator.proofs.PairLemmas.{push-more}
 use Rattle.scenario_generator.proofs.streams.make_streams.Goals as goal
 

@@ -1,6 +1,6 @@
 use Rattle.std.proofs.Common.{◌≡◌, map}
 use Rattle.std.specs.List.{range_with_len}
-use Rattle.scenario_generator.specs.Streams.{stream_entry}
+use Rattle.scenario_generator.specs.{stream_entry}
 use Rattle.scenario_generator.proofs.streams.make_streams.Given as goal
 
 abbrev pub invariant-loop-i : goal.invariant-loop-i

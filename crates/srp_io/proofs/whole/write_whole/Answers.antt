@@ -1,5 +1,5 @@
 use Rattle.std.proofs.Common.{◌≡◌, ◌∙◌}
-use Rattle.srp_io.specs.declared.sink.SinkErr.TheVariants.{Failed}
+use Rattle.srp_io.specs.{Failed}
 use Rattle.srp_io.proofs.Moves.{taken_more, within_text}
 use Rattle.srp_io.proofs.whole.write_whole.Goals as goal
 

@@ -1,6 +1,6 @@
 use Rattle.std.proofs.Common.{◌+◌, ◌<◌, refl, sym, subst, take, arith}
 use Rattle.std.proofs.lemmas.List.{length-take-le}
-use Rattle.srp_report.specs.declared.departures.FateCounts.{FateCounts}
+use Rattle.srp_report.specs.{FateCounts}
 use Rattle.srp_report.proofs.FateLemmas.{counts-few, counts-more, sent-more}
 use Rattle.srp_report.proofs.departures.outcomes_by_arrival.Goals as goal
 

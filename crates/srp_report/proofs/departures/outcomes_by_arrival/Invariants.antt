@@ -1,6 +1,5 @@
 use Rattle.std.proofs.Common.{◌≡◌, take}
-use Rattle.srp_report.specs.FrameLines.{sent_frames}
-use Rattle.srp_report.specs.Fates.{fate_counts}
+use Rattle.srp_report.specs.{sent_frames, fate_counts}
 use Rattle.srp_report.proofs.departures.outcomes_by_arrival.Given as goal
 
 abbrev pub invariant-loop-number : goal.invariant-loop-number

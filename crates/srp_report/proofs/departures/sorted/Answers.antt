@@ -1,6 +1,6 @@
 use Rattle.std.proofs.Common.{rules}
 use Rattle.std.proofs.lemmas.List.Sorted.{IsNonDecreasingBy-from_sort_by_key, answers_always}
-use Rattle.srp_report.specs.declared.departures.SentFrame.{SentFrame}
+use Rattle.srp_report.specs.{SentFrame}
 use Rattle.srp_report.proofs.DepartureLemmas.{sorted-by-start}
 use Rattle.srp_report.proofs.departures.sorted.Goals as goal
 

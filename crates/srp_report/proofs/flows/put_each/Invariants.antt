@@ -1,6 +1,6 @@
 use Rattle.std.proofs.Common.{◌≡◌, ◌++◌, drop}
 use Rattle.std.specs.Prelude.{flat_map}
-use Rattle.srp_report.specs.FrameLines.{flow_part}
+use Rattle.srp_report.specs.{flow_part}
 use Rattle.srp_report.proofs.flows.put_each.Given as goal
 
 -- the text so far with the lines of the flows that are left is the whole

@@ -1,6 +1,6 @@
 use Rattle.std.proofs.Common.{◌≡◌, ◌++◌, drop}
 use Rattle.std.specs.Prelude.{flat_map}
-use Rattle.srp_report.specs.Fates.{line_from}
+use Rattle.srp_report.specs.{line_from}
 use Rattle.srp_report.proofs.flows.put_lines.Given as goal
 
 -- the text so far with the lines of the departures that are left is the whole

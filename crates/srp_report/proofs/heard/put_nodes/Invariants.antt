@@ -1,5 +1,5 @@
 use Rattle.std.proofs.Common.{◌≡◌, ◌+◌, ◌++◌, drop}
-use Rattle.srp_report.specs.Report.{nodes_heard}
+use Rattle.srp_report.specs.{nodes_heard}
 use Rattle.srp_report.proofs.heard.put_nodes.Given as goal
 
 -- the text so far with the lines of the nodes that are left is the whole

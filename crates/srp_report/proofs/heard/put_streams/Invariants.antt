@@ -1,6 +1,6 @@
 use Rattle.std.proofs.Common.{◌≡◌, ◌++◌, drop}
 use Rattle.std.specs.Prelude.{flat_map}
-use Rattle.srp_report.specs.Report.{stream_heard}
+use Rattle.srp_report.specs.{stream_heard}
 use Rattle.srp_report.proofs.heard.put_streams.Given as goal
 
 -- the text so far with the lines of the streams that are left is the whole

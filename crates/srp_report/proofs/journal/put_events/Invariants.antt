@@ -1,6 +1,6 @@
 use Rattle.std.proofs.Common.{◌≡◌, ◌++◌, drop}
 use Rattle.std.specs.Prelude.{flat_map}
-use Rattle.srp_report.specs.JournalText.{answer_line}
+use Rattle.srp_report.specs.{answer_line}
 use Rattle.srp_report.proofs.journal.put_events.Given as goal
 
 -- the text so far with the lines of the events that are left is the whole

@@ -1,6 +1,6 @@
 use Rattle.std.proofs.Common.{◌≡◌, ◌++◌, drop}
 use Rattle.std.specs.Prelude.{flat_map}
-use Rattle.srp_report.specs.JournalText.{step_lines}
+use Rattle.srp_report.specs.{step_lines}
 use Rattle.srp_report.proofs.journal.put_nodes.Given as goal
 
 -- the text so far with the lines of the nodes that are left is the whole

@@ -1,5 +1,5 @@
 use Rattle.std.proofs.Common.{◌≡◌, ◌++◌, drop}
-use Rattle.srp_report.specs.JournalText.{ticks_lines}
+use Rattle.srp_report.specs.{ticks_lines}
 use Rattle.srp_report.proofs.journal.put_ticks.Given as goal
 
 -- the text so far with the lines of the ticks that are left is the whole

@@ -1,6 +1,6 @@
 use Rattle.std.proofs.Common.{◌≡◌, ◌++◌, drop}
 use Rattle.std.specs.Prelude.{flat_map}
-use Rattle.srp_report.specs.Report.{port_part}
+use Rattle.srp_report.specs.{port_part}
 use Rattle.srp_report.proofs.ports.put_each.Given as goal
 
 -- the text so far with the lines of the ports that are left is the whole

@@ -2,7 +2,7 @@ use Rattle.std.proofs.Common.{◌≡◌, List, ap, ◌∙◌}
 use Rattle.topology_file.specs.Plan.{Plan}
 use Rattle.topology_file.specs.declared.entries.NodeEntry.{NodeEntry}
 use Rattle.report_words.specs.Names.{port_name}
-use Rattle.srp_report.specs.FrameLines.{fates_lines, flow_part}
+use Rattle.srp_report.specs.{fates_lines, flow_part}
 use Rattle.srp_report.proofs.PrintoutLemmas.{one_made}
 use Rattle.srp_report.proofs.printout.lines_of.Goals as goal
 

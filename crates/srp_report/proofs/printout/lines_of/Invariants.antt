@@ -2,7 +2,7 @@ use Rattle.std.proofs.Common.{◌≡◌, ◌++◌}
 use Rattle.std.specs.Prelude.{flat_map}
 use Rattle.std.specs.VecDeque.{deque_len}
 use Rattle.srp_base.specs.Text.{whole_of}
-use Rattle.srp_report.specs.FrameLines.{flow_part}
+use Rattle.srp_report.specs.{flow_part}
 use Rattle.srp_report.proofs.printout.lines_of.Given as goal
 
 -- the lines of the flows so far, and of those that are left

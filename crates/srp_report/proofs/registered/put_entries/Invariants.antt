@@ -1,6 +1,6 @@
 use Rattle.std.proofs.Common.{◌≡◌, ◌++◌, drop}
 use Rattle.std.specs.Prelude.{flat_map}
-use Rattle.srp_report.specs.Lines.{booked_line}
+use Rattle.srp_report.specs.{booked_line}
 use Rattle.srp_report.proofs.registered.put_entries.Given as goal
 
 -- the text so far with the lines of the bookings that are left is the whole

@@ -1,7 +1,7 @@
 use Rattle.std.proofs.Common.{◌≡◌, ◌++◌, drop}
 use Rattle.std.specs.Prelude.{flat_map}
 use Rattle.attribute_propagation.specs.Ports.{place_of}
-use Rattle.srp_report.specs.Report.{key_line}
+use Rattle.srp_report.specs.{key_line}
 use Rattle.srp_report.proofs.registered.put_keys.Given as goal
 
 -- the text so far with the lines of the attributes that are left is the whole

@@ -1,5 +1,5 @@
 use Rattle.std.proofs.Common.{◌≡◌, drop}
-use Rattle.srp_report.specs.Tallies.{ticks_counted}
+use Rattle.srp_report.specs.{ticks_counted}
 use Rattle.srp_report.proofs.tallies.count_ticks.Given as goal
 
 -- what is left to count leads to what all leads to

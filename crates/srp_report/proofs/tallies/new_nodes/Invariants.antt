@@ -1,6 +1,6 @@
 use Rattle.std.proofs.Common.{◌≡◌}
 use Rattle.std.specs.Prelude.{replicate}
-use Rattle.srp_report.specs.Tallies.{zero_row}
+use Rattle.srp_report.specs.{zero_row}
 use Rattle.srp_report.proofs.tallies.new_nodes.Given as goal
 
 abbrev pub invariant-loop : goal.invariant-loop

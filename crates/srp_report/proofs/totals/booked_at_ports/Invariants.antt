@@ -1,7 +1,7 @@
 use Rattle.std.proofs.Common.{◌≡◌, take}
 use Rattle.std.specs.Prelude.{sum_by}
 use Rattle.report_words.specs.Tally.{count_of}
-use Rattle.srp_report.specs.Summary.{booked_at}
+use Rattle.srp_report.specs.{booked_at}
 use Rattle.srp_report.proofs.totals.booked_at_ports.Given as goal
 
 abbrev pub invariant-loop-i : goal.invariant-loop-i

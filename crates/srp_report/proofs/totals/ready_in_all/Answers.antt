@@ -3,7 +3,7 @@ use Rattle.std.specs.Prelude.{Some, slice_get}
 use Rattle.topology_file.specs.Plan.{Plan}
 use Rattle.topology_file.specs.declared.entries.StreamEntry.{StreamEntry}
 use Rattle.report_words.specs.Tally.{count_of}
-use Rattle.srp_report.specs.Summary.{ready_at}
+use Rattle.srp_report.specs.{ready_at}
 use Rattle.srp_report.proofs.TotalLemmas.{at-place, count-more}
 use Rattle.srp_report.proofs.totals.ready_in_all.Goals as goal
 

@@ -1,7 +1,7 @@
 use Rattle.std.proofs.Common.{◌≡◌, take}
 use Rattle.std.specs.Prelude.{sum_by}
 use Rattle.report_words.specs.Tally.{count_of}
-use Rattle.srp_report.specs.Summary.{ready_at}
+use Rattle.srp_report.specs.{ready_at}
 use Rattle.srp_report.proofs.totals.ready_in_all.Given as goal
 
 abbrev pub invariant-loop-i : goal.invariant-loop-i

@@ -1,6 +1,6 @@
 use Rattle.std.proofs.Common.{◌≡◌, take}
 use Rattle.std.specs.Prelude.{count_by}
-use Rattle.srp_report.specs.Summary.{hears_ready}
+use Rattle.srp_report.specs.{hears_ready}
 use Rattle.srp_report.proofs.totals.ready_of.Given as goal
 
 abbrev pub invariant-loop-entry : goal.invariant-loop-entry

@@ -1,6 +1,5 @@
 use Rattle.std.proofs.Common.{◌≡◌, take}
-use Rattle.srp_report.specs.Counts.{tally_of}
-use Rattle.srp_report.specs.Summary.{replies_of_ports}
+use Rattle.srp_report.specs.{tally_of, replies_of_ports}
 use Rattle.srp_report.proofs.totals.total_at.Given as goal
 
 abbrev pub invariant-loop-i : goal.invariant-loop-i

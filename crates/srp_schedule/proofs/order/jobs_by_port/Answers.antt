@@ -1,6 +1,7 @@
 use Rattle.std.proofs.Common.{◌≡◌, ◌-◌, ◌+◌, ◌<◌, ℕ, ap, ◌∙◌, arith}
+use Rattle.srp_base.proofs.Lists.{pushed_length}
 use Rattle.node_core.specs.State.{ports_of, job_list}
-use Rattle.srp_schedule.proofs.OrderLemmas.{port_more, pushed_length}
+use Rattle.srp_schedule.proofs.OrderLemmas.{port_more}
 use Rattle.srp_schedule.proofs.order.jobs_by_port.Goals as goal
 
 pub loop-at-preserved : goal.loop-at-preserved

@@ -1,6 +1,7 @@
 use Rattle.std.proofs.Common.{sym, ap, ◌∙◌}
-use Rattle.srp_schedule.specs.Order.{order_of}
-use Rattle.srp_schedule.proofs.OrderLemmas.{canonical_is, if_ok}
+use Rattle.srp_base.proofs.Arithmetic.{if_ok}
+use Rattle.srp_schedule.specs.{order_of}
+use Rattle.srp_schedule.proofs.OrderLemmas.{canonical_is}
 use Rattle.srp_schedule.proofs.order.jobs_in_order.Goals as goal
 
 pub returns-then-not-is_busy : goal.returns-then-not-is_busy

@@ -1,5 +1,5 @@
 use Rattle.std.proofs.Common.{◌≡◌, ◌++◌, map, filter, drop}
-use Rattle.srp_schedule.specs.Order.{is_in_turn}
+use Rattle.srp_schedule.specs.{is_in_turn}
 use Rattle.srp_schedule.proofs.order.push_steps.Given as goal
 
 -- the steps so far and those of the jobs that are left are all

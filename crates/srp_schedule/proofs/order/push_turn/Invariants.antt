@@ -1,5 +1,5 @@
 use Rattle.std.proofs.Common.{◌≡◌, ◌++◌, ◌+◌, drop}
-use Rattle.srp_schedule.specs.Order.{turn_from}
+use Rattle.srp_schedule.specs.{turn_from}
 use Rattle.srp_schedule.proofs.order.push_turn.Given as goal
 
 -- the steps so far and those of the ports that are left are all

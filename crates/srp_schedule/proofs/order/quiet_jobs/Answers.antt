@@ -1,11 +1,11 @@
 use Rattle.std.proofs.Common.{◌∷◌, [], ℕ, sym, ap, ◌∙◌}
 use Rattle.std.specs.Prelude.{replicate}
+use Rattle.srp_base.proofs.Arithmetic.{if_ok}
 use Rattle.srp_base.specs.declared.mrp.App.TheVariants.{Mvrp, Msrp}
 use Rattle.node_core.specs.declared.types.PortStep.TheVariants.{Send}
 use Rattle.node_core.specs.State.{is_sending_time}
-use Rattle.srp_schedule.specs.declared.order.Turn.TheVariants.{Sends}
-use Rattle.srp_schedule.specs.Order.{turn_from}
-use Rattle.srp_schedule.proofs.OrderLemmas.{if_ok, no_order, sends_order}
+use Rattle.srp_schedule.specs.{Sends, turn_from}
+use Rattle.srp_schedule.proofs.OrderLemmas.{no_order, sends_order}
 use Rattle.srp_schedule.proofs.order.quiet_jobs.Goals as goal
 
 pub returns-then-is_sending_time : goal.returns-then-is_sending_time

@@ -2,8 +2,7 @@ use Rattle.std.proofs.Common.{◌≡◌, ◌++◌, ◌∷◌, ◌+◌, ◌-◌, 
 use Rattle.std.specs.Prelude.{replicate}
 use Rattle.srp_base.specs.declared.mrp.App.TheVariants.{Mvrp, Msrp}
 use Rattle.node_core.specs.declared.types.PortStep.TheVariants.{Send}
-use Rattle.srp_schedule.specs.declared.order.Turn.TheVariants.{Sends}
-use Rattle.srp_schedule.specs.Order.{turn_from}
+use Rattle.srp_schedule.specs.{Sends, turn_from}
 use Rattle.srp_schedule.proofs.order.sends.Given as goal
 
 -- the Sends so far and those of the ports that are left are all

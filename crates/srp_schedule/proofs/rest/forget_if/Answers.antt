@@ -1,6 +1,6 @@
 use Rattle.std.proofs.Common.{◌≡◌, List, sym, subst, ◌∙◌, length, vec_len, rules}
 use Rattle.srp_schedule.specs.declared.rest.Rest.{Rest}
-use Rattle.srp_schedule.specs.Rest.{AreRests}
+use Rattle.srp_schedule.specs.{AreRests}
 use Rattle.srp_schedule.proofs.RestLemmas.{all_alike}
 use Rattle.srp_schedule.proofs.rest.forget_if.Goals as goal
 

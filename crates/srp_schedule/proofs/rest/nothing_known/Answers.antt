@@ -1,8 +1,7 @@
 use Rattle.std.proofs.Common.{List, sym, ap, subst, ◌∙◌, length}
 use Rattle.tree_topology.specs.Topology.{Topology}
 use Rattle.srp_schedule.specs.declared.rest.Rest.{Rest}
-use Rattle.srp_schedule.specs.declared.rest.Rest.TheVariants.{Unknown}
-use Rattle.srp_schedule.specs.Rest.{AreRests}
+use Rattle.srp_schedule.specs.{Unknown, AreRests}
 use Rattle.srp_schedule.proofs.RestLemmas.{all_alike}
 use Rattle.srp_schedule.proofs.rest.nothing_known.Goals as goal
 

@@ -1,6 +1,6 @@
 use Rattle.std.proofs.Common.{ap, sym, subst}
 use Rattle.world_core.specs.World.{Happened, WorldState}
-use Rattle.srp_schedule.specs.Rest.{AreRests}
+use Rattle.srp_schedule.specs.{AreRests}
 use Rattle.srp_schedule.proofs.RestLemmas.{clocked_rests}
 use Rattle.srp_schedule.proofs.run.let_clocks_go_on.Goals as goal
 

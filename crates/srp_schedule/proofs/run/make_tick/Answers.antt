@@ -1,16 +1,10 @@
 use Rattle.std.proofs.Common.{◌≡◌, ◌==◌, ℕ, List, [], length, vec_len, ap, sym, subst, ◌∙◌, rules}
 use Rattle.std.specs.List.{AllByRecursion}
 use Rattle.tree_topology.specs.Topology.{Topology}
-use Rattle.world_core.specs.declared.journal.NodeSteps.{NodeSteps}
-use Rattle.world_core.specs.declared.journal.Tick.{Tick}
-use Rattle.world_core.specs.Timeline.{AreChanges}
-use Rattle.world_core.specs.History.{HasPortsOf}
-use Rattle.world_core.specs.World.{WorldState, world_after}
-use Rattle.world_core.specs.Ticks.{step_events}
-use Rattle.world_core.specs.Carrying.{NothingWaits, has_send}
-use Rattle.srp_schedule.specs.Rest.{AreRests}
-use Rattle.srp_schedule.proofs.RestLemmas.{empty_as, script_rests}
-use Rattle.srp_schedule.proofs.TickLemmas.{tick_parts, clock_can, canonical_tick, after_tick, begins_next, carried_stays, scripted_stays, stepped_stays, steps_known, steps_noted, nothing_carried}
+use Rattle.world_core.specs.declared.{journal.NodeSteps.NodeSteps, journal.Tick.Tick}
+use Rattle.world_core.specs.{Timeline.AreChanges, History.HasPortsOf, World.WorldState, World.world_after, Ticks.step_events, Carrying.NothingWaits, Carrying.has_send}
+use Rattle.srp_schedule.specs.{AreRests}
+use Rattle.srp_schedule.proofs.{RestLemmas.empty_as, RestLemmas.script_rests, TickLemmas.tick_parts, TickLemmas.clock_can, TickLemmas.canonical_tick, TickLemmas.after_tick, TickLemmas.begins_next, TickLemmas.carried_stays, TickLemmas.scripted_stays, TickLemmas.stepped_stays, TickLemmas.steps_known, TickLemmas.steps_noted, TickLemmas.nothing_carried}
 use Rattle.srp_schedule.proofs.run.make_tick.Goals as goal
 
 pub note_steps-requires-clause-tree : goal.note_steps-requires-clause-tree

@@ -1,10 +1,8 @@
 use Rattle.std.proofs.Common.{◌+◌, sym, ap, subst, ◌∙◌, List, []}
 use Rattle.srp_base.specs.declared.ports.PortChange.{PortChange}
 use Rattle.world_core.specs.declared.journal.Tick.{Tick}
-use Rattle.world_core.specs.World.{WorldState}
-use Rattle.world_core.specs.Start.{world_of}
-use Rattle.srp_schedule.proofs.TickLemmas.{one_tick}
-use Rattle.srp_schedule.proofs.NotedLemmas.{IsNotedTo, none_noted, one_noted, changes_are}
+use Rattle.world_core.specs.{World.WorldState, Start.world_of}
+use Rattle.srp_schedule.proofs.{TickLemmas.one_tick, NotedLemmas.IsNotedTo, NotedLemmas.none_noted, NotedLemmas.one_noted, NotedLemmas.changes_are}
 use Rattle.srp_schedule.proofs.run.plain_run.Goals as goal
 
 pub loop-t-init : goal.loop-t-init

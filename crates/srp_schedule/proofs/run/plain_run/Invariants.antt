@@ -1,5 +1,5 @@
 use Rattle.std.proofs.Common.{◌≡◌}
-use Rattle.srp_schedule.specs.Rest.{AreRests}
+use Rattle.srp_schedule.specs.{AreRests}
 use Rattle.srp_schedule.proofs.NotedLemmas.{IsNotedTo}
 use Rattle.srp_schedule.proofs.run.plain_run.Given as goal
 

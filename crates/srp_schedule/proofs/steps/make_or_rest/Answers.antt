@@ -1,6 +1,6 @@
 use Rattle.std.proofs.Common.{List, sym, subst}
 use Rattle.node_core.specs.declared.types.NodeStep.{NodeStep}
-use Rattle.srp_schedule.specs.Made.{IsNodeMade}
+use Rattle.srp_schedule.specs.{IsNodeMade}
 use Rattle.srp_schedule.proofs.RestLemmas.{rest_made}
 use Rattle.srp_schedule.proofs.steps.make_or_rest.Goals as goal
 

@@ -1,8 +1,7 @@
 use Rattle.std.proofs.Common.{◌≡◌, ◌<◌, ℕ, length, slice_set, ap, sym, subst, ◌∙◌, arith}
 use Rattle.tree_topology.specs.Topology.{Topology}
-use Rattle.srp_schedule.specs.Rest.{AreRests}
-use Rattle.srp_schedule.proofs.RestLemmas.{one_rest, rest_read}
-use Rattle.srp_schedule.proofs.StepLemmas.{next_node}
+use Rattle.srp_schedule.specs.{AreRests}
+use Rattle.srp_schedule.proofs.{RestLemmas.one_rest, RestLemmas.rest_read, StepLemmas.next_node}
 use Rattle.srp_schedule.proofs.steps.make_steps.Goals as goal
 
 pub loop-x-preserved : goal.loop-x-preserved

@@ -1,4 +1,4 @@
-use Rattle.srp_schedule.specs.Rest.{AreRests}
+use Rattle.srp_schedule.specs.{AreRests}
 use Rattle.srp_schedule.proofs.StepLemmas.{IsSteppedTo}
 use Rattle.srp_schedule.proofs.steps.make_steps.Given as goal
 

@@ -1,8 +1,7 @@
 use Rattle.std.proofs.Common.{◌≡◌, ℕ, List, refl, subst, inl, inr, arith}
 use Rattle.std.specs.Prelude.{IfSome}
 use Rattle.srp_report.specs.Report.{report_text}
-use Rattle.srpnet.specs.AuditText.{IsRunOf}
-use Rattle.srpnet.specs.Differ.{IsFirstDifferent}
+use Rattle.srpnet.specs.{IsRunOf, IsFirstDifferent}
 use Rattle.srpnet.proofs.AuditLemmas.{other_report}
 use Rattle.srpnet.proofs.audit.compared.Goals as goal
 

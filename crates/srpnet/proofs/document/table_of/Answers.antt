@@ -1,5 +1,5 @@
 use Rattle.std.proofs.Common.{ap}
-use Rattle.srpnet.specs.Document.{or_not_toml}
+use Rattle.srpnet.specs.{or_not_toml}
 use Rattle.srpnet.proofs.Documents.{document_found, document_refused, ruled_out}
 use Rattle.srpnet.proofs.document.table_of.Goals as goal
 

@@ -1,6 +1,6 @@
 use Rattle.std.proofs.Common.{◌∙◌}
 use Rattle.world_core.specs.Ticks.{AreCanonicalTicks}
-use Rattle.srpnet.specs.GeneratedText.{summary_alone}
+use Rattle.srpnet.specs.{summary_alone}
 use Rattle.srpnet.proofs.Reported.{reported_as}
 use Rattle.srpnet.proofs.generator.summed_up.Goals as goal
 

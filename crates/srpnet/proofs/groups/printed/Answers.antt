@@ -1,7 +1,7 @@
 use Rattle.std.proofs.Common.{ap, subst, ◌∙◌}
 use Rattle.group_run.specs.declared.run.GroupRun.{GroupRun}
 use Rattle.group_run.specs.Text.{group_text}
-use Rattle.srpnet.specs.GroupsText.{KeepsGroupLaws}
+use Rattle.srpnet.specs.{KeepsGroupLaws}
 use Rattle.srpnet.proofs.groups.printed.Goals as goal
 
 pub returns-clause-output : goal.returns-clause-output

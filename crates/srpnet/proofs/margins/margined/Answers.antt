@@ -1,8 +1,7 @@
 use Rattle.std.proofs.Common.{◌∙◌}
 use Rattle.world_core.specs.Ticks.{AreCanonicalTicks}
-use Rattle.srpnet.specs.MarginsText.{margins_alone}
-use Rattle.srpnet.proofs.EndLemmas.{end_is_moment, end_on_tree}
-use Rattle.srpnet.proofs.Reported.{reported_as}
+use Rattle.srpnet.specs.{margins_alone}
+use Rattle.srpnet.proofs.{EndLemmas.end_is_moment, EndLemmas.end_on_tree, Reported.reported_as}
 use Rattle.srpnet.proofs.margins.margined.Goals as goal
 
 pub margins_text-requires-clause-tree : goal.margins_text-requires-clause-tree

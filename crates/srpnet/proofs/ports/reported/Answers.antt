@@ -1,6 +1,6 @@
 use Rattle.std.proofs.Common.{◌∙◌}
 use Rattle.world_core.specs.Ticks.{AreLegalTicks}
-use Rattle.srpnet.specs.RunText.{report_alone}
+use Rattle.srpnet.specs.{report_alone}
 use Rattle.srpnet.proofs.Reported.{reported_as}
 use Rattle.srpnet.proofs.ports.reported.Goals as goal
 

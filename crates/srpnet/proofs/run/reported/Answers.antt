@@ -1,6 +1,6 @@
 use Rattle.std.proofs.Common.{◌∙◌}
 use Rattle.world_core.specs.Ticks.{AreCanonicalTicks}
-use Rattle.srpnet.specs.RunText.{report_alone}
+use Rattle.srpnet.specs.{report_alone}
 use Rattle.srpnet.proofs.Reported.{reported_as}
 use Rattle.srpnet.proofs.run.reported.Goals as goal
 

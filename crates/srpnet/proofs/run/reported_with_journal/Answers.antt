@@ -1,6 +1,6 @@
 use Rattle.std.proofs.Common.{◌∙◌}
 use Rattle.world_core.specs.Ticks.{AreCanonicalTicks}
-use Rattle.srpnet.specs.RunText.{report_and_journal}
+use Rattle.srpnet.specs.{report_and_journal}
 use Rattle.srpnet.proofs.Reported.{reported_as}
 use Rattle.srpnet.proofs.run.reported_with_journal.Goals as goal
 

@@ -1,8 +1,6 @@
 use Rattle.std.proofs.Common.{◌≡◌, List, refl, sym, subst}
 use Rattle.std.specs.Prelude.{Result}
-use Rattle.srpnet.specs.declared.commands.CommandOutput.{CommandOutput}
-use Rattle.srpnet.specs.declared.outcome.Cause.{Cause}
-use Rattle.srpnet.specs.Made.{IsLetOut}
+use Rattle.srpnet.specs.{CommandOutput, Cause, IsLetOut}
 use Rattle.srpnet.proofs.top.let_out.Goals as goal
 
 pub returns-in-Ok : goal.returns-in-Ok

@@ -1,6 +1,5 @@
 use Rattle.std.proofs.Common.{rules}
-use Rattle.srpnet.specs.declared.outcome.Cause.TheVariants.{ReadFault, TooLong}
-use Rattle.srpnet.specs.Commands.{IsEndingOf}
+use Rattle.srpnet.specs.{ReadFault, TooLong, IsEndingOf}
 use Rattle.srpnet.proofs.Judged.{command_judges, judged_err, lacks_output, not_reading}
 use Rattle.srpnet.proofs.top.read_output.Goals as goal
 

@@ -1,9 +1,6 @@
 use Rattle.std.proofs.Common.{rules, ℕ, List, subst}
-use Rattle.srpnet.specs.declared.outcome.Cause.TheVariants.{ReadFault, TooLong}
-use Rattle.srpnet.specs.Commands.{IsEndingOf}
-use Rattle.srpnet.specs.Outcomes.{EndsBy}
-use Rattle.srpnet.proofs.Inputs.{ends_read}
-use Rattle.srpnet.proofs.Judged.{command_judges, judged_err, lacks_output, not_reading, threads_read}
+use Rattle.srpnet.specs.{ReadFault, TooLong, IsEndingOf, EndsBy}
+use Rattle.srpnet.proofs.{Inputs.ends_read, Judged.command_judges, Judged.judged_err, Judged.lacks_output, Judged.not_reading, Judged.threads_read}
 use Rattle.srpnet.proofs.top.read_output_by_threads.Goals as goal
 
 pub returns : goal.returns

@@ -1,14 +1,9 @@
-use Rattle.std.proofs.Common.{◌≡◌, ℕ, sym, ap, ◌∙◌, arith}
-use Rattle.std.specs.Prelude.{Result, Ok, Err}
-use Rattle.std.specs.Cmp.Lexicographic.{bytes_decides}
-use Rattle.std.specs.Fmt.{decimal}
-use Rattle.std.proofs.lemmas.Bool.{false≢true}
-use Rattle.std.proofs.lemmas.Fmt.{parse-decimal}
+use Rattle.std.proofs.Common.{◌≡◌, sym, ap, ◌∙◌, arith}
+use Rattle.std.specs.{Cmp.Lexicographic.bytes_decides, Fmt.decimal}
+use Rattle.std.proofs.lemmas.{Bool.false≢true, Fmt.parse-decimal}
+use Rattle.srp_base.proofs.Arithmetic.{ok-same}
 use Rattle.srpnet.proofs.NumberWords.{writes-none, writes-number}
 use Rattle.srpnet.proofs.words.number_of_text.Goals as goal
-
-ok-same : {E : Type 0} (r : Result ℕ E) (m n : ℕ) → r ≡ Ok m → r ≡ Ok n → m ≡ n
-ok-same r m n one two = cc
 
 pub returns-in_default : goal.returns-in_default
 returns-in_default c =

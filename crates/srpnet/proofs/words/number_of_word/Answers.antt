@@ -1,8 +1,6 @@
 use Rattle.std.proofs.Common.{◌≡◌, sym, ap, subst, arith}
-use Rattle.std.specs.Fmt.{decimal}
-use Rattle.std.specs.Str.{IsUtf8}
-use Rattle.std.proofs.lemmas.Fmt.{IsAscii-decimal}
-use Rattle.std.proofs.lemmas.Str.{IsUtf8-from_ascii}
+use Rattle.std.specs.{Fmt.decimal, Str.IsUtf8}
+use Rattle.std.proofs.lemmas.{Fmt.IsAscii-decimal, Str.IsUtf8-from_ascii}
 use Rattle.srpnet.proofs.NumberWords.{writes-none}
 use Rattle.srpnet.proofs.words.number_of_word.Goals as goal
 

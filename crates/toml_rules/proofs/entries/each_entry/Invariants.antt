@@ -1,6 +1,5 @@
 use Rattle.std.proofs.Common.{◌≡◌, ℕ, Option}
-use Rattle.toml_rules.specs.Calls.{ReadsAs}
-use Rattle.toml_rules.specs.Rules.{each_entry}
+use Rattle.toml_rules.specs.{ReadsAs, each_entry}
 use Rattle.toml_rules.proofs.EntryLemmas.{from_here}
 use Rattle.toml_rules.proofs.entries.each_entry.Given as goal
 

@@ -1,7 +1,6 @@
 use Rattle.std.proofs.Common.{rules, List, Result, subst}
 use Rattle.toml.specs.View.{table_view}
-use Rattle.toml_rules.specs.declared.rules.RuleErr.{RuleErr}
-use Rattle.toml_rules.specs.Rules.{Reads}
+use Rattle.toml_rules.specs.{RuleErr, Reads}
 use Rattle.toml_rules.proofs.EntryLemmas.{each-map}
 use Rattle.toml_rules.proofs.entries.each_table.Goals as goal
 

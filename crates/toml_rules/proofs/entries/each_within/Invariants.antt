@@ -1,6 +1,5 @@
 use Rattle.std.proofs.Common.{◌≡◌, ℕ, Option}
-use Rattle.toml_rules.specs.Calls.{KeysAs, ReadsAs}
-use Rattle.toml_rules.specs.Rules.{each_within}
+use Rattle.toml_rules.specs.{KeysAs, ReadsAs, each_within}
 use Rattle.toml_rules.proofs.EntryLemmas.{within_here}
 use Rattle.toml_rules.proofs.entries.each_within.Given as goal
 

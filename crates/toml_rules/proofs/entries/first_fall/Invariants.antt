@@ -1,6 +1,5 @@
 use Rattle.std.proofs.Common.{◌≡◌, ◌+◌, ℕ, map, drop}
-use Rattle.toml_rules.specs.Calls.{KeysAs}
-use Rattle.toml_rules.specs.Rules.{first_fall}
+use Rattle.toml_rules.specs.{KeysAs, first_fall}
 use Rattle.toml_rules.proofs.entries.first_fall.Given as goal
 
 abbrev pub invariant-loop-i : goal.invariant-loop-i

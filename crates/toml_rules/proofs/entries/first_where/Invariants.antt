@@ -1,6 +1,6 @@
 use Rattle.std.proofs.Common.{◌≡◌, Bool, List, [], take, drop}
 use Rattle.srp_base.specs.Firsts.{first_where}
-use Rattle.toml_rules.specs.Calls.{TestsAs}
+use Rattle.toml_rules.specs.{TestsAs}
 use Rattle.toml_rules.proofs.entries.first_where.Given as goal
 
 abbrev pub invariant-loop-i : goal.invariant-loop-i

@@ -1,6 +1,6 @@
 use Rattle.std.proofs.Common.{◌≡◌, map, drop}
 use Rattle.toml.specs.View.{table_view, items_view}
-use Rattle.toml_rules.specs.Fields.{all_tables}
+use Rattle.toml_rules.specs.{all_tables}
 use Rattle.toml_rules.proofs.FieldLemmas.{in_front}
 use Rattle.toml_rules.proofs.fields.all_tables.Given as goal
 

@@ -1,5 +1,5 @@
 use Rattle.std.proofs.Common.{◌≡◌, map, drop}
-use Rattle.toml_rules.specs.Fields.{is_known}
+use Rattle.toml_rules.specs.{is_known}
 use Rattle.toml_rules.proofs.fields.is_known.Given as goal
 
 abbrev pub invariant-loop-word : goal.invariant-loop-word

@@ -1,5 +1,4 @@
-use Rattle.topology_file.proofs.EventsKept.{pdu-known}
-use Rattle.topology_file.proofs.NetworkKept.{station-known}
+use Rattle.topology_file.proofs.{EventsKept.pdu-known, NetworkKept.station-known}
 use Rattle.topology_file.proofs.laws.what_events_name_is_known.Goals as goal
 
 pub returns-clause-station : goal.returns-clause-station

@@ -1,9 +1,7 @@
 use Rattle.std.proofs.Common.{◌≡◌, Ok, rules}
 use Rattle.toml.specs.View.{table_view}
-use Rattle.topology_file.specs.declared.network.TimedNetwork.{TimedNetwork}
-use Rattle.topology_file.specs.Network.{IsKeptNetwork, timed_network_of}
-use Rattle.topology_file.proofs.Chains.{ok-says}
-use Rattle.topology_file.proofs.TimedNetworks.{timed-keeps}
+use Rattle.topology_file.specs.{TimedNetwork, IsKeptNetwork, timed_network_of}
+use Rattle.topology_file.proofs.{Chains.ok-says, TimedNetworks.timed-keeps}
 use Rattle.topology_file.proofs.network.read_timed_network.Goals as goal
 
 pub returns-clause-kept : goal.returns-clause-kept

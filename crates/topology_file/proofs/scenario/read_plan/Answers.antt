@@ -2,10 +2,8 @@ use Rattle.std.proofs.Common.{map}
 use Rattle.std.proofs.lemmas.Result.{err_from_is_err_and}
 use Rattle.toml.specs.View.{table_view}
 use Rattle.toml_rules.specs.Rules.{broken_rule}
-use Rattle.topology_file.specs.Scenario.{KeepsRules, plan_of}
-use Rattle.topology_file.proofs.Chains.{ok-says}
-use Rattle.topology_file.proofs.Kept.{plan_of-keeps}
-use Rattle.topology_file.proofs.Parts.{network-breaks, traffic-breaks, parts-make}
+use Rattle.topology_file.specs.{KeepsRules, plan_of}
+use Rattle.topology_file.proofs.{Chains.ok-says, Kept.plan_of-keeps, Parts.network-breaks, Parts.traffic-breaks, Parts.parts-make}
 use Rattle.topology_file.proofs.scenario.read_plan.Goals as goal
 
 pub returns-in_err-network : goal.returns-in_err-network

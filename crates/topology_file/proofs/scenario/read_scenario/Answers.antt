@@ -1,10 +1,9 @@
 use Rattle.std.proofs.Common.{◌≡◌, ◌∙◌, Result, Ok, ap, sym, subst, ℕ, Option, Bool}
 use Rattle.toml.specs.View.{table_view}
 use Rattle.toml_rules.specs.declared.rules.RuleErr.{RuleErr}
-use Rattle.toml_rules.specs.Rules.{Reads, needs, holds}
-use Rattle.toml_rules.specs.Fields.{has_only}
+use Rattle.toml_rules.specs.{Rules.Reads, Rules.needs, Rules.holds, Fields.has_only}
 use Rattle.topology_file.specs.Plan.{Plan}
-use Rattle.topology_file.specs.Scenario.{file_keys, ticks_at}
+use Rattle.topology_file.specs.{file_keys, ticks_at}
 use Rattle.topology_file.proofs.Parts.{scenario-entries}
 use Rattle.topology_file.proofs.scenario.read_scenario.Goals as goal
 

@@ -1,6 +1,5 @@
-use Rattle.topology_file.specs.Scenario.{KeepsRules, scenario_of}
-use Rattle.topology_file.proofs.Chains.{ok-says}
-use Rattle.topology_file.proofs.Kept.{scenario-keeps}
+use Rattle.topology_file.specs.{KeepsRules, scenario_of}
+use Rattle.topology_file.proofs.{Chains.ok-says, Kept.scenario-keeps}
 use Rattle.topology_file.proofs.scenario.read_scenarios_keep_the_rules.Goals as goal
 
 pub returns : goal.returns

@@ -3,7 +3,7 @@ use Rattle.std.proofs.lemmas.List.{length-map}
 use Rattle.srp_base.specs.Firsts.{first_where}
 use Rattle.tree_topology.specs.declared.graph.Link.{Link}
 use Rattle.tree_topology.specs.Refusal.{has_unknown_end}
-use Rattle.topology_file.specs.declared.entries.NodeEntry.{NodeEntry}
+use Rattle.topology_file.specs.{NodeEntry}
 use Rattle.topology_file.proofs.TreeRules.{known-links}
 use Rattle.topology_file.proofs.tree.make_tree.Goals as goal
 

@@ -1,5 +1,5 @@
 use Rattle.std.proofs.Common.{length, take}
-use Rattle.tree_topology.specs.Tables.{HasRows}
+use Rattle.tree_topology.specs.{HasRows}
 use Rattle.tree_topology.proofs.RowFacts.{IsApartTo}
 use Rattle.tree_topology.proofs.adjacency.neighbour_rows.Given as goal
 

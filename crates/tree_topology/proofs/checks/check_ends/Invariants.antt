@@ -1,6 +1,5 @@
 use Rattle.std.proofs.Common.{ℕ, ◌<◌, length, get_or}
-use Rattle.tree_topology.specs.declared.graph.Link.{Link}
-use Rattle.tree_topology.specs.Graph.{IsNode}
+use Rattle.tree_topology.specs.{Link, IsNode}
 use Rattle.tree_topology.proofs.checks.check_ends.Given as goal
 
 abbrev pub invariant-loop-i : goal.invariant-loop-i

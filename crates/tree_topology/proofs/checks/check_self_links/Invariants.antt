@@ -1,5 +1,5 @@
 use Rattle.std.proofs.Common.{◌≢◌, ℕ, ◌<◌, get_or}
-use Rattle.tree_topology.specs.declared.graph.Link.{Link}
+use Rattle.tree_topology.specs.{Link}
 use Rattle.tree_topology.proofs.checks.check_self_links.Given as goal
 
 abbrev pub invariant-loop-i : goal.invariant-loop-i

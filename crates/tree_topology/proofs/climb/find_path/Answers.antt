@@ -1,7 +1,7 @@
 use Rattle.std.proofs.Common.{◌≡◌, ◌∙◌, List}
 use Rattle.std.proofs.lemmas.Result.{IfOk-weaker}
 use Rattle.srp_base.specs.declared.numbers.EgressPort.{EgressPort}
-use Rattle.tree_topology.specs.Walk.{path_between}
+use Rattle.tree_topology.specs.{path_between}
 use Rattle.tree_topology.proofs.RouteFacts.{made-end}
 use Rattle.tree_topology.proofs.climb.find_path.Goals as goal
 

@@ -1,7 +1,5 @@
 use Rattle.std.proofs.Common.{◌≡◌, ◌+◌, length, get_or}
-use Rattle.tree_topology.specs.Graph.{IsNode}
-use Rattle.tree_topology.specs.Walk.{path_between}
-use Rattle.tree_topology.specs.Routes.{ports_made}
+use Rattle.tree_topology.specs.{IsNode, path_between, ports_made}
 use Rattle.tree_topology.proofs.climb.find_path.Given as goal
 
 abbrev pub invariant-loop-climb : goal.invariant-loop-climb

@@ -1,5 +1,5 @@
 use Rattle.std.proofs.Common.{refl, ◌+◌, length, take, arith}
-use Rattle.tree_topology.specs.Tables.{joined_leaders, joined_ranks}
+use Rattle.tree_topology.specs.{joined_leaders, joined_ranks}
 use Rattle.tree_topology.proofs.ComponentSteps.{HasComponents, IsLoopFreeTo, components-start, components-as, loop-found, loop_free-step}
 use Rattle.tree_topology.proofs.components.check_loops.Goals as goal
 

@@ -1,6 +1,4 @@
-use Rattle.tree_topology.proofs.Forests.{tree-from_checks}
-use Rattle.tree_topology.proofs.Refusals.{tree-no_loop}
-use Rattle.tree_topology.proofs.Trees.{tree-connected}
+use Rattle.tree_topology.proofs.{Forests.tree-from_checks, Refusals.tree-no_loop, Trees.tree-connected}
 use Rattle.tree_topology.proofs.laws.one_component.Goals as goal
 
 pub returns-clause-no_loop : goal.returns-clause-no_loop

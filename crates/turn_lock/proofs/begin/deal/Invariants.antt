@@ -1,6 +1,5 @@
 use Rattle.std.proofs.Common.{◌≡◌, ◌+◌, ◌-◌, ◌≤◌, vec_len, vec_capacity}
-use Rattle.turn_lock.specs.Passes.{first_passes}
-use Rattle.turn_lock.specs.Laying.{IsDealtFrom, lock_of}
+use Rattle.turn_lock.specs.{first_passes, IsDealtFrom, lock_of}
 use Rattle.turn_lock.proofs.begin.deal.Given as goal
 
 abbrev pub invariant-loop-dealt : goal.invariant-loop-dealt

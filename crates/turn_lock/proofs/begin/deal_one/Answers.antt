@@ -1,12 +1,6 @@
 use Rattle.std.proofs.Common.{arith, ◌≡◌, [], ◌∙◌, true, refl, ap, sym, subst}
 use Rattle.atomic_table.specs.Table.{Splits}
-use Rattle.turn_lock.specs.declared.board.Known.{Known}
-use Rattle.turn_lock.specs.declared.board.View.{View}
-use Rattle.turn_lock.specs.declared.board.View.TheVariants.{Living}
-use Rattle.turn_lock.specs.declared.board.Stage.TheVariants.{Idle}
-use Rattle.turn_lock.specs.Rule.{IsInTurn, dealt_known}
-use Rattle.turn_lock.specs.Steps.{Seated, dealer, next_view}
-use Rattle.turn_lock.specs.Passes.{seen_by}
+use Rattle.turn_lock.specs.{Known, View, Living, Idle, IsInTurn, dealt_known, Seated, dealer, next_view, seen_by}
 use Rattle.turn_lock.proofs.DealLemmas.{deals_on}
 use Rattle.turn_lock.proofs.begin.deal_one.Goals as goal
 

@@ -1,7 +1,6 @@
 use Rattle.std.proofs.Common.{rules, ◌≡◌, ◌<◌, ◌^◌, [], ◌∷◌, List, sym, subst}
 use Rattle.atomic_table.specs.Table.{opening}
-use Rattle.turn_lock.specs.declared.board.Kept.{Kept}
-use Rattle.turn_lock.specs.Rule.{IsInTurn, first_view}
+use Rattle.turn_lock.specs.{Kept, IsInTurn, first_view}
 use Rattle.turn_lock.proofs.DealLemmas.{opens}
 use Rattle.turn_lock.proofs.begin.lay.Goals as goal
 

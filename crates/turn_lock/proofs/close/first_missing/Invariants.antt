@@ -1,5 +1,5 @@
 use Rattle.std.proofs.Common.{◌≡◌, ℕ, ◌-◌, ◌≤◌, true}
-use Rattle.turn_lock.specs.Passes.{is_given}
+use Rattle.turn_lock.specs.{is_given}
 use Rattle.turn_lock.proofs.close.first_missing.Given as goal
 
 abbrev pub invariant-loop-given : goal.invariant-loop-given

@@ -1,6 +1,5 @@
 use Rattle.std.proofs.Common.{rules, ◌≡◌, ◌∷◌, [], ◌++◌, ◌∙◌, List, map, All, subst}
-use Rattle.turn_lock.specs.Passes.{PassOf}
-use Rattle.turn_lock.specs.Closing.{ended_of, having_ended}
+use Rattle.turn_lock.specs.{PassOf, ended_of, having_ended}
 use Rattle.turn_lock.proofs.CloseLemmas.{took_one, all_front}
 use Rattle.turn_lock.proofs.close.gather.Goals as goal
 

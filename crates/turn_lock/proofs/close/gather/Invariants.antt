@@ -1,5 +1,5 @@
 use Rattle.std.proofs.Common.{◌≡◌, length, All}
-use Rattle.turn_lock.specs.Closing.{TakesIn}
+use Rattle.turn_lock.specs.{TakesIn}
 use Rattle.turn_lock.proofs.close.gather.Given as goal
 
 abbrev pub invariant-loop-other : goal.invariant-loop-other

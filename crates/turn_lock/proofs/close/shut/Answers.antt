@@ -1,6 +1,5 @@
 use Rattle.std.proofs.Common.{sym, subst}
-use Rattle.turn_lock.specs.History.{Log}
-use Rattle.turn_lock.specs.Closing.{HasEndedAll}
+use Rattle.turn_lock.specs.{Log, HasEndedAll}
 use Rattle.turn_lock.proofs.CloseLemmas.{ends}
 use Rattle.turn_lock.proofs.close.shut.Goals as goal
 

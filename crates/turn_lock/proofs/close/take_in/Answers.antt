@@ -1,9 +1,6 @@
 use Rattle.std.proofs.Common.{arith, ◌∙◌, ap, sym, subst}
 use Rattle.atomic_table.specs.Table.{Joins}
-use Rattle.turn_lock.specs.declared.board.View.{View}
-use Rattle.turn_lock.specs.declared.board.View.TheVariants.{Spent}
-use Rattle.turn_lock.specs.Rule.{IsInTurn}
-use Rattle.turn_lock.specs.Steps.{taker}
+use Rattle.turn_lock.specs.{View, Spent, IsInTurn, taker}
 use Rattle.turn_lock.proofs.DealLemmas.{takes_in}
 use Rattle.turn_lock.proofs.close.take_in.Goals as goal
 

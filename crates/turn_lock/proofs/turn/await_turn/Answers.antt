@@ -1,7 +1,6 @@
 use Rattle.std.proofs.Common.{rules, arith, ◌≡◌, ◌∙◌, sym, subst}
-use Rattle.turn_lock.specs.Turns.{Awaits, Takes}
-use Rattle.turn_lock.proofs.StepLemmas.{looks}
-use Rattle.turn_lock.proofs.TurnLemmas.{takes_it}
+use Rattle.turn_lock.specs.{Awaits, Takes}
+use Rattle.turn_lock.proofs.{StepLemmas.looks, TurnLemmas.takes_it}
 use Rattle.turn_lock.proofs.turn.await_turn.Goals as goal
 
 pub load-served-requires : goal.load-served-requires

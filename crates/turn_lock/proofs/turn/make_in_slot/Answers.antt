@@ -1,7 +1,6 @@
 use Rattle.std.proofs.Common.{◌≡◌, ◌∷◌, List, ℕ, ap, sym, subst, ◌∙◌, get_or}
 use Rattle.atomic_table.specs.Table.{rest}
-use Rattle.turn_lock.specs.declared.board.Kept.{Kept}
-use Rattle.turn_lock.specs.Turns.{Makes}
+use Rattle.turn_lock.specs.{Kept, Makes}
 use Rattle.turn_lock.proofs.turn.make_in_slot.Goals as goal
 
 pub slot_mut-kept-requires : goal.slot_mut-kept-requires

@@ -1,6 +1,5 @@
 use Rattle.std.proofs.Common.{◌∙◌, ap, refl}
-use Rattle.turn_lock.specs.declared.board.Stage.TheVariants.{Waits}
-use Rattle.turn_lock.specs.Steps.{at_stage}
+use Rattle.turn_lock.specs.{Waits, at_stage}
 use Rattle.turn_lock.proofs.TurnLemmas.{is_ready, turns}
 use Rattle.turn_lock.proofs.turn.turn.Goals as goal
 

@@ -1,8 +1,7 @@
 use Rattle.std.proofs.Common.{List, sym, subst}
 use Rattle.std.specs.List.{AllByRecursion}
 use Rattle.std.proofs.lemmas.List.{at_drop_more}
-use Rattle.node_core.specs.Holding.{NodeHolding, states_in}
-use Rattle.node_core.specs.Proper.{IsProperNode}
+use Rattle.node_core.specs.{Holding.NodeHolding, Holding.states_in, Proper.IsProperNode}
 use Rattle.world_core.proofs.apart.each_is_proper.Goals as goal
 
 pub loop-node-preserved : goal.loop-node-preserved

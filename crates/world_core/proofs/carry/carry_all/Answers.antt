@@ -1,7 +1,6 @@
 use Rattle.std.proofs.Common.{◌≡◌, ◌+◌, length, ap, ◌∙◌, arith}
 use Rattle.tree_topology.specs.Topology.{Topology}
-use Rattle.world_core.specs.World.{WorldState}
-use Rattle.world_core.specs.Carrying.{carried_ends}
+use Rattle.world_core.specs.{WorldState, carried_ends}
 use Rattle.world_core.proofs.LinksCarried.{one_carried}
 use Rattle.world_core.proofs.carry.carry_all.Goals as goal
 

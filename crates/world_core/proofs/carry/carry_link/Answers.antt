@@ -1,6 +1,5 @@
 use Rattle.std.proofs.Common.{ap, ◌∙◌}
-use Rattle.tree_topology.specs.Topology.{Topology}
-use Rattle.tree_topology.specs.Ports.{ends_of}
+use Rattle.tree_topology.specs.{Topology.Topology, Ports.ends_of}
 use Rattle.world_core.proofs.LinksCarried.{both_carried}
 use Rattle.world_core.proofs.carry.carry_link.Goals as goal
 

@@ -1,9 +1,7 @@
 use Rattle.std.proofs.Common.{◌≡◌, refl, ap, ◌∙◌}
 use Rattle.attribute_propagation.specs.Ports.{place_of}
-use Rattle.node_core.specs.Holding.{states_in}
-use Rattle.node_core.specs.Links.{with_outbox}
-use Rattle.world_core.specs.declared.events.WorldReply.TheVariants.{Done}
-use Rattle.world_core.specs.World.{nodes_with}
+use Rattle.node_core.specs.{Holding.states_in, Links.with_outbox}
+use Rattle.world_core.specs.{Done, nodes_with}
 use Rattle.world_core.proofs.Happenings.{carry_nothing, empty_there, put_back_is}
 use Rattle.world_core.proofs.happen.carry.Goals as goal
 

@@ -1,8 +1,8 @@
 use Rattle.std.proofs.Common.{refl, ◌∙◌}
+use Rattle.srp_base.proofs.Arithmetic.{on_err}
 use Rattle.attribute_propagation.specs.Ports.{place_of}
-use Rattle.node_core.specs.Holding.{states_in}
-use Rattle.node_core.specs.Links.{forged_at}
-use Rattle.world_core.proofs.Happenings.{port_there, get_there, stands_still, reaches_is, changed_if, ports_if, same_states, on_err}
+use Rattle.node_core.specs.{Holding.states_in, Links.forged_at}
+use Rattle.world_core.proofs.Happenings.{port_there, get_there, stands_still, reaches_is, changed_if, ports_if, same_states}
 use Rattle.world_core.proofs.happen.forge_at.Goals as goal
 
 pub forge-requires-clause-port : goal.forge-requires-clause-port

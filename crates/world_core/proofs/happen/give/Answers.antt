@@ -1,6 +1,7 @@
+use Rattle.srp_base.proofs.Arithmetic.{on_ok}
 use Rattle.attribute_propagation.specs.Ports.{place_of}
 use Rattle.node_core.specs.Links.{with_carried}
-use Rattle.world_core.proofs.Happenings.{port_there, changed_here, same_states, on_ok, still_on_err}
+use Rattle.world_core.proofs.Happenings.{port_there, changed_here, same_states, still_on_err}
 use Rattle.world_core.proofs.happen.give.Goals as goal
 
 pub put_in-requires-clause-port : goal.put_in-requires-clause-port

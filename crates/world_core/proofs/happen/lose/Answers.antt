@@ -1,10 +1,7 @@
 use Rattle.std.proofs.Common.{sym, ap, ◌∙◌, []}
 use Rattle.attribute_propagation.specs.Ports.{place_of}
-use Rattle.node_core.specs.Holding.{states_in}
-use Rattle.node_core.specs.Links.{lost_at}
-use Rattle.world_core.specs.Marks.{MarksState}
-use Rattle.world_core.specs.World.{WorldState, with_loss}
-use Rattle.world_core.specs.declared.events.WorldReply.TheVariants.{Done}
+use Rattle.node_core.specs.{Holding.states_in, Links.lost_at}
+use Rattle.world_core.specs.{MarksState, WorldState, with_loss, Done}
 use Rattle.world_core.proofs.Happenings.{index_there, spoilt_after}
 use Rattle.world_core.proofs.happen.lose.Goals as goal
 

@@ -1,4 +1,5 @@
-use Rattle.world_core.proofs.Happenings.{stepped_is, same_states, on_err}
+use Rattle.srp_base.proofs.Arithmetic.{on_err}
+use Rattle.world_core.proofs.Happenings.{stepped_is, same_states}
 use Rattle.world_core.proofs.happen.make_step.Goals as goal
 
 pub returns-in_err-reply-clause-err : goal.returns-in_err-reply-clause-err

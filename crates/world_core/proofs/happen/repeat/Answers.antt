@@ -1,12 +1,8 @@
 use Rattle.std.proofs.Common.{sym, ap, ◌∙◌, List, []}
 use Rattle.tree_topology.specs.Topology.{Topology}
 use Rattle.attribute_propagation.specs.Ports.{place_of}
-use Rattle.node_core.specs.Holding.{states_in}
-use Rattle.node_core.specs.State.{NodeState}
-use Rattle.node_core.specs.Links.{repeated_at}
-use Rattle.world_core.specs.Marks.{MarksState}
-use Rattle.world_core.specs.World.{WorldState, after_repeat}
-use Rattle.world_core.specs.declared.events.WorldReply.TheVariants.{Done}
+use Rattle.node_core.specs.{Holding.states_in, State.NodeState, Links.repeated_at}
+use Rattle.world_core.specs.{MarksState, WorldState, after_repeat, Done}
 use Rattle.world_core.proofs.Happenings.{index_there, changed_is}
 use Rattle.world_core.proofs.happen.repeat.Goals as goal
 

@@ -1,6 +1,7 @@
+use Rattle.srp_base.proofs.Arithmetic.{on_err}
 use Rattle.attribute_propagation.specs.Ports.{place_of}
 use Rattle.node_core.specs.Links.{repeated_at}
-use Rattle.world_core.proofs.Happenings.{port_there, get_there, changed_here, done_there, same_states, on_err}
+use Rattle.world_core.proofs.Happenings.{port_there, get_there, changed_here, done_there, same_states}
 use Rattle.world_core.proofs.happen.repeat_at.Goals as goal
 
 pub repeat-requires : goal.repeat-requires

@@ -1,7 +1,6 @@
 use Rattle.std.proofs.Common.{ap, ◌∙◌}
 use Rattle.attribute_propagation.specs.Ports.{place_of}
-use Rattle.node_core.specs.Links.{spoilt_at}
-use Rattle.node_core.specs.State.{ports_of}
+use Rattle.node_core.specs.{Links.spoilt_at, State.ports_of}
 use Rattle.world_core.proofs.Happenings.{port_there, changed_here, stands_still, ports_spoilt}
 use Rattle.world_core.proofs.happen.spoil.Goals as goal
 

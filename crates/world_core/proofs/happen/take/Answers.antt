@@ -2,8 +2,7 @@ use Rattle.std.proofs.Common.{sym, ap, ◌∙◌}
 use Rattle.attribute_propagation.specs.Ports.{place_of}
 use Rattle.std.specs.Prelude.{[]}
 use Rattle.std.specs.Option.{option_map_or}
-use Rattle.node_core.specs.Links.{with_outbox}
-use Rattle.node_core.specs.State.{NodeState, box_at, ports_of}
+use Rattle.node_core.specs.{Links.with_outbox, State.NodeState, State.box_at, State.ports_of}
 use Rattle.world_core.proofs.Happenings.{port_there, get_there, changed_here, stands_still}
 use Rattle.world_core.proofs.happen.take.Goals as goal
 

@@ -1,10 +1,7 @@
 use Rattle.std.proofs.Common.{◌≡◌, length, vec_len, true, arith, rules}
 use Rattle.std.specs.Prelude.{◌<◌, ◌^◌}
-use Rattle.node_core.specs.Holding.{NodeHolding}
-use Rattle.node_core.specs.State.{NodeState}
-use Rattle.node_core.specs.Step.{clocked_node}
-use Rattle.world_core.proofs.Happenings.{each_state, none_ticked, next_as_before, ticked_more, all_ticked}
-use Rattle.world_core.proofs.Histories.{each_read}
+use Rattle.node_core.specs.{Holding.NodeHolding, State.NodeState, Step.clocked_node}
+use Rattle.world_core.proofs.{Happenings.each_state, Happenings.none_ticked, Happenings.next_as_before, Happenings.ticked_more, Happenings.all_ticked, Histories.each_read}
 use Rattle.world_core.proofs.happen.tick_each.Goals as goal
 
 pub loop-i-init : goal.loop-i-init

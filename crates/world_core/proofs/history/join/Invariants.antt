@@ -1,6 +1,6 @@
 use Rattle.std.proofs.Common.{◌≡◌, ◌++◌}
 use Rattle.std.specs.VecDeque.{deque_len}
-use Rattle.world_core.specs.History.{all_changes_of}
+use Rattle.world_core.specs.{all_changes_of}
 use Rattle.world_core.proofs.history.join.Given as goal
 
 abbrev pub invariant-loop-node : goal.invariant-loop-node

@@ -1,6 +1,6 @@
 use Rattle.std.proofs.Common.{◌≡◌, ◌++◌}
 use Rattle.std.specs.VecDeque.{deque_len}
-use Rattle.world_core.specs.History.{joined_ports}
+use Rattle.world_core.specs.{joined_ports}
 use Rattle.world_core.proofs.history.join_ports.Given as goal
 
 abbrev pub invariant-loop-changes : goal.invariant-loop-changes

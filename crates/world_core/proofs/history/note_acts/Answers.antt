@@ -1,13 +1,10 @@
 use Rattle.std.proofs.Common.{List, take, sym, subst, ◌∙◌}
 use Rattle.std.specs.List.{AllByRecursion}
-use Rattle.srp_base.specs.declared.numbers.EgressPort.{EgressPort}
-use Rattle.srp_base.specs.declared.ports.PortChange.{PortChange}
+use Rattle.srp_base.specs.declared.{numbers.EgressPort.EgressPort, ports.PortChange.PortChange}
 use Rattle.frame_flow.specs.Force.{changes_at}
-use Rattle.world_core.specs.History.{all_changes_of, HasPortsOf, ComeUpTo, act_noted}
-use Rattle.world_core.proofs.Acting.{acting_node}
-use Rattle.world_core.proofs.Histories.{each_read, table_upto, acts_upto, changes_upto, next_act, next_idle}
+use Rattle.world_core.specs.{all_changes_of, HasPortsOf, ComeUpTo, act_noted}
+use Rattle.world_core.proofs.{Acting.acting_node, Histories.each_read, Histories.table_upto, Histories.acts_upto, Histories.changes_upto, Histories.next_act, Histories.next_idle, history.note_acts.Goals.then-has_act+in_ok-note_node, history.note_acts.Goals.else-has_act}
 use Rattle.world_core.proofs.history.note_acts.Goals as goal
-use Rattle.world_core.proofs.history.note_acts.Goals.{then-has_act+in_ok-note_node, else-has_act}
 
 pub note_node-requires-clause-node : goal.note_node-requires-clause-node
 note_node-requires-clause-node c =

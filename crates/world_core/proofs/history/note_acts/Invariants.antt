@@ -1,6 +1,6 @@
 use Rattle.std.proofs.Common.{◌≡◌, take}
 use Rattle.frame_flow.specs.Force.{changes_at}
-use Rattle.world_core.specs.History.{by_port, all_changes_of, act_noted}
+use Rattle.world_core.specs.{by_port, all_changes_of, act_noted}
 use Rattle.world_core.proofs.history.note_acts.Given as goal
 
 abbrev pub invariant-loop-made : goal.invariant-loop-made

@@ -1,9 +1,9 @@
 use Rattle.std.proofs.Common.{◌≡◌, ℕ, ◌+◌, ◌-◌, length, vec_len, ap, sym, ◌∙◌, arith, rules}
 use Rattle.tree_topology.specs.Ports.{neighbours}
 use Rattle.node_core.specs.State.{ports_of}
-use Rattle.world_core.specs.History.{ComeUpTo}
+use Rattle.world_core.specs.{ComeUpTo}
 use Rattle.std.specs.List.{AllByRecursion}
-use Rattle.world_core.proofs.Happenings.{on_ok}
+use Rattle.srp_base.proofs.Arithmetic.{on_ok}
 use Rattle.world_core.proofs.Histories.{by_port_long, each_read, node_long, node_is_noted}
 use Rattle.world_core.proofs.history.note_node.Goals as goal
 

@@ -2,10 +2,9 @@ use Rattle.std.proofs.Common.{◌∙◌, ap, sym}
 use Rattle.std.specs.Prelude.{Option, option_map}
 use Rattle.std.specs.Option.{option_map_or}
 use Rattle.node_core.specs.declared.types.NodeEvent.TheVariants as node_events
-use Rattle.node_core.specs.State.{NodeState}
-use Rattle.node_core.specs.Step.{node_step}
+use Rattle.node_core.specs.{State.NodeState, Step.node_step}
 use Rattle.world_core.specs.declared.events.WorldReply.TheVariants.{Missed}
-use Rattle.world_core.specs.World.{node_at, after_step}
+use Rattle.world_core.specs.{node_at, after_step}
 use Rattle.world_core.proofs.Nodes.{node_same, node_other, stepped_is}
 use Rattle.world_core.proofs.laws.a_step_is_of_its_node_alone.Goals as goal
 

@@ -1,9 +1,6 @@
 use Rattle.std.proofs.Common.{ℕ, suc, List, [], ◌∷◌}
 use Rattle.topology_file.specs.Plan.{Plan}
-use Rattle.world_core.specs.declared.journal.Tick.{Tick}
-use Rattle.world_core.specs.World.{WorldState, world_after}
-use Rattle.world_core.specs.Start.{world_of}
-use Rattle.world_core.specs.Ticks.{LeadTo, IsLegalTick, IsCanonicalTick, tick_events}
+use Rattle.world_core.specs.{Tick, WorldState, world_after, world_of, LeadTo, IsLegalTick, IsCanonicalTick, tick_events}
 use Rattle.world_core.proofs.laws.canonical_ticks_are_legal.Goals as goal
 
 legal_from : (plan : Plan) (t : ℕ) (w : WorldState) (ticks : List Tick) (t' : ℕ) (end : WorldState)

@@ -1,9 +1,5 @@
-use Rattle.world_core.proofs.BaseSteps.{NodeLaws}
-use Rattle.world_core.proofs.VlanSteps.{VlanLaws}
-use Rattle.world_core.proofs.StreamSteps.{StreamLaws}
-use Rattle.world_core.proofs.Keeping.{KeepingLaws, kept_event, kept_events}
+use Rattle.world_core.proofs.{BaseSteps.NodeLaws, VlanSteps.VlanLaws, StreamSteps.StreamLaws, Keeping.KeepingLaws, Keeping.kept_event, Keeping.kept_events, laws.every_event_keeps_it.Goals.After-steps_keep_what_a_node_is}
 use Rattle.world_core.proofs.laws.every_event_keeps_it.Goals as goal
-use Rattle.world_core.proofs.laws.every_event_keeps_it.Goals.{After-steps_keep_what_a_node_is}
 
 vlans : After-steps_keep_what_a_node_is → VlanLaws
 vlans c =

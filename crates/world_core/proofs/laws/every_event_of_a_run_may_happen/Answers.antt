@@ -2,11 +2,9 @@ use Rattle.std.proofs.Common.{◌≡◌, ℕ, ap}
 use Rattle.std.specs.Prelude.{slice_get, Some}
 use Rattle.topology_file.specs.Plan.{Plan}
 use Rattle.node_core.specs.State.{NodeState}
-use Rattle.world_core.specs.Start.{world_of}
-use Rattle.world_core.proofs.Beginnings.{new_at}
-use Rattle.world_core.proofs.Runs.{RunLaws, run_leads}
+use Rattle.world_core.specs.{world_of}
+use Rattle.world_core.proofs.{Beginnings.new_at, Runs.RunLaws, Runs.run_leads, laws.every_event_of_a_run_may_happen.Goals.After-steps_keep_what_a_node_is}
 use Rattle.world_core.proofs.laws.every_event_of_a_run_may_happen.Goals as goal
-use Rattle.world_core.proofs.laws.every_event_of_a_run_may_happen.Goals.{After-steps_keep_what_a_node_is}
 
 laws : After-steps_keep_what_a_node_is → RunLaws
 laws c =

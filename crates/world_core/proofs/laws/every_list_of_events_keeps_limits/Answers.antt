@@ -1,7 +1,5 @@
-use Rattle.world_core.specs.Start.{world_of}
-use Rattle.world_core.specs.World.{world_after}
-use Rattle.world_core.proofs.Limits.{IsSetUp, set_up_sides, set_up_own, set_up_start, within_limits}
-use Rattle.world_core.proofs.Runs.{all_along, each_event, trees_stay}
+use Rattle.world_core.specs.{world_of, world_after}
+use Rattle.world_core.proofs.{Limits.IsSetUp, Limits.set_up_sides, Limits.set_up_own, Limits.set_up_start, Limits.within_limits, Runs.all_along, Runs.each_event, Runs.trees_stay}
 use Rattle.world_core.proofs.laws.every_list_of_events_keeps_limits.Goals as goal
 
 pub returns : goal.returns

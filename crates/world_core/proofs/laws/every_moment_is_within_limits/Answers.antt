@@ -1,9 +1,7 @@
 use Rattle.std.proofs.Common.{sym, subst, take}
-use Rattle.world_core.specs.Limits.{IsWithinLimits}
-use Rattle.world_core.specs.Moments.{events_from}
-use Rattle.world_core.specs.Start.{world_of}
-use Rattle.world_core.specs.World.{IsEventInRange}
-use Rattle.world_core.proofs.Runs.{can_take, each_take}
+use Rattle.srp_base.proofs.Lists.{all_taken as each_take}
+use Rattle.world_core.specs.{IsWithinLimits, events_from, world_of, IsEventInRange}
+use Rattle.world_core.proofs.Runs.{can_take}
 use Rattle.world_core.proofs.laws.every_moment_is_within_limits.Goals as goal
 
 pub returns : goal.returns

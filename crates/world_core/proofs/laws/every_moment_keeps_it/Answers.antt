@@ -1,9 +1,7 @@
 use Rattle.std.proofs.Common.{sym, subst, take}
-use Rattle.world_core.specs.World.{IsEventInRange}
-use Rattle.world_core.specs.Start.{world_of}
-use Rattle.world_core.specs.Moments.{events_from}
-use Rattle.world_core.specs.Kept.{IsKeptWorld}
-use Rattle.world_core.proofs.Runs.{can_take, each_take}
+use Rattle.srp_base.proofs.Lists.{all_taken as each_take}
+use Rattle.world_core.specs.{IsEventInRange, world_of, events_from, IsKeptWorld}
+use Rattle.world_core.proofs.Runs.{can_take}
 use Rattle.world_core.proofs.laws.every_moment_keeps_it.Goals as goal
 
 pub returns : goal.returns

@@ -1,5 +1,4 @@
-use Rattle.world_core.proofs.Talks.{TalksByPlan, IsPlanned, talks_sides, talks_own, talks_start, run_planned, one_talker}
-use Rattle.world_core.proofs.Runs.{at_moment}
+use Rattle.world_core.proofs.{Talks.TalksByPlan, Talks.IsPlanned, Talks.talks_sides, Talks.talks_own, Talks.talks_start, Talks.run_planned, Talks.one_talker, Runs.at_moment}
 use Rattle.world_core.proofs.laws.every_moment_talks_by_the_plan.Goals as goal
 
 pub returns-clause-talks : goal.returns-clause-talks

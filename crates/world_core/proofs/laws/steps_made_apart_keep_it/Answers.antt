@@ -1,6 +1,5 @@
 use Rattle.std.proofs.Common.{subst}
-use Rattle.world_core.specs.Kept.{IsKeptWorld}
-use Rattle.world_core.specs.Ticks.{step_events}
+use Rattle.world_core.specs.{IsKeptWorld, step_events}
 use Rattle.world_core.proofs.OwnSteps.{own_after, own_replies, all_after, all_replies, all_can}
 use Rattle.world_core.proofs.laws.steps_made_apart_keep_it.Goals as goal
 

@@ -1,4 +1,4 @@
-use Rattle.world_core.specs.Ticks.{IsLegalTick, IsCanonicalTick}
+use Rattle.world_core.specs.{IsLegalTick, IsCanonicalTick}
 use Rattle.world_core.proofs.Runs.{one_more}
 use Rattle.world_core.proofs.laws.ticks_go_on.Goals as goal
 

@@ -1,13 +1,11 @@
 use Rattle.std.proofs.Common.{◌≡◌, ℕ, ap, refl}
 use Rattle.std.specs.Prelude.{slice_get, Some}
+use Rattle.srp_base.proofs.Lists.{all_each}
 use Rattle.topology_file.specs.Plan.{Plan}
 use Rattle.node_core.specs.State.{NodeState}
-use Rattle.world_core.specs.Start.{world_of}
-use Rattle.world_core.proofs.Beginnings.{new_at}
-use Rattle.world_core.proofs.Runs.{RunLaws, allowed_can, one_leads, all_lead, clock_leads, known_allowed, known_neighbours, scripted_allowed, carries_allowed, tree_stays, trees_stay}
-use Rattle.world_core.proofs.Lists.{all_each}
+use Rattle.world_core.specs.{world_of}
+use Rattle.world_core.proofs.{Beginnings.new_at, Runs.RunLaws, Runs.allowed_can, Runs.one_leads, Runs.all_lead, Runs.clock_leads, Runs.known_allowed, Runs.known_neighbours, Runs.scripted_allowed, Runs.carries_allowed, Runs.tree_stays, Runs.trees_stay, laws.what_is_allowed_may_happen.Goals.After-steps_keep_what_a_node_is}
 use Rattle.world_core.proofs.laws.what_is_allowed_may_happen.Goals as goal
-use Rattle.world_core.proofs.laws.what_is_allowed_may_happen.Goals.{After-steps_keep_what_a_node_is}
 
 laws : After-steps_keep_what_a_node_is → RunLaws
 laws c =

@@ -1,7 +1,7 @@
 use Rattle.std.proofs.Common.{ℕ, true, false, length, get_or, sym, ap, ◌∙◌, arith}
 use Rattle.std.specs.Prelude.{◌<◌}
 use Rattle.node_core.specs.Holding.{states_in}
-use Rattle.world_core.specs.World.{are_nodes_sound}
+use Rattle.world_core.specs.{are_nodes_sound}
 use Rattle.world_core.proofs.InStep.{node_sound}
 use Rattle.world_core.proofs.marking.are_nodes_in_step.Goals as goal
 

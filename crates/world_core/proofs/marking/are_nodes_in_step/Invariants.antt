@@ -1,6 +1,6 @@
 use Rattle.std.proofs.Common.{◌≡◌, ◌+◌, drop}
 use Rattle.node_core.specs.Holding.{states_in}
-use Rattle.world_core.specs.World.{are_nodes_sound}
+use Rattle.world_core.specs.{are_nodes_sound}
 use Rattle.world_core.proofs.marking.are_nodes_in_step.Given as goal
 
 -- all are sound exactly where those that are left are

@@ -1,6 +1,6 @@
 use Rattle.std.proofs.Common.{◌≡◌, ◌+◌, ◌-◌}
 use Rattle.node_core.specs.State.{ports_of}
-use Rattle.world_core.specs.World.{are_ports_sound}
+use Rattle.world_core.specs.{are_ports_sound}
 use Rattle.world_core.proofs.marking.are_ports_in_step.Given as goal
 
 -- all are sound exactly where those that are left are

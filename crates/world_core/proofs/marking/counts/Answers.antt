@@ -1,10 +1,9 @@
 use Rattle.std.proofs.Common.{Bool, false, ◌&&◌, sym, ap, ◌∙◌}
 use Rattle.std.specs.Prelude.{slice_get}
 use Rattle.std.specs.Option.{option_map_or}
-use Rattle.node_core.specs.Holding.{states_in}
-use Rattle.node_core.specs.Leaving.{has_leave_all}
-use Rattle.world_core.specs.World.{inbox}
-use Rattle.world_core.proofs.Standing.{if_ok}
+use Rattle.srp_base.proofs.Arithmetic.{if_ok}
+use Rattle.node_core.specs.{Holding.states_in, Leaving.has_leave_all}
+use Rattle.world_core.specs.{inbox}
 use Rattle.world_core.proofs.marking.counts.Goals as goal
 
 pub returns : goal.returns

@@ -2,9 +2,8 @@ use Rattle.std.proofs.Common.{ℕ, length, sym, subst}
 use Rattle.std.specs.Prelude.{◌<◌, ◌^◌}
 use Rattle.srp_base.specs.declared.numbers.EgressPort.{EgressPort}
 use Rattle.node_core.specs.Holding.{states_in}
-use Rattle.world_core.specs.World.{WorldState, StandsAt, inbox}
-use Rattle.world_core.proofs.Standing.{stands, peer_stands}
-use Rattle.world_core.proofs.Marked.{few_counted}
+use Rattle.world_core.specs.{WorldState, StandsAt, inbox}
+use Rattle.world_core.proofs.{Standing.stands, Standing.peer_stands, Marked.few_counted}
 use Rattle.world_core.proofs.marking.few_wait.Goals as goal
 
 pub out_count-requires : goal.out_count-requires

@@ -1,13 +1,11 @@
 use Rattle.std.proofs.Common.{List, false, sym, ap, ◌∙◌}
 use Rattle.std.specs.Prelude.{Option, slice_get}
 use Rattle.std.specs.Option.{option_map_or}
+use Rattle.srp_base.proofs.Arithmetic.{if_ok}
 use Rattle.node_core.specs.declared.types.Wire.{Wire}
-use Rattle.node_core.specs.Holding.{states_in}
-use Rattle.node_core.specs.Leaving.{has_leave_all}
-use Rattle.world_core.specs.World.{inbox, world_with}
-use Rattle.world_core.proofs.Happenings.{port_there, get_there}
-use Rattle.world_core.proofs.Nodes.{inbox_is}
-use Rattle.world_core.proofs.Standing.{if_ok}
+use Rattle.node_core.specs.{Holding.states_in, Leaving.has_leave_all}
+use Rattle.world_core.specs.{inbox, world_with}
+use Rattle.world_core.proofs.{Happenings.port_there, Happenings.get_there, Nodes.inbox_is}
 use Rattle.world_core.proofs.marking.front_leaves.Goals as goal
 
 pub front_pdu-requires : goal.front_pdu-requires

@@ -1,7 +1,6 @@
 use Rattle.std.proofs.Common.{◌∙◌}
 use Rattle.node_core.specs.Holding.{states_in}
-use Rattle.world_core.proofs.Happenings.{port_there, get_there}
-use Rattle.world_core.proofs.Marked.{next_is}
+use Rattle.world_core.proofs.{Happenings.port_there, Happenings.get_there, Marked.next_is}
 use Rattle.world_core.proofs.marking.leaves_next.Goals as goal
 
 pub leaves_next-requires : goal.leaves_next-requires

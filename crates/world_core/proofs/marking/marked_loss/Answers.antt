@@ -1,7 +1,6 @@
 use Rattle.node_core.specs.Holding.{states_in}
-use Rattle.world_core.specs.World.{WorldState}
-use Rattle.world_core.proofs.Standing.{stands, peer_stands}
-use Rattle.world_core.proofs.Marked.{port_of_marks, if_counted, lost_with}
+use Rattle.world_core.specs.{WorldState}
+use Rattle.world_core.proofs.{Standing.stands, Standing.peer_stands, Marked.port_of_marks, Marked.if_counted, Marked.lost_with}
 use Rattle.world_core.proofs.marking.marked_loss.Goals as goal
 
 pub app_at-app-requires : goal.app_at-app-requires

@@ -3,10 +3,8 @@ use Rattle.std.specs.Prelude.{◌<◌, ◌^◌}
 use Rattle.srp_base.specs.declared.numbers.EgressPort.{EgressPort}
 use Rattle.tree_topology.specs.Topology.{HasPort}
 use Rattle.node_core.specs.Holding.{states_in}
-use Rattle.world_core.specs.Marks.{mark_at}
-use Rattle.world_core.specs.World.{WorldState}
-use Rattle.world_core.proofs.Standing.{stands}
-use Rattle.world_core.proofs.Marked.{port_of_marks, if_counted, few_from_peer, copied_with}
+use Rattle.world_core.specs.{mark_at, WorldState}
+use Rattle.world_core.proofs.{Standing.stands, Marked.port_of_marks, Marked.if_counted, Marked.few_from_peer, Marked.copied_with}
 use Rattle.world_core.proofs.marking.marked_repeat.Goals as goal
 
 pub few_wait-requires-clause-port : goal.few_wait-requires-clause-port

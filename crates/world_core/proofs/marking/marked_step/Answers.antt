@@ -1,7 +1,6 @@
 use Rattle.std.proofs.Common.{◌∙◌}
 use Rattle.node_core.specs.Holding.{states_in}
-use Rattle.world_core.proofs.Standing.{stands}
-use Rattle.world_core.proofs.Marked.{port_of_marks, stepped_with}
+use Rattle.world_core.proofs.{Standing.stands, Marked.port_of_marks, Marked.stepped_with}
 use Rattle.world_core.proofs.marking.marked_step.Goals as goal
 
 pub make_step-requires-clause-some : goal.make_step-requires-clause-some

@@ -1,7 +1,7 @@
 use Rattle.std.proofs.Common.{Bool, sym, ap, ◌∙◌}
 use Rattle.node_core.specs.declared.types.PortStep.{PortStep}
 use Rattle.node_core.specs.Holding.{states_in}
-use Rattle.world_core.specs.World.{WorldState, marks_sending, marks_stepping}
+use Rattle.world_core.specs.{WorldState, marks_sending, marks_stepping}
 use Rattle.world_core.proofs.Standing.{stands}
 use Rattle.world_core.proofs.marking.noted_of.Goals as goal
 

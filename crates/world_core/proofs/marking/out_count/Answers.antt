@@ -2,8 +2,7 @@ use Rattle.std.proofs.Common.{length, sym, ap, ◌∙◌}
 use Rattle.node_core.specs.declared.types.Wire.{Wire}
 use Rattle.std.proofs.Common.{List}
 use Rattle.node_core.specs.Holding.{states_in}
-use Rattle.world_core.proofs.Happenings.{port_there, get_there}
-use Rattle.world_core.proofs.Nodes.{outbox_is}
+use Rattle.world_core.proofs.{Happenings.port_there, Happenings.get_there, Nodes.outbox_is}
 use Rattle.world_core.proofs.marking.out_count.Goals as goal
 
 pub outgoing_pdus-requires : goal.outgoing_pdus-requires

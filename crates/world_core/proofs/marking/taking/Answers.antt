@@ -1,8 +1,7 @@
 use Rattle.std.proofs.Common.{sym, ◌∙◌}
 use Rattle.node_core.specs.Holding.{states_in}
-use Rattle.world_core.specs.World.{WorldState}
-use Rattle.world_core.proofs.Standing.{stands}
-use Rattle.world_core.proofs.Marked.{takes_nothing, takes_counted, can_take}
+use Rattle.world_core.specs.{WorldState}
+use Rattle.world_core.proofs.{Standing.stands, Marked.takes_nothing, Marked.takes_counted, Marked.can_take}
 use Rattle.world_core.proofs.marking.taking.Goals as goal
 
 pub app_at-requires : goal.app_at-requires

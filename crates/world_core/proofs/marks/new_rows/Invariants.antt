@@ -1,5 +1,5 @@
 use Rattle.std.proofs.Common.{◌≡◌, ◌+◌, ◌++◌, drop}
-use Rattle.world_core.specs.Marks.{rows_from}
+use Rattle.world_core.specs.{rows_from}
 use Rattle.world_core.proofs.marks.new_rows.Given as goal
 
 -- the rows so far and those of the nodes that are left are all

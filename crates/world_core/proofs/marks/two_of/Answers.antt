@@ -1,7 +1,6 @@
 use Rattle.std.proofs.Common.{ap, ◌∙◌}
 use Rattle.srp_base.specs.declared.numbers.EgressPort.{EgressPort}
-use Rattle.world_core.specs.declared.marks.EndMark.{EndMark}
-use Rattle.world_core.specs.Marks.{mark_in}
+use Rattle.world_core.specs.{EndMark, mark_in}
 use Rattle.world_core.proofs.marks.two_of.Goals as goal
 
 pub returns : goal.returns

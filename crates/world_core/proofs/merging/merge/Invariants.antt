@@ -1,6 +1,6 @@
 use Rattle.std.proofs.Common.{◌≡◌, ◌≤◌, ◌+◌, ◌++◌, vec_len, vec_capacity}
 use Rattle.std.specs.VecDeque.{deque_len}
-use Rattle.world_core.specs.Merging.{changes_among}
+use Rattle.world_core.specs.{changes_among}
 use Rattle.world_core.proofs.merging.merge.Given as goal
 
 abbrev pub invariant-loop-change : goal.invariant-loop-change

@@ -1,7 +1,6 @@
 use Rattle.std.proofs.Common.{◌≡◌, [], sym, ap, ◌∙◌}
-use Rattle.std.proofs.lemmas.Bool.{eqb-true}
-use Rattle.std.proofs.lemmas.List.{nil_from_length}
-use Rattle.world_core.specs.Merging.{changes_among}
+use Rattle.std.proofs.lemmas.{Bool.eqb-true, List.nil_from_length}
+use Rattle.world_core.specs.{changes_among}
 use Rattle.world_core.proofs.PortOrder.{merged_nothing}
 use Rattle.world_core.proofs.merging.put_among.Goals as goal
 

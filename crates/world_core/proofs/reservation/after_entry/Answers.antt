@@ -4,9 +4,8 @@ use Rattle.std.proofs.lemmas.List.{get_or_default}
 use Rattle.srp_base.specs.declared.numbers.StreamId.{StreamId}
 use Rattle.stream_importance.specs.declared.entry.Entry.{Entry}
 use Rattle.port_ledger.specs.Decision.{is_booked}
-use Rattle.world_core.proofs.Picked.{pass_none, pass_same, pass_other, pass_end}
+use Rattle.world_core.proofs.{Picked.pass_none, Picked.pass_same, Picked.pass_other, Picked.pass_end, reservation.after_entry.Goals.else-next-streams-via-then-next-streams+else-eq, reservation.after_entry.Goals.else-next-streams-via-else-next-streams}
 use Rattle.world_core.proofs.reservation.after_entry.Goals as goal
-use Rattle.world_core.proofs.reservation.after_entry.Goals.{else-next-streams-via-then-next-streams+else-eq, else-next-streams-via-else-next-streams}
 
 pub returns-in_default-clause-same : goal.returns-in_default-clause-same
 returns-in_default-clause-same c =

@@ -1,10 +1,9 @@
 use Rattle.std.proofs.Common.{sym}
 use Rattle.std.specs.Prelude.{◌==◌}
 use Rattle.mrp_participant.specs.Lookup.{key_of}
-use Rattle.world_core.specs.Reservation.{is_registered_row}
-use Rattle.world_core.proofs.Picked.{pass_none, pass_same, pass_other, pass_end}
+use Rattle.world_core.specs.{is_registered_row}
+use Rattle.world_core.proofs.{Picked.pass_none, Picked.pass_same, Picked.pass_other, Picked.pass_end, reservation.after_row.Goals.else-next-vids-via-then-next-vids+else-eq, reservation.after_row.Goals.else-next-vids-via-else-next-vids}
 use Rattle.world_core.proofs.reservation.after_row.Goals as goal
-use Rattle.world_core.proofs.reservation.after_row.Goals.{else-next-vids-via-then-next-vids+else-eq, else-next-vids-via-else-next-vids}
 
 pub returns-in_default-clause-same : goal.returns-in_default-clause-same
 returns-in_default-clause-same c =

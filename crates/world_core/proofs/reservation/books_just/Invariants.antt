@@ -1,5 +1,5 @@
 use Rattle.std.proofs.Common.{◌≡◌, ◌≤◌, length, drop}
-use Rattle.world_core.specs.Reservation.{booked_streams, are_same_streams}
+use Rattle.world_core.specs.{booked_streams, are_same_streams}
 use Rattle.world_core.proofs.reservation.books_just.Given as goal
 
 abbrev pub invariant-loop-i : goal.invariant-loop-i

@@ -1,5 +1,5 @@
 use Rattle.std.proofs.Common.{◌≡◌, ◌≤◌, length, drop}
-use Rattle.world_core.specs.Reservation.{registered_vids, are_same_vids}
+use Rattle.world_core.specs.{registered_vids, are_same_vids}
 use Rattle.world_core.proofs.reservation.registers_just.Given as goal
 
 abbrev pub invariant-loop-i : goal.invariant-loop-i

@@ -1,9 +1,8 @@
 use Rattle.std.proofs.Common.{◌++◌, ◌+◌, ◌∷◌, [], drop, sym, ap, ◌∙◌, List, ℕ, append_assoc, arith}
 use Rattle.mrp_participant.specs.Lookup.{key_of}
-use Rattle.world_core.specs.Reservation.{is_registered_row, registered_vids}
-use Rattle.world_core.proofs.Picked.{pick_none, pick_one}
+use Rattle.world_core.specs.{is_registered_row, registered_vids}
+use Rattle.world_core.proofs.{Picked.pick_none, Picked.pick_one, reservation.vids_of.Goals.in-Some+in_ok-push, reservation.vids_of.Goals.in_default}
 use Rattle.world_core.proofs.reservation.vids_of.Goals as goal
-use Rattle.world_core.proofs.reservation.vids_of.Goals.{in-Some+in_ok-push, in_default}
 
 pub loop-i-preserved : goal.loop-i-preserved
 loop-i-preserved c =

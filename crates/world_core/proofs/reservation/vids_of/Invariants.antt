@@ -1,5 +1,5 @@
 use Rattle.std.proofs.Common.{◌≡◌, ◌++◌, drop}
-use Rattle.world_core.specs.Reservation.{registered_vids}
+use Rattle.world_core.specs.{registered_vids}
 use Rattle.world_core.proofs.reservation.vids_of.Given as goal
 
 abbrev pub invariant-loop-i : goal.invariant-loop-i

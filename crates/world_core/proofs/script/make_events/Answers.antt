@@ -1,11 +1,8 @@
 use Rattle.std.proofs.Common.{◌≡◌, ◌<◌, ℕ, suc, List, length, map, get_or, refl, sym, ap, subst, ◌∙◌, arith}
 use Rattle.std.proofs.lemmas.Option.{IfSome_then}
 use Rattle.topology_file.specs.declared.entries.EventEntry.{EventEntry}
-use Rattle.topology_file.specs.Kinds.{IsKnownKind}
-use Rattle.topology_file.specs.Plan.{Plan}
-use Rattle.world_core.specs.declared.events.WorldReply.{WorldReply}
-use Rattle.world_core.specs.Ticks.{event_of, script_at}
-use Rattle.world_core.specs.Cursor.{IsCursor}
+use Rattle.topology_file.specs.{Kinds.IsKnownKind, Plan.Plan}
+use Rattle.world_core.specs.{WorldReply, event_of, script_at, IsCursor}
 use Rattle.world_core.proofs.Scripts.{IsScripted, begins, one_entry, stops, runs_out, numbers_are, answers_are}
 use Rattle.world_core.proofs.script.make_events.Goals as goal
 

@@ -2,10 +2,9 @@ use Rattle.std.proofs.Common.{◌≡◌, ◌≤◌, ◌+◌, List, length, ◌�
 use Rattle.std.specs.List.{AllByRecursion}
 use Rattle.srp_base.specs.declared.ports.PortSetup.{PortSetup}
 use Rattle.mrp_participant.specs.State.{IsTime}
-use Rattle.world_core.specs.Start.{setups_from}
-use Rattle.world_core.proofs.Starting.{few_ports, have_shares, have_periods}
+use Rattle.world_core.specs.{setups_from}
+use Rattle.world_core.proofs.{Starting.few_ports, Starting.have_shares, Starting.have_periods, start.new_node_of.Goals.After-domain_of}
 use Rattle.world_core.proofs.start.new_node_of.Goals as goal
-use Rattle.world_core.proofs.start.new_node_of.Goals.{After-domain_of}
 
 -- the ports are those of the node's links
 setups_are : (c : After-domain_of) → c.as_slice.result.now ≡ setups_from 1 c.args.number c.args.scenario.now.links

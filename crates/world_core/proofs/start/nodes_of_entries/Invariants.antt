@@ -1,6 +1,6 @@
 use Rattle.std.proofs.Common.{◌≡◌, ◌+◌, ◌++◌, drop}
 use Rattle.node_core.specs.Holding.{states_in}
-use Rattle.world_core.specs.Start.{nodes_from}
+use Rattle.world_core.specs.{nodes_from}
 use Rattle.world_core.proofs.start.nodes_of_entries.Given as goal
 
 -- the nodes so far and those of the entries that are left are all

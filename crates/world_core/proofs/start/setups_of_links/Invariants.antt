@@ -1,5 +1,5 @@
 use Rattle.std.proofs.Common.{◌≡◌, ◌+◌, ◌++◌, drop}
-use Rattle.world_core.specs.Start.{setups_from}
+use Rattle.world_core.specs.{setups_from}
 use Rattle.world_core.proofs.start.setups_of_links.Given as goal
 
 -- the ports so far and those on the links that are left are all

@@ -1,9 +1,7 @@
 use Rattle.std.proofs.Common.{arith}
-use Rattle.topology_file.specs.Plan.{Plan}
-use Rattle.topology_file.specs.Scenario.{KeepsRules}
-use Rattle.world_core.proofs.TickRuns.{TickLaws, some_tick, next_tick, some_run}
+use Rattle.topology_file.specs.{Plan.Plan, Scenario.KeepsRules}
+use Rattle.world_core.proofs.{TickRuns.TickLaws, TickRuns.some_tick, TickRuns.next_tick, TickRuns.some_run, tick_laws.a_legal_run_goes_on.Goals.After-what_is_allowed_may_happen}
 use Rattle.world_core.proofs.tick_laws.a_legal_run_goes_on.Goals as goal
-use Rattle.world_core.proofs.tick_laws.a_legal_run_goes_on.Goals.{After-what_is_allowed_may_happen}
 
 laws : After-what_is_allowed_may_happen → (plan : Plan) → KeepsRules plan → TickLaws plan
 laws c plan rules =

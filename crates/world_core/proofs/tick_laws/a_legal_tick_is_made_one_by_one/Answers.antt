@@ -1,9 +1,7 @@
 use Rattle.std.proofs.Common.{arith}
-use Rattle.topology_file.specs.Plan.{Plan}
-use Rattle.topology_file.specs.Scenario.{KeepsRules}
-use Rattle.world_core.proofs.TickRuns.{TickLaws, tick_one_by_one, tick_legal}
+use Rattle.topology_file.specs.{Plan.Plan, Scenario.KeepsRules}
+use Rattle.world_core.proofs.{TickRuns.TickLaws, TickRuns.tick_one_by_one, TickRuns.tick_legal, tick_laws.a_legal_tick_is_made_one_by_one.Goals.After-what_is_allowed_may_happen}
 use Rattle.world_core.proofs.tick_laws.a_legal_tick_is_made_one_by_one.Goals as goal
-use Rattle.world_core.proofs.tick_laws.a_legal_tick_is_made_one_by_one.Goals.{After-what_is_allowed_may_happen}
 
 laws : After-what_is_allowed_may_happen → (plan : Plan) → KeepsRules plan → TickLaws plan
 laws c plan rules =

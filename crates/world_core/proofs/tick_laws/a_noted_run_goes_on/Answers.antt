@@ -1,5 +1,5 @@
 use Rattle.std.proofs.Common.{refl}
-use Rattle.world_core.specs.Start.{world_of}
+use Rattle.world_core.specs.{world_of}
 use Rattle.world_core.proofs.NotedRuns.{changes_are, noted_on}
 use Rattle.world_core.proofs.tick_laws.a_noted_run_goes_on.Goals as goal
 

@@ -1,15 +1,12 @@
 use Rattle.std.proofs.Common.{◌≡◌, ℕ, ◌+◌, ◌-◌, ◌++◌, length, map, ap, sym, ◌∙◌, arith, Option}
 use Rattle.std.specs.Prelude.{flat_map}
-use Rattle.std.specs.Option.{option_map_or}
-use Rattle.std.specs.List.{range_with_len}
+use Rattle.std.specs.{Option.option_map_or, List.range_with_len}
 use Rattle.srp_base.specs.declared.numbers.EgressPort.{EgressPort}
 use Rattle.tree_topology.specs.Ports.{neighbours}
-use Rattle.frame_flow.specs.Force.{changes_at}
-use Rattle.frame_flow.specs.Copies.{port_of}
+use Rattle.frame_flow.specs.{Force.changes_at, Copies.port_of}
 use Rattle.attribute_propagation.specs.Ports.{place_of}
 use Rattle.node_core.specs.State.{NodeState, ports_of}
-use Rattle.world_core.specs.Reservation.{no_reservation}
-use Rattle.world_core.specs.Timeline.{node_force, force_at, lacking}
+use Rattle.world_core.specs.{no_reservation, node_force, force_at, lacking}
 use Rattle.world_core.proofs.Noting.{more_of_port}
 use Rattle.world_core.proofs.timeline.add_of_node.Goals as goal
 

@@ -1,9 +1,8 @@
 use Rattle.std.proofs.Common.{◌≡◌, ◌++◌, map}
 use Rattle.std.specs.Prelude.{flat_map}
 use Rattle.std.specs.List.{range_with_len}
-use Rattle.frame_flow.specs.Force.{changes_at}
-use Rattle.frame_flow.specs.Copies.{port_of}
-use Rattle.world_core.specs.Timeline.{force_at, lacking}
+use Rattle.frame_flow.specs.{Force.changes_at, Copies.port_of}
+use Rattle.world_core.specs.{force_at, lacking}
 use Rattle.world_core.proofs.timeline.add_of_node.Given as goal
 
 abbrev pub invariant-loop-k : goal.invariant-loop-k

@@ -1,9 +1,8 @@
 use Rattle.std.proofs.Common.{rules}
 use Rattle.std.specs.Prelude.{not}
-use Rattle.std.proofs.lemmas.Bool.{not-true, not-false}
-use Rattle.std.proofs.lemmas.List.Sorted.{IsPartitionPoint-from_clause}
+use Rattle.std.proofs.lemmas.{Bool.not-true, Bool.not-false, List.Sorted.IsPartitionPoint-from_clause}
 use Rattle.srp_base.specs.declared.ports.PortChange.{PortChange}
-use Rattle.world_core.specs.Merging.{precedes}
+use Rattle.world_core.specs.{precedes}
 use Rattle.world_core.proofs.LastChange.{parted}
 use Rattle.world_core.proofs.timeline.count_upto.Goals as goal
 

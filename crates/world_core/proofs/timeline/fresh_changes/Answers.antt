@@ -1,5 +1,5 @@
 use Rattle.frame_flow.specs.Force.{changes_at}
-use Rattle.world_core.specs.Timeline.{force_at, lacking}
+use Rattle.world_core.specs.{force_at, lacking}
 use Rattle.world_core.proofs.Noting.{more_of_node}
 use Rattle.world_core.proofs.timeline.fresh_changes.Goals as goal
 

@@ -1,9 +1,8 @@
 use Rattle.std.proofs.Common.{◌≡◌}
 use Rattle.std.specs.Prelude.{flat_map}
 use Rattle.std.specs.List.{range_with_len}
-use Rattle.frame_flow.specs.Force.{changes_at}
-use Rattle.frame_flow.specs.Copies.{ports_at}
-use Rattle.world_core.specs.Timeline.{force_at, lacking}
+use Rattle.frame_flow.specs.{Force.changes_at, Copies.ports_at}
+use Rattle.world_core.specs.{force_at, lacking}
 use Rattle.world_core.proofs.timeline.fresh_changes.Given as goal
 
 abbrev pub invariant-loop-x : goal.invariant-loop-x

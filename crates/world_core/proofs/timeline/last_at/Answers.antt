@@ -2,7 +2,7 @@ use Rattle.std.proofs.Common.{◌≡◌, ℕ, ◌-◌, sym, ap, subst, length, a
 use Rattle.std.specs.List.{AllWithin}
 use Rattle.srp_base.specs.declared.ports.PortChange.{PortChange}
 use Rattle.frame_flow.specs.Force.{in_force}
-use Rattle.world_core.specs.Merging.{precedes}
+use Rattle.world_core.specs.{precedes}
 use Rattle.world_core.proofs.LastChange.{at_take, last_is, last_other}
 use Rattle.world_core.proofs.timeline.last_at.Goals as goal
 

@@ -1,5 +1,4 @@
-use Rattle.world_core.proofs.Changes.{within_caps_a, within_caps}
-use Rattle.world_core.proofs.Places.{below_rates}
+use Rattle.world_core.proofs.{Changes.within_caps_a, Changes.within_caps, Places.below_rates}
 use Rattle.world_core.proofs.timeline_laws.slopes_stay_within_limits.Goals as goal
 
 pub returns-clause-class_a : goal.returns-clause-class_a

@@ -1,5 +1,4 @@
-use Rattle.world_core.proofs.Reservations.{closing_keeps}
-use Rattle.world_core.proofs.Timelines.{start_says}
+use Rattle.world_core.proofs.{Reservations.closing_keeps, Timelines.start_says}
 use Rattle.world_core.proofs.timeline_laws.what_ends_a_tick_changes_nothing_in_force.Goals as goal
 
 pub returns-clause-start : goal.returns-clause-start

@@ -1,5 +1,5 @@
 use Rattle.std.proofs.Common.{◌≡◌, ◌≤◌, ◌+◌, length, drop}
-use Rattle.attribute_propagation.specs.Dirty.{all_marked}
+use Rattle.attribute_propagation.specs.{all_marked}
 use Rattle.attribute_propagation.proofs.dirty.Dirty.mark_all.Given as goal
 
 -- the keys so far and those that are left make what all make, there is room for those that are left, and each so far took

@@ -1,8 +1,7 @@
 use Rattle.std.proofs.Common.{ℕ, IfOk, OnErr, ap, subst}
 use Rattle.node_core.specs.State.{NodeState}
 use Rattle.turn_lock.specs.Calls.{HasCalled, HasLooked}
-use Rattle.bridge_book.specs.declared.shared.PortAsk.{PortAsk}
-use Rattle.bridge_book.specs.Steps.{Shared, node_does, shared_does}
+use Rattle.bridge_book.specs.{PortAsk, Shared, node_does, shared_does}
 use Rattle.bridge_book.proofs.StepsLemmas.{ok_as, err_as, called_of_node, looked_of_node}
 use Rattle.bridge_book.proofs.hub.NodeHub.call.Goals as goal
 

@@ -1,9 +1,8 @@
 use Rattle.std.proofs.Common.{List, sym, subst}
 use Rattle.node_core.specs.State.{NodeState}
 use Rattle.node_core.specs.declared.types.NodeStep.{NodeStep}
-use Rattle.bridge_book.specs.declared.notice.Notice.{Notice}
-use Rattle.bridge_book.specs.Hub.{Hub, HasClosedHub}
-use Rattle.bridge_book.specs.Refusal.{IsRefusedHub}
+use Rattle.bridge_book.specs.{Notice, HasClosedHub, IsRefusedHub}
+use Rattle.bridge_book.specs.Hub.{Hub}
 use Rattle.bridge_book.proofs.StepsLemmas.{closed_hub, of_hub}
 use Rattle.bridge_book.proofs.hub.NodeHub.close.Goals as goal
 

@@ -1,11 +1,7 @@
 -- Each index moves on over frames of other traffic.
 use Rattle.std.proofs.Common.{◌≡◌, false, ◌≤◌}
 use Rattle.std.specs.List.{AllWithin}
-use Rattle.credit_shaper.specs.declared.shaper.Traffic.{Traffic}
-use Rattle.credit_shaper.specs.declared.shaper.Traffic.TheVariants.{A, B, Other}
-use Rattle.credit_shaper.specs.declared.queues.Heads.{Heads}
-use Rattle.credit_shaper.specs.Port.{is_of}
-use Rattle.credit_shaper.specs.Walk.{head_index}
+use Rattle.credit_shaper.specs.{Traffic, A, B, Other, Heads, is_of, head_index}
 use Rattle.credit_shaper.proofs.QueueLemmas.{pending-settled}
 use Rattle.credit_shaper.proofs.queues.Heads.settled.Goals as goal
 

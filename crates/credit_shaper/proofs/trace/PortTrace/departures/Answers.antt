@@ -1,10 +1,6 @@
 -- A run begins as the port does, and ends with what the port has sent and what waits.
 use Rattle.std.proofs.Common.{◌≡◌, ℕ, List, [], map, refl, sym, ◌∙◌, ap, subst, arith}
-use Rattle.credit_shaper.specs.declared.port.Arrival.{Arrival}
-use Rattle.credit_shaper.specs.declared.port.PortInput.{PortInput}
-use Rattle.credit_shaper.specs.declared.trace.PortTrace.{PortTrace}
-use Rattle.credit_shaper.specs.Trace.{port_at}
-use Rattle.credit_shaper.specs.Walk.{HasReached, port_of, pending}
+use Rattle.credit_shaper.specs.{Arrival, PortInput, PortTrace, port_at, HasReached, port_of, pending}
 use Rattle.credit_shaper.proofs.TraceLemmas.{departures_found, port_at_start}
 use Rattle.credit_shaper.proofs.trace.PortTrace.departures.Goals as goal
 

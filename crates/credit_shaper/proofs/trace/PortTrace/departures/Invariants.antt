@@ -1,7 +1,6 @@
 -- The trace stands for the port at its bit time.
 use Rattle.std.proofs.Common.{◌-◌, ◌≡◌, ◌≤◌}
-use Rattle.credit_shaper.specs.Trace.{port_at}
-use Rattle.credit_shaper.specs.Walk.{HasReached, port_of}
+use Rattle.credit_shaper.specs.{port_at, HasReached, port_of}
 use Rattle.credit_shaper.proofs.trace.PortTrace.departures.Given as goal
 
 abbrev pub invariant-loop-trace : goal.invariant-loop-trace

@@ -1,10 +1,6 @@
 -- What starts is what the port starts.
 use Rattle.std.proofs.Common.{◌≡◌, ◌+◌, ◌≤◌, List, ◌++◌, [], ◌∷◌, Some, None, sym, ◌∙◌, ap, subst, arith}
-use Rattle.credit_shaper.specs.declared.port.Arrival.{Arrival}
-use Rattle.credit_shaper.specs.declared.port.Departure.{Departure}
-use Rattle.credit_shaper.specs.declared.trace.PortTrace.{PortTrace}
-use Rattle.credit_shaper.specs.Trace.{with_start, sends_frame, departure_at}
-use Rattle.credit_shaper.specs.Walk.{frame_of, IsFirst, port_of}
+use Rattle.credit_shaper.specs.{Arrival, Departure, PortTrace, with_start, sends_frame, departure_at, frame_of, IsFirst, port_of}
 use Rattle.credit_shaper.proofs.StartLemmas.{start_found, start_none, port_at_rest, some_bits, rest_idle}
 use Rattle.credit_shaper.proofs.trace.PortTrace.in_bit.Goals as goal
 

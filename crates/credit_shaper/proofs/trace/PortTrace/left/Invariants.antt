@@ -1,6 +1,6 @@
 -- What is pushed, and what the rest of the arrivals gives, are all that wait.
 use Rattle.std.proofs.Common.{◌≡◌, ◌++◌, map, drop}
-use Rattle.credit_shaper.specs.Walk.{pending}
+use Rattle.credit_shaper.specs.{pending}
 use Rattle.credit_shaper.proofs.trace.PortTrace.left.Given as goal
 
 abbrev pub invariant-loop-i : goal.invariant-loop-i

@@ -1,6 +1,6 @@
 -- The first frame of the queue whose turn it is, if it has one.
 use Rattle.std.proofs.Common.{◌≡◌, ◌∙◌, ap, arith}
-use Rattle.credit_shaper.specs.Walk.{head_index, turn_in}
+use Rattle.credit_shaper.specs.{head_index, turn_in}
 use Rattle.credit_shaper.proofs.TraceLemmas.{frame_found, frame_missing}
 use Rattle.credit_shaper.proofs.trace.PortTrace.next_frame.Goals as goal
 

@@ -1,8 +1,7 @@
 -- The earliest of three moments, each after this bit time.
 use Rattle.std.proofs.Common.{◌+◌, ◌≤◌, List, length, sym, subst, arith}
 use Rattle.std.specs.List.{AllWithin}
-use Rattle.credit_shaper.specs.declared.port.SlopeChange.{SlopeChange}
-use Rattle.credit_shaper.specs.declared.port.Arrival.{Arrival}
+use Rattle.credit_shaper.specs.{SlopeChange, Arrival}
 use Rattle.credit_shaper.proofs.TraceLemmas.{reached_until, quiet_until}
 use Rattle.credit_shaper.proofs.trace.PortTrace.next_moment.Goals as goal
 

@@ -1,17 +1,7 @@
 -- The credits are in range, the trace moves on as the port does, and up to its moment the port is alike.
 use Rattle.std.proofs.Common.{◌≡◌, ℕ, ◌+◌, ◌-◌, List, sym, ◌∙◌, ap, subst, arith}
-use Rattle.credit_shaper.specs.declared.port.PortInput.{PortInput}
-use Rattle.credit_shaper.specs.declared.port.Departure.{Departure}
-use Rattle.credit_shaper.specs.declared.trace.PortTrace.{PortTrace}
-use Rattle.credit_shaper.specs.declared.piece.Piece.{Piece}
-use Rattle.credit_shaper.specs.Credit.{IsInRange}
-use Rattle.credit_shaper.specs.Trace.{within_bit, port_in}
-use Rattle.credit_shaper.specs.Pieces.{IsPiece}
-use Rattle.credit_shaper.specs.Walk.{HasReached, port_of, piece_of}
-use Rattle.credit_shaper.proofs.PieceLemmas.{piece_is}
-use Rattle.credit_shaper.proofs.PortLemmas.{in_range}
-use Rattle.credit_shaper.proofs.TraceLemmas.{reached_moved}
-use Rattle.credit_shaper.proofs.QuietLemmas.{moved_port}
+use Rattle.credit_shaper.specs.{PortInput, Departure, PortTrace, Piece, IsInRange, within_bit, port_in, IsPiece, HasReached, port_of, piece_of}
+use Rattle.credit_shaper.proofs.{PieceLemmas.piece_is, PortLemmas.in_range, TraceLemmas.reached_moved, QuietLemmas.moved_port}
 use Rattle.credit_shaper.proofs.trace.PortTrace.piece.Goals as goal
 
 pub goes_on-next-requires-clause-credits : goal.goes_on-next-requires-clause-credits

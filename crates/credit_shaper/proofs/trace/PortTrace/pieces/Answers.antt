@@ -1,13 +1,7 @@
 -- A run begins as the port does, and each piece goes on from the one before.
 use Rattle.std.proofs.Common.{◌≡◌, ℕ, List, [], ◌∷◌, ◌++◌, refl, sym, ◌∙◌, ap, subst, arith}
-use Rattle.credit_shaper.specs.declared.port.PortInput.{PortInput}
-use Rattle.credit_shaper.specs.declared.trace.PortTrace.{PortTrace}
-use Rattle.credit_shaper.specs.declared.piece.Piece.{Piece}
-use Rattle.credit_shaper.specs.Trace.{port_at}
-use Rattle.credit_shaper.specs.Pieces.{ArePieces}
-use Rattle.credit_shaper.specs.Walk.{HasReached, port_of}
-use Rattle.credit_shaper.proofs.PieceLemmas.{pieces_more}
-use Rattle.credit_shaper.proofs.TraceLemmas.{port_at_start}
+use Rattle.credit_shaper.specs.{PortInput, PortTrace, Piece, port_at, ArePieces, HasReached, port_of}
+use Rattle.credit_shaper.proofs.{PieceLemmas.pieces_more, TraceLemmas.port_at_start}
 use Rattle.credit_shaper.proofs.trace.PortTrace.pieces.Goals as goal
 
 pub loop-trace-init : goal.loop-trace-init

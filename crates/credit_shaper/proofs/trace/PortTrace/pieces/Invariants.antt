@@ -1,8 +1,6 @@
 -- The trace stands for the port at its bit time, and the pieces tile the bit times before it.
 use Rattle.std.proofs.Common.{◌-◌, ◌≡◌, ◌≤◌}
-use Rattle.credit_shaper.specs.Trace.{port_at}
-use Rattle.credit_shaper.specs.Pieces.{ArePieces}
-use Rattle.credit_shaper.specs.Walk.{HasReached, port_of}
+use Rattle.credit_shaper.specs.{port_at, ArePieces, HasReached, port_of}
 use Rattle.credit_shaper.proofs.trace.PortTrace.pieces.Given as goal
 
 abbrev pub invariant-loop-trace : goal.invariant-loop-trace

@@ -1,8 +1,7 @@
 -- A whole run is a stretch for the slopes that it has.
 use Rattle.std.proofs.Common.{◌+◌, arith}
-use Rattle.credit_shaper.specs.Bounds.{greatest_slope_a}
-use Rattle.credit_shaper.proofs.BoundLemmas.{credit_within}
-use Rattle.credit_shaper.proofs.WindowLemmas.{window_within, whole_run}
+use Rattle.credit_shaper.specs.{greatest_slope_a}
+use Rattle.credit_shaper.proofs.{BoundLemmas.credit_within, WindowLemmas.window_within, WindowLemmas.whole_run}
 use Rattle.credit_shaper.proofs.trace.PortTrace.run.Goals as goal
 
 pub returns-clause-credit : goal.returns-clause-credit

@@ -1,10 +1,7 @@
 -- The queue goes on at its next frame, and the others stay.
 use Rattle.std.proofs.Common.{◌≡◌, take, refl, sym, subst, arith}
-use Rattle.credit_shaper.specs.declared.queues.Heads.{Heads}
-use Rattle.credit_shaper.specs.Trace.{without_head}
-use Rattle.credit_shaper.specs.Walk.{with_head_index, pending, waiting_of, AreHeads, IsHead}
-use Rattle.credit_shaper.proofs.MomentLemmas.{blank}
-use Rattle.credit_shaper.proofs.QueueLemmas.{head_index-each, without_first}
+use Rattle.credit_shaper.specs.{Heads, without_head, with_head_index, pending, waiting_of, AreHeads, IsHead}
+use Rattle.credit_shaper.proofs.{MomentLemmas.blank, QueueLemmas.head_index-each, QueueLemmas.without_first}
 use Rattle.credit_shaper.proofs.trace.PortTrace.sends.Goals as goal
 
 pub returns-clause-heads : goal.returns-clause-heads

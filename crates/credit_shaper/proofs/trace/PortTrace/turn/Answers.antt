@@ -1,14 +1,7 @@
 -- The credits are in range, and the trace moves on as the port does.
 use Rattle.std.proofs.Common.{◌≡◌, ℕ, ◌+◌, ◌-◌, List, sym, ◌∙◌, ap, subst, arith}
-use Rattle.credit_shaper.specs.declared.port.PortInput.{PortInput}
-use Rattle.credit_shaper.specs.declared.port.Departure.{Departure}
-use Rattle.credit_shaper.specs.declared.trace.PortTrace.{PortTrace}
-use Rattle.credit_shaper.specs.Credit.{IsInRange}
-use Rattle.credit_shaper.specs.Trace.{within_bit, port_in}
-use Rattle.credit_shaper.specs.Walk.{HasReached, port_of}
-use Rattle.credit_shaper.proofs.PortLemmas.{in_range}
-use Rattle.credit_shaper.proofs.TraceLemmas.{reached_moved}
-use Rattle.credit_shaper.proofs.QuietLemmas.{moved_port}
+use Rattle.credit_shaper.specs.{PortInput, Departure, PortTrace, IsInRange, within_bit, port_in, HasReached, port_of}
+use Rattle.credit_shaper.proofs.{PortLemmas.in_range, TraceLemmas.reached_moved, QuietLemmas.moved_port}
 use Rattle.credit_shaper.proofs.trace.PortTrace.turn.Goals as goal
 
 pub goes_on-requires-clause-credits : goal.goes_on-requires-clause-credits

@@ -1,11 +1,7 @@
 -- The arrivals of the bit time join those that waited, and the slopes are those in force.
 use Rattle.std.proofs.Common.{◌≡◌, ◌+◌, ◌≤◌, List, take, ◌∙◌, ap, subst, arith}
-use Rattle.credit_shaper.specs.declared.port.SlopeChange.{SlopeChange}
-use Rattle.credit_shaper.specs.declared.port.Arrival.{Arrival}
-use Rattle.credit_shaper.specs.Port.{no_slopes}
-use Rattle.credit_shaper.specs.Walk.{IsReached, pending, arrival_bit, change_bit, newest}
-use Rattle.credit_shaper.proofs.MomentLemmas.{blank, reached_more}
-use Rattle.credit_shaper.proofs.TraceLemmas.{arrivals_step}
+use Rattle.credit_shaper.specs.{SlopeChange, Arrival, no_slopes, IsReached, pending, arrival_bit, change_bit, newest}
+use Rattle.credit_shaper.proofs.{MomentLemmas.blank, MomentLemmas.reached_more, TraceLemmas.arrivals_step}
 use Rattle.credit_shaper.proofs.trace.PortTrace.with_arrivals.Goals as goal
 
 pub settled-requires-clause-heads : goal.settled-requires-clause-heads

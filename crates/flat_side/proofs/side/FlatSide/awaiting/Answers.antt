@@ -2,7 +2,7 @@ use Rattle.std.proofs.Common.{◌≡◌, ◌-◌, ◌∙◌, length, ap, sym}
 use Rattle.std.specs.Prelude.{slice_get, Some, option_map}
 use Rattle.std.proofs.lemmas.Option.{slice_get-map}
 use Rattle.attribute_propagation.specs.Ports.{keys_in, place_of}
-use Rattle.flat_side.specs.Holding.{SideHolding}
+use Rattle.flat_side.specs.{SideHolding}
 use Rattle.flat_side.proofs.side.FlatSide.awaiting.Goals as goal
 
 pub returns : goal.returns

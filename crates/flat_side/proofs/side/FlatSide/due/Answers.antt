@@ -2,7 +2,7 @@ use Rattle.std.proofs.Common.{◌≡◌, ◌-◌, ◌∙◌, false, ap, sym}
 use Rattle.std.specs.Prelude.{slice_get, Some}
 use Rattle.mrp_participant.specs.State.{is_any_due}
 use Rattle.attribute_propagation.specs.Ports.{place_of}
-use Rattle.flat_side.specs.Holding.{SideHolding, parts_in}
+use Rattle.flat_side.specs.{SideHolding, parts_in}
 use Rattle.flat_side.proofs.Changing.{none_due}
 use Rattle.flat_side.proofs.side.FlatSide.due.Goals as goal
 

@@ -1,6 +1,5 @@
 use Rattle.std.proofs.Common.{◌∙◌, ap, sym, subst}
-use Rattle.flat_side.specs.Side.{FlatState, IsKept, due_flat}
-use Rattle.flat_side.specs.Holding.{SideHolding, flat_of}
+use Rattle.flat_side.specs.{FlatState, IsKept, due_flat, SideHolding, flat_of}
 use Rattle.flat_side.proofs.side.FlatSide.fire.Given as given
 use Rattle.flat_side.proofs.side.FlatSide.fire.Goals as goal
 

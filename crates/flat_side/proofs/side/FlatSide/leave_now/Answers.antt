@@ -1,6 +1,5 @@
 use Rattle.std.proofs.Common.{◌-◌, ◌∙◌, ap, sym, subst}
-use Rattle.flat_side.specs.Side.{FlatState, IsKept, left_flat}
-use Rattle.flat_side.specs.Holding.{flat_of, parts_in}
+use Rattle.flat_side.specs.{FlatState, IsKept, left_flat, flat_of, parts_in}
 use Rattle.flat_side.proofs.side.FlatSide.leave_now.Given as given
 use Rattle.flat_side.proofs.side.FlatSide.leave_now.Goals as goal
 

@@ -1,6 +1,5 @@
 use Rattle.std.proofs.Common.{◌-◌, ◌∙◌, ◌≡◌, ℕ, ap, sym, subst}
-use Rattle.flat_side.specs.Side.{FlatState, IsKept, leave_all_flat}
-use Rattle.flat_side.specs.Holding.{SideHolding, flat_of}
+use Rattle.flat_side.specs.{FlatState, IsKept, leave_all_flat, SideHolding, flat_of}
 use Rattle.flat_side.proofs.side.FlatSide.leaveall_now.Given as given
 use Rattle.flat_side.proofs.side.FlatSide.leaveall_now.Goals as goal
 

@@ -1,7 +1,7 @@
 use Rattle.std.proofs.Common.{◌-◌, ◌∙◌, ap, sym}
 use Rattle.std.specs.Prelude.{slice_get}
 use Rattle.attribute_propagation.specs.Ports.{place_of}
-use Rattle.flat_side.specs.Holding.{SideHolding, parts_in}
+use Rattle.flat_side.specs.{SideHolding, parts_in}
 use Rattle.flat_side.proofs.side.FlatSide.participant.Goals as goal
 
 pub returns : goal.returns

@@ -1,6 +1,5 @@
 use Rattle.std.proofs.Common.{◌-◌, ◌∙◌, ◌≡◌, ℕ, ap, sym, subst}
-use Rattle.flat_side.specs.Side.{FlatState, IsKept, periodic_flat}
-use Rattle.flat_side.specs.Holding.{SideHolding, flat_of}
+use Rattle.flat_side.specs.{FlatState, IsKept, periodic_flat, SideHolding, flat_of}
 use Rattle.flat_side.proofs.side.FlatSide.periodic_now.Given as given
 use Rattle.flat_side.proofs.side.FlatSide.periodic_now.Goals as goal
 

@@ -1,7 +1,7 @@
 use Rattle.std.proofs.Common.{◌≡◌, ◌∙◌, true, false, refl, sym}
-use Rattle.flat_side.specs.Side.{FlatState, requested_flat}
-use Rattle.flat_side.specs.Holding.{flat_of}
-use Rattle.flat_side.proofs.Changing.{asked_is, both_err, both_ok, kept_either, same_flat}
+use Rattle.srp_base.proofs.Arithmetic.{both_err}
+use Rattle.flat_side.specs.{FlatState, requested_flat, flat_of}
+use Rattle.flat_side.proofs.Changing.{asked_is, both_ok, kept_either, same_flat}
 use Rattle.flat_side.proofs.side.FlatSide.request.Goals as goal
 
 pub invariant_of-self : goal.invariant_of-self

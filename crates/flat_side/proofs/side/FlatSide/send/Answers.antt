@@ -1,6 +1,5 @@
 use Rattle.std.proofs.Common.{◌-◌, sym, subst}
-use Rattle.flat_side.specs.Side.{FlatState, IsKept}
-use Rattle.flat_side.specs.Holding.{flat_of}
+use Rattle.flat_side.specs.{FlatState, IsKept, flat_of}
 use Rattle.flat_side.proofs.side.FlatSide.send.Goals as goal
 
 pub invariant_of-self : goal.invariant_of-self

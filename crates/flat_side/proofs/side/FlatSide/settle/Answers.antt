@@ -1,9 +1,7 @@
 use Rattle.std.proofs.Common.{◌≡◌, ◌-◌, ◌∙◌, [], length, ap, sym}
-use Rattle.std.proofs.lemmas.Bool.{eqb-true}
-use Rattle.std.proofs.lemmas.List.{nil_from_length}
+use Rattle.std.proofs.lemmas.{Bool.eqb-true, List.nil_from_length}
 use Rattle.attribute_propagation.specs.Ports.{keys_at, keys_in, keys_or_none, place_of}
-use Rattle.flat_side.specs.Side.{FlatState, awaiting_at, settled_flat}
-use Rattle.flat_side.specs.Holding.{SideHolding, flat_of}
+use Rattle.flat_side.specs.{FlatState, awaiting_at, settled_flat, SideHolding, flat_of}
 use Rattle.flat_side.proofs.Changing.{none_settled}
 use Rattle.flat_side.proofs.side.FlatSide.settle.Goals as goal
 

@@ -1,6 +1,5 @@
 use Rattle.std.proofs.Common.{◌-◌, ◌∙◌, ◌≡◌, ℕ, ap, sym, subst}
-use Rattle.flat_side.specs.Side.{FlatState, IsKept, spoilt_flat}
-use Rattle.flat_side.specs.Holding.{SideHolding, flat_of}
+use Rattle.flat_side.specs.{FlatState, IsKept, spoilt_flat, SideHolding, flat_of}
 use Rattle.flat_side.proofs.side.FlatSide.spoil.Given as given
 use Rattle.flat_side.proofs.side.FlatSide.spoil.Goals as goal
 

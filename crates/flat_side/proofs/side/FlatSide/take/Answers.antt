@@ -1,7 +1,7 @@
 use Rattle.std.proofs.Common.{◌≡◌, ◌∙◌, ap, refl}
-use Rattle.flat_side.specs.Side.{FlatState, heard_flat, received_flat}
-use Rattle.flat_side.specs.Holding.{SideHolding, flat_of}
-use Rattle.flat_side.proofs.Changing.{both_err, kept_either, on_ok, same_flat}
+use Rattle.srp_base.proofs.Arithmetic.{both_err, on_ok}
+use Rattle.flat_side.specs.{FlatState, heard_flat, received_flat, SideHolding, flat_of}
+use Rattle.flat_side.proofs.Changing.{kept_either, same_flat}
 use Rattle.flat_side.proofs.side.FlatSide.take.Given as given
 use Rattle.flat_side.proofs.side.FlatSide.take.Goals as goal
 

@@ -1,6 +1,6 @@
 use Rattle.std.proofs.Common.{arith}
 use Rattle.frame_flow.proofs.ListFacts.{flat-range-push}
-use Rattle.frame_flow.specs.Copies.{places_of_link}
+use Rattle.frame_flow.specs.{places_of_link}
 use Rattle.std.proofs.lemmas.Grind.{common_steps}
 use Rattle.frame_flow.proofs.place.Place.all.Goals as goal
 

@@ -1,7 +1,7 @@
 use Rattle.std.proofs.Common.{◌≡◌}
 use Rattle.std.specs.Prelude.{flat_map}
 use Rattle.std.specs.List.{range_with_len}
-use Rattle.frame_flow.specs.Copies.{places_of_link}
+use Rattle.frame_flow.specs.{places_of_link}
 use Rattle.frame_flow.proofs.place.Place.all.Given as goal
 
 abbrev pub invariant-loop-n : goal.invariant-loop-n

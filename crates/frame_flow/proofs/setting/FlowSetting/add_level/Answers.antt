@@ -1,6 +1,5 @@
 use Rattle.std.proofs.Common.{◌<◌, List, length, subst, sym, arith}
-use Rattle.frame_flow.specs.declared.place.Place.{Place}
-use Rattle.frame_flow.specs.Levels.{ArePorts}
+use Rattle.frame_flow.specs.{Place, ArePorts}
 use Rattle.frame_flow.proofs.LevelLemmas.{places-are, done-level}
 use Rattle.frame_flow.proofs.setting.FlowSetting.add_level.Goals as goal
 

@@ -1,4 +1,4 @@
-use Rattle.frame_flow.specs.Levels.{AreAt, AreDoneBefore}
+use Rattle.frame_flow.specs.{AreAt, AreDoneBefore}
 use Rattle.frame_flow.proofs.setting.FlowSetting.add_level.Given as goal
 
 abbrev pub invariant-loop-node : goal.invariant-loop-node

@@ -1,13 +1,7 @@
 use Rattle.std.proofs.Common.{ℕ, List, Vec, Global, ap, sym, subst, ◌∙◌, ◌≡◌, ◌+◌, length, arith}
-use Rattle.frame_flow.specs.declared.incoming.NodeCopies.{NodeCopies}
-use Rattle.frame_flow.specs.declared.place.Place.{Place}
-use Rattle.frame_flow.specs.declared.result.PortFlow.{PortFlow}
-use Rattle.frame_flow.specs.Incoming.{AreKept}
-use Rattle.frame_flow.specs.Levels.{ArePorts, AreAt, AreDoneBefore}
-use Rattle.frame_flow.proofs.IncomingLemmas.{step-kept}
-use Rattle.frame_flow.proofs.LevelLemmas.{places-are, step-done, step-skip, done-node}
+use Rattle.frame_flow.specs.{NodeCopies, Place, PortFlow, AreKept, ArePorts, AreAt, AreDoneBefore}
+use Rattle.frame_flow.proofs.{IncomingLemmas.step-kept, LevelLemmas.places-are, LevelLemmas.step-done, LevelLemmas.step-skip, LevelLemmas.done-node, setting.FlowSetting.add_node.Goals.then-is_of+in_ok-kept+in_ok-put_flow, setting.FlowSetting.add_node.Goals.else-is_of}
 use Rattle.frame_flow.proofs.setting.FlowSetting.add_node.Goals as goal
-use Rattle.frame_flow.proofs.setting.FlowSetting.add_node.Goals.{then-is_of+in_ok-kept+in_ok-put_flow, else-is_of}
 
 pub has_fellow-is_shared-requires-clause-port : goal.has_fellow-is_shared-requires-clause-port
 has_fellow-is_shared-requires-clause-port c =

@@ -1,5 +1,4 @@
-use Rattle.frame_flow.specs.Incoming.{AreKept}
-use Rattle.frame_flow.specs.Levels.{AreAt, AreDoneBefore}
+use Rattle.frame_flow.specs.{AreKept, AreAt, AreDoneBefore}
 use Rattle.frame_flow.proofs.setting.FlowSetting.add_node.Given as goal
 
 abbrev pub invariant-loop-k : goal.invariant-loop-k

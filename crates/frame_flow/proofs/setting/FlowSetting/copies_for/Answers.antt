@@ -1,8 +1,7 @@
 use Rattle.std.proofs.Common.{inl, inr, subst, ap, arith}
 use Rattle.std.proofs.lemmas.Bool.{cases_Bool}
-use Rattle.srp_base.specs.declared.numbers.NodeNo.{NodeNo}
-use Rattle.srp_base.specs.declared.numbers.PortNo.{PortNo}
-use Rattle.frame_flow.specs.Incoming.{AreSourcesBelow}
+use Rattle.srp_base.specs.declared.{numbers.NodeNo.NodeNo, numbers.PortNo.PortNo}
+use Rattle.frame_flow.specs.{AreSourcesBelow}
 use Rattle.frame_flow.proofs.setting.FlowSetting.copies_for.Goals as goal
 
 pub returns-clause-kept : goal.returns-clause-kept

@@ -1,6 +1,6 @@
 use Rattle.std.proofs.Common.{◌≡◌, drop}
 use Rattle.std.specs.Prelude.{find}
-use Rattle.frame_flow.specs.Force.{is_port}
+use Rattle.frame_flow.specs.{is_port}
 use Rattle.frame_flow.proofs.setting.FlowSetting.copies_from.Given as goal
 
 abbrev pub invariant-loop-x : goal.invariant-loop-x

@@ -1,6 +1,5 @@
 use Rattle.frame_flow.proofs.ListFacts.{grown, added-more}
-use Rattle.frame_flow.specs.Copies.{handed_on}
-use Rattle.frame_flow.specs.Incoming.{incoming_of}
+use Rattle.frame_flow.specs.{handed_on, incoming_of}
 use Rattle.frame_flow.proofs.setting.FlowSetting.copies_of_flow.Goals as goal
 
 pub loop-number-preserved : goal.loop-number-preserved

@@ -1,7 +1,6 @@
 use Rattle.std.proofs.Common.{◌≡◌, ◌++◌, take}
 use Rattle.std.specs.Prelude.{filter_map, flat_map}
-use Rattle.frame_flow.specs.Copies.{handed_on}
-use Rattle.frame_flow.specs.Incoming.{incoming_of}
+use Rattle.frame_flow.specs.{handed_on, incoming_of}
 use Rattle.frame_flow.proofs.setting.FlowSetting.copies_of_flow.Given as goal
 
 abbrev pub invariant-loop-number : goal.invariant-loop-number

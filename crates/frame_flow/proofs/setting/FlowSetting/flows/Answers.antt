@@ -1,6 +1,5 @@
 use Rattle.std.proofs.Common.{List, sym, subst, ◌≡◌, ◌+◌, length, arith}
-use Rattle.frame_flow.specs.declared.place.Place.{Place}
-use Rattle.frame_flow.specs.Levels.{AreAt, AreDoneBefore}
+use Rattle.frame_flow.specs.{Place, AreAt, AreDoneBefore}
 use Rattle.frame_flow.proofs.LevelLemmas.{all-done}
 use Rattle.frame_flow.proofs.setting.FlowSetting.flows.Goals as goal
 

@@ -1,13 +1,8 @@
 use Rattle.std.proofs.Common.{◌∙◌, ℕ, List, Vec, Global, ap, sym}
 use Rattle.std.specs.Prelude.{not, ◌==◌, ◌&&◌}
-use Rattle.frame_flow.specs.declared.frame.CopyOf.{CopyOf}
-use Rattle.frame_flow.specs.declared.frame.Frame.{Frame}
-use Rattle.frame_flow.specs.declared.frame.FrameCopy.{FrameCopy}
-use Rattle.frame_flow.specs.Copies.{goes_by}
-use Rattle.frame_flow.specs.Flow.{Setting}
-use Rattle.frame_flow.proofs.IncomingLemmas.{left-more, left-same}
+use Rattle.frame_flow.specs.{CopyOf, Frame, FrameCopy, goes_by, Setting}
+use Rattle.frame_flow.proofs.{IncomingLemmas.left-more, IncomingLemmas.left-same, setting.FlowSetting.left_by.Goals.then-leaves_by+in_ok-push, setting.FlowSetting.left_by.Goals.else-leaves_by}
 use Rattle.frame_flow.proofs.setting.FlowSetting.left_by.Goals as goal
-use Rattle.frame_flow.proofs.setting.FlowSetting.left_by.Goals.{then-leaves_by+in_ok-push, else-leaves_by}
 
 pub loop-c-preserved : goal.loop-c-preserved
 loop-c-preserved c =

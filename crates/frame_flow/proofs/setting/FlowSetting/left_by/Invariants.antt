@@ -1,5 +1,5 @@
 use Rattle.std.proofs.Common.{◌≡◌, take}
-use Rattle.frame_flow.specs.Incoming.{leaving}
+use Rattle.frame_flow.specs.{leaving}
 use Rattle.frame_flow.proofs.setting.FlowSetting.left_by.Given as goal
 
 abbrev pub invariant-loop-c : goal.invariant-loop-c

@@ -1,8 +1,6 @@
 use Rattle.std.proofs.Common.{subst, sym, ap}
 use Rattle.tree_topology.specs.Topology.{Topology}
-use Rattle.frame_flow.specs.Flow.{Setting}
-use Rattle.frame_flow.specs.Levels.{ArePorts}
-use Rattle.frame_flow.specs.declared.place.Place.{Place}
+use Rattle.frame_flow.specs.{Setting, ArePorts, Place}
 use Rattle.std.proofs.Common.{List}
 use Rattle.frame_flow.proofs.LevelLemmas.{places-are}
 use Rattle.frame_flow.proofs.setting.FlowSetting.levels.Goals as goal

@@ -1,5 +1,5 @@
 use Rattle.frame_flow.proofs.ListFacts.{grown, flat-range-next}
-use Rattle.frame_flow.specs.Incoming.{incoming_by}
+use Rattle.frame_flow.specs.{incoming_by}
 use Rattle.frame_flow.proofs.setting.FlowSetting.onward_copies.Goals as goal
 
 pub loop-k-preserved : goal.loop-k-preserved

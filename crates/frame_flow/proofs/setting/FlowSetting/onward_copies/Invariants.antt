@@ -1,7 +1,7 @@
 use Rattle.std.proofs.Common.{◌≡◌, ◌++◌}
 use Rattle.std.specs.Prelude.{flat_map}
 use Rattle.std.specs.List.{range_with_len}
-use Rattle.frame_flow.specs.Incoming.{incoming_by}
+use Rattle.frame_flow.specs.{incoming_by}
 use Rattle.frame_flow.proofs.setting.FlowSetting.onward_copies.Given as goal
 
 abbrev pub invariant-loop-k : goal.invariant-loop-k

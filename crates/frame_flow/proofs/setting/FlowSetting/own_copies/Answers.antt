@@ -1,13 +1,9 @@
 use Rattle.std.proofs.Common.{◌∙◌, ◌++◌, List, Bor, length, ap, sym, subst, map, arith}
 use Rattle.std.specs.Prelude.{filter_map}
 use Rattle.std.proofs.lemmas.List.{take_all}
-use Rattle.frame_flow.specs.declared.frame.Frame.{Frame}
-use Rattle.frame_flow.specs.Copies.{Reached}
-use Rattle.frame_flow.specs.Incoming.{incoming_of}
-use Rattle.frame_flow.specs.Flow.{Setting}
-use Rattle.frame_flow.specs.Steps.{AreByNode}
-use Rattle.frame_flow.proofs.ListFacts.{grown, mapped-more}
-use Rattle.frame_flow.proofs.CopyLemmas.{map-twice, own-are}
+use Rattle.srp_base.proofs.Lists.{map-map as map-twice}
+use Rattle.frame_flow.specs.{Frame, Reached, incoming_of, Setting, AreByNode}
+use Rattle.frame_flow.proofs.{ListFacts.grown, ListFacts.mapped-more, CopyLemmas.own-are}
 use Rattle.frame_flow.proofs.setting.FlowSetting.own_copies.Goals as goal
 
 pub at-f-items-requires : goal.at-f-items-requires

@@ -1,6 +1,6 @@
 use Rattle.std.proofs.Common.{◌≡◌, ◌++◌, map, take}
 use Rattle.std.specs.Prelude.{filter_map}
-use Rattle.frame_flow.specs.Incoming.{incoming_of}
+use Rattle.frame_flow.specs.{incoming_of}
 use Rattle.frame_flow.proofs.setting.FlowSetting.own_copies.Given as goal
 
 abbrev pub invariant-loop-f : goal.invariant-loop-f

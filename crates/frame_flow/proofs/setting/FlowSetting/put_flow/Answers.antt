@@ -1,14 +1,10 @@
 use Rattle.std.proofs.Common.{◌≡◌, List, Bor, ap, map, subst, sym, ◌∙◌}
 use Rattle.std.specs.Prelude.{AllPairs}
 use Rattle.srp_base.specs.declared.ports.PortChange.{PortChange}
-use Rattle.frame_flow.specs.Force.{changes_at}
-use Rattle.frame_flow.specs.Flow.{Setting}
+use Rattle.frame_flow.specs.{changes_at, Setting, all_places}
 use Rattle.std.proofs.lemmas.List.Elements.{All-contains}
 use Rattle.tree_topology.specs.Topology.{HasPort}
-use Rattle.frame_flow.specs.Copies.{all_places}
-use Rattle.frame_flow.proofs.LevelLemmas.{places-are}
-use Rattle.frame_flow.proofs.NumberLemmas.{rises, unmapped}
-use Rattle.frame_flow.proofs.SlopeLemmas.{IsBefore, changes-ascend, port-input-at}
+use Rattle.frame_flow.proofs.{LevelLemmas.places-are, NumberLemmas.rises, NumberLemmas.unmapped, SlopeLemmas.IsBefore, SlopeLemmas.changes-ascend, SlopeLemmas.port-input-at}
 use Rattle.frame_flow.proofs.setting.FlowSetting.put_flow.Goals as goal
 
 pub leaving-requires-clause-port : goal.leaving-requires-clause-port

@@ -1,6 +1,5 @@
 use Rattle.std.proofs.Common.{ℕ, ◌∙◌, ap, map}
-use Rattle.frame_flow.specs.Moments.{tick_at}
-use Rattle.frame_flow.specs.Force.{in_force}
+use Rattle.frame_flow.specs.{tick_at, in_force}
 use Rattle.frame_flow.proofs.FateLemmas.{verdicts-more, arrivals-more}
 use Rattle.frame_flow.proofs.verdicts.Verdicts.on.Goals as goal
 

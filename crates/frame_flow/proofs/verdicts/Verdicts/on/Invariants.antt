@@ -1,5 +1,5 @@
 use Rattle.std.proofs.Common.{◌≡◌, map, take}
-use Rattle.frame_flow.specs.Steps.{IsInForce, verdicts_of, arrivals_of}
+use Rattle.frame_flow.specs.{IsInForce, verdicts_of, arrivals_of}
 use Rattle.frame_flow.proofs.verdicts.Verdicts.on.Given as goal
 
 abbrev pub invariant-loop-c : goal.invariant-loop-c

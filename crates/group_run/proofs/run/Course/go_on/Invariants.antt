@@ -1,6 +1,5 @@
 use Rattle.std.proofs.Common.{◌≡◌, drop}
-use Rattle.group_run.specs.Allowed.{AreAllowed, IsInTick}
-use Rattle.group_run.specs.Ticks.{after_events}
+use Rattle.group_run.specs.{AreAllowed, IsInTick, after_events}
 use Rattle.group_run.proofs.run.Course.go_on.Given as goal
 
 -- what is left to happen leads to what all leads to; it may happen, and the tick goes on

@@ -1,6 +1,6 @@
 use Rattle.std.proofs.Common.{◌≢◌, ◌∷◌, ◌+◌, ℕ, List, subst, refl}
-use Rattle.journal_audit.specs.Reading.{Reading, IsTaken}
-use Rattle.journal_audit.specs.Texts.{lines_of}
+use Rattle.journal_audit.specs.Reading.{Reading}
+use Rattle.journal_audit.specs.{IsTaken, lines_of}
 use Rattle.journal_audit.proofs.TextLemmas.{taken_line, another_line}
 use Rattle.journal_audit.proofs.reading.Reader.take.Goals as goal
 

@@ -1,7 +1,7 @@
 use Rattle.std.proofs.Common.{sym, ap, ◌∙◌, subst}
-use Rattle.mmrp.specs.declared.events.GroupEvent.TheVariants.{Carry}
-use Rattle.mmrp.specs.Net.{NetGroups, CanHappen, group_step}
-use Rattle.mmrp.proofs.Standing.{stands, peer_stands, if_ok, kept_either}
+use Rattle.srp_base.proofs.Arithmetic.{if_ok}
+use Rattle.mmrp.specs.{Carry, NetGroups, CanHappen, group_step}
+use Rattle.mmrp.proofs.Standing.{stands, peer_stands, kept_either}
 use Rattle.mmrp.proofs.net.GroupNet.carry.Goals as goal
 
 pub carry-requires-clause-here : goal.carry-requires-clause-here

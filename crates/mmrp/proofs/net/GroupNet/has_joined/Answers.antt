@@ -1,7 +1,6 @@
 use Rattle.std.proofs.Common.{sym, ap, ◌∙◌, subst, arith}
 use Rattle.tree_topology.specs.Topology.{HasNode}
-use Rattle.mmrp.specs.Net.{NetGroups}
-use Rattle.mmrp.specs.Match.{is_joined_at}
+use Rattle.mmrp.specs.{NetGroups, is_joined_at}
 use Rattle.mmrp.proofs.Standing.{joined_is}
 use Rattle.mmrp.proofs.net.GroupNet.has_joined.Goals as goal
 

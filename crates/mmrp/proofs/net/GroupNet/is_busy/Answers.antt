@@ -1,6 +1,6 @@
 use Rattle.std.proofs.Common.{sym, ap, ◌∙◌, subst, arith}
 use Rattle.tree_topology.specs.Topology.{HasNode}
-use Rattle.mmrp.specs.Net.{NetGroups, is_busy_at}
+use Rattle.mmrp.specs.{NetGroups, is_busy_at}
 use Rattle.mmrp.proofs.net.GroupNet.is_busy.Goals as goal
 
 pub is_busy-requires-clause-few : goal.is_busy-requires-clause-few

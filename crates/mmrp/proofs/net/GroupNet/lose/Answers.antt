@@ -1,7 +1,5 @@
 use Rattle.std.proofs.Common.{sym, ap, ◌∙◌, subst}
-use Rattle.mmrp.specs.declared.events.GroupEvent.TheVariants.{Lose}
-use Rattle.mmrp.specs.Kept.{IsKeptNet}
-use Rattle.mmrp.specs.Net.{NetGroups, Happened, CanHappen, group_step}
+use Rattle.mmrp.specs.{Lose, IsKeptNet, NetGroups, Happened, CanHappen, group_step}
 use Rattle.mmrp.proofs.Standing.{stands, peer_stands}
 use Rattle.mmrp.proofs.net.GroupNet.lose.Goals as goal
 

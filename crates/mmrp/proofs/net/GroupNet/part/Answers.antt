@@ -1,8 +1,8 @@
 use Rattle.std.proofs.Common.{sym, ap, ◌∙◌, subst}
+use Rattle.srp_base.proofs.Arithmetic.{if_ok}
 use Rattle.mmrp.specs.declared.events.GroupEvent.TheVariants.{Part}
-use Rattle.mmrp.specs.Macs.{IsMac}
-use Rattle.mmrp.specs.Net.{NetGroups, CanHappen, group_step}
-use Rattle.mmrp.proofs.Standing.{station_there, if_ok, kept_either}
+use Rattle.mmrp.specs.{IsMac, NetGroups, CanHappen, group_step}
+use Rattle.mmrp.proofs.Standing.{station_there, kept_either}
 use Rattle.mmrp.proofs.net.GroupNet.part.Goals as goal
 
 pub ask-requires-clause-few : goal.ask-requires-clause-few

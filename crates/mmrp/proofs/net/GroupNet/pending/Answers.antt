@@ -1,6 +1,6 @@
 use Rattle.std.proofs.Common.{length, sym, ap, ◌∙◌, subst}
 use Rattle.tree_topology.specs.Topology.{HasPort}
-use Rattle.mmrp.specs.Net.{NetGroups, inbox}
+use Rattle.mmrp.specs.{NetGroups, inbox}
 use Rattle.mmrp.proofs.Standing.{stands}
 use Rattle.mmrp.proofs.net.GroupNet.pending.Goals as goal
 

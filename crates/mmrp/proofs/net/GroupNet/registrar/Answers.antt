@@ -1,7 +1,6 @@
 use Rattle.std.proofs.Common.{sym, ap, ◌∙◌, subst}
 use Rattle.tree_topology.specs.Topology.{HasPort}
-use Rattle.mmrp.specs.Net.{NetGroups}
-use Rattle.mmrp.specs.Match.{registrar_at}
+use Rattle.mmrp.specs.{NetGroups, registrar_at}
 use Rattle.mmrp.proofs.Standing.{stands}
 use Rattle.mmrp.proofs.net.GroupNet.registrar.Goals as goal
 

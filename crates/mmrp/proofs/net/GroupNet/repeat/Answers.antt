@@ -1,7 +1,7 @@
 use Rattle.std.proofs.Common.{sym, ap, ◌∙◌, subst}
-use Rattle.mmrp.specs.declared.events.GroupEvent.TheVariants.{Repeat}
-use Rattle.mmrp.specs.Net.{NetGroups, CanHappen, group_step}
-use Rattle.mmrp.proofs.Standing.{stands, if_ok, kept_either}
+use Rattle.srp_base.proofs.Arithmetic.{if_ok}
+use Rattle.mmrp.specs.{Repeat, NetGroups, CanHappen, group_step}
+use Rattle.mmrp.proofs.Standing.{stands, kept_either}
 use Rattle.mmrp.proofs.net.GroupNet.repeat.Goals as goal
 
 pub repeat-requires : goal.repeat-requires

@@ -1,10 +1,8 @@
 use Rattle.std.proofs.Common.{◌≡◌, ◌<◌, ◌-◌, ℕ, length, sym, subst, ap, ◌∙◌, arith}
 use Rattle.std.specs.Prelude.{slice_set}
-use Rattle.mmrp.specs.Node.{NodeGroups, Waiting, AreShort, box_at, lost_at, without}
-use Rattle.mmrp.proofs.Boxes.{IsShortPdu, box_read, each_box, each_without}
-use Rattle.mmrp.proofs.NodeSteps.{kept_inbox}
+use Rattle.mmrp.specs.{NodeGroups, Waiting, AreShort, box_at, lost_at, without}
+use Rattle.mmrp.proofs.{Boxes.IsShortPdu, Boxes.box_read, Boxes.each_box, Boxes.each_without, NodeSteps.kept_inbox, node.GroupNode.lose.Goals.After-self-1}
 use Rattle.mmrp.proofs.node.GroupNode.lose.Goals as goal
-use Rattle.mmrp.proofs.node.GroupNode.lose.Goals.{After-self-1}
 
 -- the node as it was, and the place of the port
 abbrev before : After-self-1 → NodeGroups

@@ -1,11 +1,10 @@
 use Rattle.std.proofs.Common.{◌<◌, ◌-◌, ℕ, length, ap, ◌∙◌, arith}
 use Rattle.std.specs.Prelude.{slice_set}
+use Rattle.srp_base.proofs.Arithmetic.{on_ok}
 use Rattle.mrp_participant.specs.Link.{with_repeat}
-use Rattle.mmrp.specs.Node.{NodeGroups, Waiting, repeated_at}
-use Rattle.mmrp.proofs.Boxes.{box_read}
-use Rattle.mmrp.proofs.Happenings.{on_ok}
+use Rattle.mmrp.specs.{NodeGroups, Waiting, repeated_at}
+use Rattle.mmrp.proofs.{Boxes.box_read, node.GroupNode.repeat.Goals.After-self-1}
 use Rattle.mmrp.proofs.node.GroupNode.repeat.Goals as goal
-use Rattle.mmrp.proofs.node.GroupNode.repeat.Goals.{After-self-1}
 
 -- the node as it was, and the place of the port
 abbrev before : After-self-1 → NodeGroups

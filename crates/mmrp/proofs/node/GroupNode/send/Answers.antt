@@ -2,12 +2,11 @@ use Rattle.std.proofs.Common.{◌≡◌, ◌<◌, ◌-◌, ℕ, List, [], length
 use Rattle.std.specs.Prelude.{slice_set, IfOk, OnErr}
 use Rattle.std.specs.Option.{option_map_or}
 use Rattle.std.proofs.lemmas.Option.{slice_get_read}
+use Rattle.srp_base.proofs.Lists.{set_set}
 use Rattle.attribute_propagation.specs.Ports.{place_of}
-use Rattle.mmrp.specs.Node.{NodeGroups, Waiting, after_send, box_at}
-use Rattle.mmrp.proofs.Boxes.{set_set}
-use Rattle.mmrp.proofs.Saying.{HasSaid, with_said_box, put_ok, put_err}
+use Rattle.mmrp.specs.{NodeGroups, Waiting, after_send, box_at}
+use Rattle.mmrp.proofs.{Saying.HasSaid, Saying.with_said_box, Saying.put_ok, Saying.put_err, node.GroupNode.send.Goals.After-drop-index_mut}
 use Rattle.mmrp.proofs.node.GroupNode.send.Goals as goal
-use Rattle.mmrp.proofs.node.GroupNode.send.Goals.{After-drop-index_mut}
 
 -- the node as it was, and the place of the port
 abbrev before : After-drop-index_mut → NodeGroups

@@ -1,9 +1,8 @@
 use Rattle.std.proofs.Common.{◌≡◌, ◌<◌, ◌-◌, ℕ, Bool, false, [], ◌∷◌, length, sym, subst, ap, ◌∙◌, arith}
 use Rattle.std.specs.Prelude.{◌==◌}
-use Rattle.mmrp.specs.Node.{NodeGroups, Waiting, AreShort, box_at}
-use Rattle.mmrp.proofs.Boxes.{IsShortPdu, box_read, each_box, each_read}
+use Rattle.mmrp.specs.{NodeGroups, Waiting, AreShort, box_at}
+use Rattle.mmrp.proofs.{Boxes.IsShortPdu, Boxes.box_read, Boxes.each_box, Boxes.each_read, node.GroupNode.work.Goals.After-at}
 use Rattle.mmrp.proofs.node.GroupNode.work.Goals as goal
-use Rattle.mmrp.proofs.node.GroupNode.work.Goals.{After-at}
 
 -- a list that isn't empty has a front
 is_some : (ws : Waiting) (b : Bool) → b ≡ (length ws == 0) → b ≡ false → 0 < length ws

@@ -1,12 +1,7 @@
 use Rattle.std.proofs.Common.{ap, ◌∙◌, if◌then◌else◌}
-use Rattle.mrp_participant.specs.Lookup.{find, same}
-use Rattle.mrp_participant.specs.Row.{after_declare, declared_in}
+use Rattle.mrp_participant.specs.{find, same, after_declare, declared_in}
 use Rattle.mrp_participant.specs.State.{State}
-use Rattle.mrp_participant.proofs.EachKey.{each-declare}
-use Rattle.mrp_participant.proofs.Exits.{on_ok}
-use Rattle.mrp_participant.proofs.Transitions.{AreRows-declare, AreRows-either}
-use Rattle.mrp_participant.proofs.Unchanged.{declare-same, either-same, unchanged}
-use Rattle.mrp_participant.proofs.Holdings.{state_is}
+use Rattle.mrp_participant.proofs.{EachKey.each-declare, Exits.on_ok, Transitions.AreRows-declare, Transitions.AreRows-either, Unchanged.declare-same, Unchanged.either-same, Unchanged.unchanged, Holdings.state_is}
 use Rattle.mrp_participant.proofs.participant.Participant.declare.Goals as goal
 
 pub invariant_of-self : goal.invariant_of-self

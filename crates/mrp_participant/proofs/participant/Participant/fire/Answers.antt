@@ -1,9 +1,7 @@
 use Rattle.std.proofs.Common.{subst, sym, ap, ◌∙◌}
-use Rattle.mrp_participant.specs.State.{State, AreRows, with_rows, leave_timers_state, due_leave_all_state, due_periodic_state, left_keys}
-use Rattle.mrp_participant.proofs.Exits.{of_error, on_error}
-use Rattle.mrp_participant.proofs.Transitions.{AreRows-filter_mapped, due-keeps}
-use Rattle.mrp_participant.proofs.Unchanged.{unchanged}
-use Rattle.mrp_participant.proofs.Holdings.{state_is, same-room}
+use Rattle.mrp_participant.specs.State.{State}
+use Rattle.mrp_participant.specs.{AreRows, with_rows, leave_timers_state, due_leave_all_state, due_periodic_state, left_keys}
+use Rattle.mrp_participant.proofs.{Exits.of_error, Exits.on_error, Transitions.AreRows-filter_mapped, Transitions.due-keeps, Unchanged.unchanged, Holdings.state_is, Holdings.same-room}
 use Rattle.mrp_participant.proofs.participant.Participant.fire.Goals as goal
 
 pub invariant_of-self-2 : goal.invariant_of-self-2

@@ -1,5 +1,5 @@
 use Rattle.std.proofs.Common.{subst, sym}
-use Rattle.mrp_participant.specs.State.{AreRows}
+use Rattle.mrp_participant.specs.{AreRows}
 use Rattle.mrp_participant.proofs.Transitions.{AreRows-periodic}
 use Rattle.mrp_participant.proofs.participant.Participant.fire_periodic.Goals as goal
 

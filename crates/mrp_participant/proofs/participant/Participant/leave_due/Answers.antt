@@ -1,15 +1,10 @@
 use Rattle.std.proofs.Common.{rules, ◌≡◌, ◌-◌, false, List, length, refl, subst, sym, ap, ◌∙◌, if◌then◌else◌, arith}
 use Rattle.std.specs.Prelude.{vec_capacity, vec_len}
-use Rattle.std.specs.declared.cmp.Ordering.{Ordering}
-use Rattle.std.specs.Cmp.{IsTotalOrder}
+use Rattle.std.specs.{declared.cmp.Ordering.Ordering, Cmp.IsTotalOrder}
 use Rattle.mrp_participant.specs.declared.row.Row.{Row}
-use Rattle.mrp_participant.specs.Lookup.{ChangesOnly, find, put, same}
-use Rattle.mrp_participant.specs.Row.{after_leave}
-use Rattle.mrp_participant.specs.State.{State, AreRows, with_rows}
-use Rattle.mrp_participant.proofs.EachKey.{each-leave}
-use Rattle.mrp_participant.proofs.Transitions.{AreRows-leave}
-use Rattle.mrp_participant.proofs.Unchanged.{leave-unleaving}
-use Rattle.mrp_participant.proofs.Holdings.{same-held, same-room, state_is, stayed}
+use Rattle.mrp_participant.specs.{ChangesOnly, find, put, same, after_leave, AreRows, with_rows}
+use Rattle.mrp_participant.specs.State.{State}
+use Rattle.mrp_participant.proofs.{EachKey.each-leave, Transitions.AreRows-leave, Unchanged.leave-unleaving, Holdings.same-held, Holdings.same-room, Holdings.state_is, Holdings.stayed}
 use Rattle.mrp_participant.proofs.participant.Participant.leave_due.Goals as goal
 
 pub invariant_of-self : goal.invariant_of-self

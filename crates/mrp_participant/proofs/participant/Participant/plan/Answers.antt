@@ -1,16 +1,10 @@
 use Rattle.std.proofs.Common.{◌≡◌, ℕ, ◌+◌, ◌≤◌, Bool, true, false, List, [], sum_by, ◌∙◌, sym, ap, subst}
-use Rattle.std.specs.declared.cmp.Ordering.{Ordering}
-use Rattle.std.specs.Cmp.{IsTotalOrder}
-use Rattle.std.specs.List.{filter_map}
-use Rattle.srp_base.specs.declared.numbers.Cs.{Cs}
-use Rattle.srp_base.specs.declared.mrp.MrpEvent.{MrpEvent}
+use Rattle.std.specs.{declared.cmp.Ordering.Ordering, Cmp.IsTotalOrder, List.filter_map}
+use Rattle.srp_base.specs.declared.{numbers.Cs.Cs, mrp.MrpEvent.MrpEvent}
 use Rattle.mrp_participant.specs.declared.row.Row.{Row}
-use Rattle.mrp_participant.specs.Lookup.{Ascends, key_of}
-use Rattle.mrp_participant.specs.Sending.{is_taken, sent_event}
-use Rattle.mrp_participant.specs.State.{State, after, is_active, none_tried}
-use Rattle.mrp_participant.proofs.Octets.{events-ascend, events-fit, events-are_some}
-use Rattle.mrp_participant.proofs.Sendings.{events-of, tried-one}
-use Rattle.mrp_participant.proofs.Holdings.{state_is}
+use Rattle.mrp_participant.specs.{Ascends, key_of, is_taken, sent_event, after, is_active, none_tried}
+use Rattle.mrp_participant.specs.State.{State}
+use Rattle.mrp_participant.proofs.{Octets.events-ascend, Octets.events-fit, Octets.events-are_some, Sendings.events-of, Sendings.tried-one, Holdings.state_is}
 use Rattle.mrp_participant.proofs.participant.Participant.plan.Goals as goal
 
 pub returns-then-has_nothing_to_say-clause-silent : goal.returns-then-has_nothing_to_say-clause-silent

@@ -1,15 +1,12 @@
 use Rattle.std.proofs.Common.{◌≡◌, Bool, if◌then◌else◌, List, ap, ◌∙◌, refl, subst, sym}
 use Rattle.std.specs.declared.cmp.Ordering.{Ordering}
-use Rattle.srp_base.specs.declared.numbers.Cs.{Cs}
-use Rattle.srp_base.specs.declared.mrp.MrpEvent.{MrpEvent}
-use Rattle.leaveall.specs.declared.LeaveAll.{LeaveAll}
-use Rattle.leaveall.specs.declared.LaEvent.TheVariants.{Rx}
+use Rattle.srp_base.specs.declared.{numbers.Cs.Cs, mrp.MrpEvent.MrpEvent}
+use Rattle.leaveall.specs.declared.{LeaveAll.LeaveAll, LaEvent.TheVariants.Rx}
 use Rattle.leaveall.specs.Table.{table}
 use Rattle.mrp_participant.specs.declared.row.Row.{Row}
-use Rattle.mrp_participant.specs.State.{State, AreRows, after, rows_after_receive, changed_keys, received_state}
-use Rattle.mrp_participant.proofs.Exits.{of_error, on_error}
-use Rattle.mrp_participant.proofs.Unchanged.{unchanged}
-use Rattle.mrp_participant.proofs.Holdings.{state_is, same-room}
+use Rattle.mrp_participant.specs.State.{State}
+use Rattle.mrp_participant.specs.{AreRows, after, rows_after_receive, changed_keys, received_state}
+use Rattle.mrp_participant.proofs.{Exits.of_error, Exits.on_error, Unchanged.unchanged, Holdings.state_is, Holdings.same-room}
 use Rattle.mrp_participant.proofs.participant.Participant.receive.Goals as goal
 
 pub receive_in-requires-clause-are_rows : goal.receive_in-requires-clause-are_rows

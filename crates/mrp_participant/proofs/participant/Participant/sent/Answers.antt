@@ -1,9 +1,6 @@
 use Rattle.std.proofs.Common.{refl, sym, ap, subst, ◌∙◌}
-use Rattle.mrp_participant.specs.Sending.{is_taken}
-use Rattle.mrp_participant.specs.State.{AreRows, sent_state}
-use Rattle.mrp_participant.proofs.Sendings.{silent-state, sent-parts, sent-keeps}
-use Rattle.mrp_participant.proofs.Transitions.{AreRows-filter_mapped}
-use Rattle.mrp_participant.proofs.Holdings.{state_is}
+use Rattle.mrp_participant.specs.{is_taken, AreRows, sent_state}
+use Rattle.mrp_participant.proofs.{Sendings.silent-state, Sendings.sent-parts, Sendings.sent-keeps, Transitions.AreRows-filter_mapped, Holdings.state_is}
 use Rattle.mrp_participant.proofs.participant.Participant.sent.Goals as goal
 
 pub returns-then-has_nothing_to_say-clause-after : goal.returns-then-has_nothing_to_say-clause-after

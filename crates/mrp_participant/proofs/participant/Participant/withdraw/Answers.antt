@@ -1,11 +1,7 @@
 use Rattle.std.proofs.Common.{subst, sym, ap, ◌∙◌, if◌then◌else◌}
-use Rattle.mrp_participant.specs.Lookup.{find, same}
-use Rattle.mrp_participant.specs.Row.{after_withdraw, declared_in}
-use Rattle.mrp_participant.specs.State.{State, AreRows}
-use Rattle.mrp_participant.proofs.EachKey.{each-withdraw}
-use Rattle.mrp_participant.proofs.Transitions.{AreRows-withdraw}
-use Rattle.mrp_participant.proofs.Unchanged.{withdraw-undeclared, unchanged}
-use Rattle.mrp_participant.proofs.Holdings.{state_is}
+use Rattle.mrp_participant.specs.{find, same, after_withdraw, declared_in, AreRows}
+use Rattle.mrp_participant.specs.State.{State}
+use Rattle.mrp_participant.proofs.{EachKey.each-withdraw, Transitions.AreRows-withdraw, Unchanged.withdraw-undeclared, Unchanged.unchanged, Holdings.state_is}
 use Rattle.mrp_participant.proofs.participant.Participant.withdraw.Goals as goal
 
 pub invariant_of-self : goal.invariant_of-self

@@ -1,7 +1,6 @@
 use Rattle.std.proofs.Common.{◌≡◌, ◌∙◌, length, ap, sym, arith}
 use Rattle.port_ledger.specs.Book.{Book}
-use Rattle.msrp.specs.Holding.{PortHolding}
-use Rattle.msrp.specs.Plan.{asked_book, asked_in}
+use Rattle.msrp.specs.{PortHolding, asked_book, asked_in}
 use Rattle.msrp.proofs.Carried.{book-few}
 use Rattle.msrp.proofs.port.Port.decide.Goals as goal
 

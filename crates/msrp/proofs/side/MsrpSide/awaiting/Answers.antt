@@ -2,7 +2,7 @@ use Rattle.std.proofs.Common.{◌≡◌, ◌-◌, ◌∙◌, length, ap, sym}
 use Rattle.std.specs.Prelude.{slice_get, option_map, Some}
 use Rattle.std.proofs.lemmas.Option.{slice_get-map}
 use Rattle.attribute_propagation.specs.Ports.{keys_in, place_of}
-use Rattle.msrp.specs.Holding.{SideHolding}
+use Rattle.msrp.specs.{SideHolding}
 use Rattle.msrp.proofs.side.MsrpSide.awaiting.Goals as goal
 
 pub returns : goal.returns

@@ -1,8 +1,6 @@
 use Rattle.std.proofs.Common.{refl}
-use Rattle.msrp.specs.Side.{Streams, listens_without}
-use Rattle.msrp.specs.Holding.{streams_of}
-use Rattle.msrp.proofs.Keeping.{kept-asked}
-use Rattle.msrp.proofs.OtherStreams.{listens_other}
+use Rattle.msrp.specs.{Streams, listens_without, streams_of}
+use Rattle.msrp.proofs.{Keeping.kept-asked, OtherStreams.listens_other}
 use Rattle.msrp.proofs.side.MsrpSide.drop_listen.Goals as goal
 
 pub invariant_of-self-2 : goal.invariant_of-self-2

@@ -1,12 +1,11 @@
 use Rattle.std.proofs.Common.{◌≡◌, ◌-◌, ◌∙◌, false, ap, sym}
 use Rattle.std.specs.Prelude.{slice_get, Some}
+use Rattle.srp_base.proofs.Options.{some_is}
 use Rattle.mrp_participant.specs.State.{due_count, is_any_due}
 use Rattle.attribute_propagation.specs.Ports.{count_of, place_of}
 use Rattle.msrp.specs.Part.{Part}
-use Rattle.msrp.specs.Holding.{SideHolding, ports_in}
-use Rattle.msrp.proofs.Idle.{none-due}
-use Rattle.msrp.proofs.InPlace.{state_is}
-use Rattle.msrp.proofs.Places.{some_is}
+use Rattle.msrp.specs.{SideHolding, ports_in}
+use Rattle.msrp.proofs.{Idle.none-due, InPlace.state_is}
 use Rattle.msrp.proofs.side.MsrpSide.due.Goals as goal
 
 pub returns-then-not-any_due-clause-after : goal.returns-then-not-any_due-clause-after

@@ -1,9 +1,8 @@
 use Rattle.std.proofs.Common.{◌≡◌, ◌∙◌, ℕ, ap}
 use Rattle.std.specs.Prelude.{OnOk}
-use Rattle.msrp.specs.Side.{Streams, due_streams}
-use Rattle.msrp.specs.Holding.{SideHolding, streams_of}
-use Rattle.msrp.proofs.Places.{on_ok}
-use Rattle.msrp.proofs.InPlace.{both_err, kept_either, same_streams}
+use Rattle.srp_base.proofs.Arithmetic.{both_err}
+use Rattle.msrp.specs.{Streams, due_streams, SideHolding, streams_of}
+use Rattle.msrp.proofs.{Places.on_ok, InPlace.kept_either, InPlace.same_streams}
 use Rattle.msrp.proofs.side.MsrpSide.fire.Goals as goal
 
 pub invariant_of-self : goal.invariant_of-self

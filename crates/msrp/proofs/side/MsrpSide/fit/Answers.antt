@@ -1,16 +1,12 @@
 use Rattle.std.proofs.Common.{◌≡◌, ◌∙◌, ◌≤◌, ◌<◌, ◌-◌, ℕ, zero, suc, List, [], ◌∷◌, length, ap, arith}
 use Rattle.std.specs.Prelude.{slice_get, Option, Some, None, IfSome}
 use Rattle.std.specs.List.{AllByRecursion}
-use Rattle.srp_base.specs.declared.streams.Talker.{Talker}
-use Rattle.srp_base.specs.declared.streams.TalkerReg.{TalkerReg}
+use Rattle.srp_base.specs.declared.{streams.Talker.Talker, streams.TalkerReg.TalkerReg}
 use Rattle.stream_importance.specs.declared.entry.Fit.{Fit}
 use Rattle.port_ledger.specs.Book.{Book}
 use Rattle.attribute_propagation.specs.Ports.{place_of}
 use Rattle.msrp.specs.PortState.{PortState}
-use Rattle.msrp.specs.Stream.{fit_at, talkers_of}
-use Rattle.msrp.specs.View.{talkers_from}
-use Rattle.msrp.specs.Holding.{ports_in}
-use Rattle.msrp.specs.Side.{IsPort}
+use Rattle.msrp.specs.{fit_at, talkers_of, talkers_from, ports_in, IsPort}
 use Rattle.msrp.proofs.side.MsrpSide.fit.Goals as goal
 
 -- the ledger of a port stands at the moment of its side

@@ -1,6 +1,5 @@
 use Rattle.std.proofs.Common.{◌-◌, ◌∙◌, ℕ, ap, sym, subst}
-use Rattle.msrp.specs.Side.{IsKept, Streams, leave_all_streams}
-use Rattle.msrp.specs.Holding.{SideHolding, streams_of}
+use Rattle.msrp.specs.{IsKept, Streams, leave_all_streams, SideHolding, streams_of}
 use Rattle.msrp.proofs.side.MsrpSide.leaveall_now.Goals as goal
 
 pub invariant_of-self : goal.invariant_of-self

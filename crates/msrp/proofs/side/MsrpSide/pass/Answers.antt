@@ -1,7 +1,6 @@
 use Rattle.std.proofs.Common.{◌≤◌, ◌∙◌, sym, ap, subst}
 use Rattle.std.specs.List.{list_any}
-use Rattle.msrp.specs.Side.{Streams, IsKept, clocked_streams, shows_at}
-use Rattle.msrp.specs.Holding.{SideHolding, ports_in, streams_of}
+use Rattle.msrp.specs.{Streams, IsKept, clocked_streams, shows_at, SideHolding, ports_in, streams_of}
 use Rattle.msrp.proofs.Clocked.{moments_before, passed_is}
 use Rattle.msrp.proofs.side.MsrpSide.pass.Goals as goal
 

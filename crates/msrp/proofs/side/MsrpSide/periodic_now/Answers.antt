@@ -1,6 +1,5 @@
 use Rattle.std.proofs.Common.{◌-◌, ◌∙◌, ℕ, ap, sym, subst}
-use Rattle.msrp.specs.Side.{IsKept, Streams, periodic_streams}
-use Rattle.msrp.specs.Holding.{SideHolding, streams_of}
+use Rattle.msrp.specs.{IsKept, Streams, periodic_streams, SideHolding, streams_of}
 use Rattle.msrp.proofs.side.MsrpSide.periodic_now.Goals as goal
 
 pub invariant_of-self : goal.invariant_of-self

@@ -1,8 +1,6 @@
 use Rattle.std.proofs.Common.{◌∷◌, refl}
-use Rattle.msrp.specs.Side.{Streams}
-use Rattle.msrp.specs.Holding.{streams_of}
-use Rattle.msrp.proofs.Keeping.{kept-asked}
-use Rattle.msrp.proofs.OtherStreams.{listens_more}
+use Rattle.msrp.specs.{Streams, streams_of}
+use Rattle.msrp.proofs.{Keeping.kept-asked, OtherStreams.listens_more}
 use Rattle.msrp.proofs.side.MsrpSide.put_listen.Goals as goal
 
 pub invariant_of-self-2 : goal.invariant_of-self-2

@@ -1,8 +1,6 @@
 use Rattle.std.proofs.Common.{◌∷◌, refl}
-use Rattle.msrp.specs.Side.{Streams, talks_without}
-use Rattle.msrp.specs.Holding.{streams_of}
-use Rattle.msrp.proofs.Keeping.{kept-asked}
-use Rattle.msrp.proofs.OtherStreams.{talks_more}
+use Rattle.msrp.specs.{Streams, talks_without, streams_of}
+use Rattle.msrp.proofs.{Keeping.kept-asked, OtherStreams.talks_more}
 use Rattle.msrp.proofs.side.MsrpSide.put_talk.Goals as goal
 
 pub invariant_of-self-2 : goal.invariant_of-self-2

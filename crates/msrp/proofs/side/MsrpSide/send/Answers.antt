@@ -2,11 +2,9 @@ use Rattle.std.proofs.Common.{◌≡◌, ◌-◌, ◌∙◌, ap, sym, subst}
 use Rattle.std.specs.Prelude.{slice_get, Some}
 use Rattle.mrp_participant.specs.State.{AreRows}
 use Rattle.attribute_propagation.specs.Ports.{place_of}
-use Rattle.msrp.specs.Part.{HasOwnContents, Part, key_cmp}
-use Rattle.msrp.specs.Side.{IsKept, Streams}
-use Rattle.msrp.specs.Holding.{SideHolding, ports_in, streams_of}
-use Rattle.msrp.proofs.InPlace.{state_is}
-use Rattle.msrp.proofs.Keeping.{port_kept}
+use Rattle.msrp.specs.{HasOwnContents, key_cmp, IsKept, Streams, SideHolding, ports_in, streams_of}
+use Rattle.msrp.specs.Part.{Part}
+use Rattle.msrp.proofs.{InPlace.state_is, Keeping.port_kept}
 use Rattle.msrp.proofs.side.MsrpSide.send.Goals as goal
 
 pub said_by-requires-clause-rows : goal.said_by-requires-clause-rows

@@ -1,9 +1,8 @@
 use Rattle.std.proofs.Common.{◌≡◌, ◌-◌, ◌∙◌, [], length, ap, sym}
 use Rattle.std.specs.Prelude.{slice_get, Some}
-use Rattle.std.proofs.lemmas.Bool.{eqb-true}
-use Rattle.std.proofs.lemmas.List.{nil_from_length}
+use Rattle.std.proofs.lemmas.{Bool.eqb-true, List.nil_from_length}
 use Rattle.attribute_propagation.specs.Ports.{keys_in, place_of}
-use Rattle.msrp.specs.Holding.{SideHolding}
+use Rattle.msrp.specs.{SideHolding}
 use Rattle.msrp.proofs.Idle.{none-awaits}
 use Rattle.msrp.proofs.side.MsrpSide.settle.Goals as goal
 

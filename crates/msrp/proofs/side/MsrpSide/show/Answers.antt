@@ -1,13 +1,10 @@
 use Rattle.std.proofs.Common.{◌≡◌, ◌≤◌, ◌∙◌, Bool, true, List, length, sym, ap, subst, arith}
+use Rattle.srp_base.proofs.Lists.{mapped_length}
 use Rattle.srp_base.specs.declared.streams.Talker.{Talker}
-use Rattle.attribute_propagation.specs.Dirty.{KeySet}
-use Rattle.attribute_propagation.specs.Ports.{HasRoom, keys_in}
+use Rattle.attribute_propagation.specs.{Dirty.KeySet, Ports.HasRoom, Ports.keys_in}
 use Rattle.msrp_codec.specs.declared.pdu.MsrpKey.{MsrpKey}
-use Rattle.msrp.specs.Settling.{talker_keys}
-use Rattle.msrp.specs.Side.{Streams, IsKept, clocked_sets, clocked_streams}
-use Rattle.msrp.specs.Holding.{IsReadyAs, PortHolding, SideHolding, ports_in, streams_of}
+use Rattle.msrp.specs.{talker_keys, Streams, IsKept, clocked_sets, clocked_streams, IsReadyAs, PortHolding, SideHolding, ports_in, streams_of}
 use Rattle.msrp.proofs.Clocked.{moments_before, shown_is}
-use Rattle.msrp.proofs.Places.{mapped_length}
 use Rattle.msrp.proofs.side.MsrpSide.show.Goals as goal
 
 pub show_all-requires-clause-count : goal.show_all-requires-clause-count

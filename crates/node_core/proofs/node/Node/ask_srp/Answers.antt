@@ -1,6 +1,6 @@
 use Rattle.std.proofs.Common.{◌≡◌, sym, subst}
 use Rattle.tree_topology.specs.declared.graph.NodeKind.TheVariants.{Station}
-use Rattle.node_core.specs.State.{NodeState}
+use Rattle.node_core.specs.{NodeState}
 use Rattle.node_core.proofs.Steps.{srp_asked, state_of}
 use Rattle.node_core.proofs.node.Node.ask_srp.Goals as goal
 

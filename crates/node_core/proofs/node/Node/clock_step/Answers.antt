@@ -1,5 +1,5 @@
 use Rattle.std.proofs.Common.{◌<◌, ◌^◌, sym, subst}
-use Rattle.node_core.specs.State.{NodeState}
+use Rattle.node_core.specs.{NodeState}
 use Rattle.node_core.proofs.Steps.{clocked, of_streams, state_of}
 use Rattle.node_core.proofs.node.Node.clock_step.Goals as goal
 

@@ -1,14 +1,9 @@
 use Rattle.std.proofs.Common.{◌≡◌, ◌<◌, ◌-◌, ℕ, List, length, ap, ◌∙◌, arith}
 use Rattle.std.specs.Prelude.{slice_set}
-use Rattle.node_core.specs.declared.types.Wire.{Wire}
-use Rattle.node_core.specs.Wires.{with_wire}
+use Rattle.node_core.specs.{Wire, with_wire, NodeState, box_at, forged_at}
 use Rattle.attribute_propagation.specs.Ports.{place_of}
-use Rattle.node_core.specs.State.{NodeState, box_at}
-use Rattle.node_core.specs.Links.{forged_at}
-use Rattle.node_core.proofs.Boxes.{box_read}
-use Rattle.node_core.proofs.Steps.{is_upto, state_of}
+use Rattle.node_core.proofs.{Boxes.box_read, Steps.is_upto, Steps.state_of, node.Node.forge.Goals.In_ok-insert}
 use Rattle.node_core.proofs.node.Node.forge.Goals as goal
-use Rattle.node_core.proofs.node.Node.forge.Goals.{In_ok-insert}
 
 -- the node as it was, and the place of the port
 abbrev before : In_ok-insert → NodeState

@@ -1,14 +1,8 @@
 use Rattle.std.proofs.Common.{◌≡◌, ◌<◌, ◌-◌, ℕ, List, length, sym, subst, ap, ◌∙◌, arith}
 use Rattle.std.specs.Prelude.{slice_set}
-use Rattle.node_core.specs.declared.types.Wire.{Wire}
-use Rattle.node_core.specs.Wires.{without}
-use Rattle.node_core.specs.State.{NodeState, box_at}
-use Rattle.node_core.specs.Links.{lost_at}
-use Rattle.node_core.specs.Proper.{IsProperNode}
-use Rattle.node_core.proofs.Boxes.{box_read}
-use Rattle.node_core.proofs.Steps.{state_of}
+use Rattle.node_core.specs.{Wire, without, NodeState, box_at, lost_at, IsProperNode}
+use Rattle.node_core.proofs.{Boxes.box_read, Steps.state_of, node.Node.lose.Goals.After-self-1}
 use Rattle.node_core.proofs.node.Node.lose.Goals as goal
-use Rattle.node_core.proofs.node.Node.lose.Goals.{After-self-1}
 
 -- the node as it was, and the place of the port
 abbrev before : After-self-1 → NodeState

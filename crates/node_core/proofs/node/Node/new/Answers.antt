@@ -1,9 +1,7 @@
 use Rattle.std.proofs.Common.{◌<◌, ◌^◌, List, sym, subst, rules}
 use Rattle.mvrp.specs.Side.{Vlans}
 use Rattle.msrp.specs.Side.{Streams}
-use Rattle.node_core.specs.declared.types.Wire.{Wire}
-use Rattle.node_core.specs.State.{NodeState}
-use Rattle.node_core.specs.Proper.{IsProperNode}
+use Rattle.node_core.specs.{Wire, NodeState, IsProperNode}
 use Rattle.node_core.proofs.node.Node.new.Goals as goal
 
 pub invariant_of-result : goal.invariant_of-result

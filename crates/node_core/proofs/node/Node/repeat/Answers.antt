@@ -1,14 +1,10 @@
 use Rattle.std.proofs.Common.{◌≡◌, ◌<◌, ◌-◌, ℕ, List, length, ap, ◌∙◌, arith}
 use Rattle.std.specs.Prelude.{slice_set}
 use Rattle.mrp_participant.specs.Link.{with_repeat}
-use Rattle.node_core.specs.declared.types.Wire.{Wire}
+use Rattle.node_core.specs.{Wire, NodeState, box_at, repeated_at}
 use Rattle.attribute_propagation.specs.Ports.{place_of}
-use Rattle.node_core.specs.State.{NodeState, box_at}
-use Rattle.node_core.specs.Links.{repeated_at}
-use Rattle.node_core.proofs.Boxes.{box_read}
-use Rattle.node_core.proofs.Steps.{is_below, of_inbox, state_of}
+use Rattle.node_core.proofs.{Boxes.box_read, Steps.is_below, Steps.of_inbox, Steps.state_of, node.Node.repeat.Goals.In_ok-repeat}
 use Rattle.node_core.proofs.node.Node.repeat.Goals as goal
-use Rattle.node_core.proofs.node.Node.repeat.Goals.{In_ok-repeat}
 
 -- the node as it was, and the place of the port
 abbrev before : In_ok-repeat → NodeState

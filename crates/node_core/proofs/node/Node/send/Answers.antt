@@ -2,17 +2,11 @@ use Rattle.std.proofs.Common.{◌≡◌, ◌<◌, ◌-◌, ℕ, List, [], length
 use Rattle.std.specs.Prelude.{slice_set, IfOk, OnErr}
 use Rattle.std.specs.Option.{option_map_or}
 use Rattle.std.proofs.lemmas.Option.{slice_get_read}
+use Rattle.srp_base.proofs.Lists.{set_set}
 use Rattle.attribute_propagation.specs.Ports.{place_of}
-use Rattle.node_core.specs.declared.types.Wire.{Wire}
-use Rattle.node_core.specs.State.{NodeState, box_at}
-use Rattle.node_core.specs.Calls.{HasOneSaid}
-use Rattle.node_core.specs.Step.{after_send}
-use Rattle.node_core.proofs.Boxes.{set_set}
-use Rattle.node_core.specs.declared.types.PortStep.TheVariants.{Send}
-use Rattle.node_core.proofs.Sending.{with_both, put_ok, put_err}
-use Rattle.node_core.proofs.Steps.{made_or_not, port_kept, state_of}
+use Rattle.node_core.specs.{Wire, NodeState, box_at, HasOneSaid, after_send, Send}
+use Rattle.node_core.proofs.{Sending.with_both, Sending.put_ok, Sending.put_err, Steps.made_or_not, Steps.port_kept, Steps.state_of, node.Node.send.Goals.After-drop-index_mut}
 use Rattle.node_core.proofs.node.Node.send.Goals as goal
-use Rattle.node_core.proofs.node.Node.send.Goals.{After-drop-index_mut}
 
 -- the node as it was, and the place of the port
 abbrev before : After-drop-index_mut → NodeState

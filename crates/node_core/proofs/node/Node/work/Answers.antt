@@ -1,15 +1,9 @@
 use Rattle.std.proofs.Common.{◌≡◌, ◌<◌, ◌-◌, ℕ, Bool, false, List, [], ◌∷◌, length, refl, sym, subst, ap, ◌∙◌, arith}
 use Rattle.std.specs.Prelude.{◌==◌, slice_set}
 use Rattle.attribute_propagation.specs.Ports.{place_of}
-use Rattle.node_core.specs.declared.types.Wire.{Wire}
-use Rattle.node_core.specs.Wires.{AreShort, IsShort}
-use Rattle.node_core.specs.declared.types.PortStep.TheVariants.{Work}
-use Rattle.node_core.specs.State.{NodeState, box_at}
-use Rattle.node_core.specs.Step.{after_work}
-use Rattle.node_core.proofs.Steps.{both_same, made, port_kept, state_of, work_made}
-use Rattle.node_core.proofs.Boxes.{box_read, each_box, each_read}
+use Rattle.node_core.specs.{Wire, AreShort, IsShort, Work, NodeState, box_at, after_work}
+use Rattle.node_core.proofs.{Steps.both_same, Steps.made, Steps.port_kept, Steps.state_of, Steps.work_made, Boxes.box_read, Boxes.each_box, Boxes.each_read, node.Node.work.Goals.After-at}
 use Rattle.node_core.proofs.node.Node.work.Goals as goal
-use Rattle.node_core.proofs.node.Node.work.Goals.{After-at}
 
 -- a list that isn't empty has a front
 is_some : (ws : List Wire) (b : Bool) → b ≡ (length ws == 0) → b ≡ false → 0 < length ws

@@ -1,7 +1,6 @@
 use Rattle.std.proofs.Common.{◌≤◌, refl, subst, sym}
 use Rattle.port_ledger.specs.Book.{Book}
-use Rattle.port_ledger.proofs.Changing.{ordered_later}
-use Rattle.port_ledger.proofs.Keeping.{book_is, kept_clocked}
+use Rattle.port_ledger.proofs.{Changing.ordered_later, Keeping.book_is, Keeping.kept_clocked}
 use Rattle.port_ledger.proofs.ledger.Ledger.clock.Goals as goal
 
 pub invariant_of-self : goal.invariant_of-self

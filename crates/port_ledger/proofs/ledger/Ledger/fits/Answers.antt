@@ -1,9 +1,7 @@
 use Rattle.std.proofs.Common.{◌≡◌, ◌↔◌, Some, IsSome, subst, sym}
-use Rattle.stream_importance.specs.declared.entry.Fit.{Fit}
-use Rattle.stream_importance.specs.declared.entry.Fit.TheVariants.{Fits}
-use Rattle.port_ledger.specs.Book.{since_of, tested_entry, want_of}
-use Rattle.port_ledger.proofs.Keeping.{book_is, fit_in_book}
-use Rattle.port_ledger.proofs.Shares.{fit_within}
+use Rattle.stream_importance.specs.declared.{entry.Fit.Fit, entry.Fit.TheVariants.Fits}
+use Rattle.port_ledger.specs.{since_of, tested_entry, want_of}
+use Rattle.port_ledger.proofs.{Keeping.book_is, Keeping.fit_in_book, Shares.fit_within}
 use Rattle.port_ledger.proofs.ledger.Ledger.fits.Goals as goal
 
 pub returns-clause-value : goal.returns-clause-value

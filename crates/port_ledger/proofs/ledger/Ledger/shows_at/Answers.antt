@@ -1,9 +1,8 @@
 use Rattle.std.proofs.Common.{◌≡◌, true, subst, sym, ◌∙◌}
 use Rattle.std.specs.Prelude.{nat_lt}
 use Rattle.port_ledger.specs.Book.{Book}
-use Rattle.port_ledger.specs.Totals.{totals_of}
-use Rattle.port_ledger.proofs.Keeping.{book_is}
-use Rattle.port_ledger.proofs.Changing.{less_test, new_shown}
+use Rattle.port_ledger.specs.{totals_of}
+use Rattle.port_ledger.proofs.{Keeping.book_is, Changing.less_test, Changing.new_shown}
 use Rattle.port_ledger.proofs.ledger.Ledger.shows_at.Goals as goal
 
 pub returns-then-lt : goal.returns-then-lt

@@ -1,8 +1,7 @@
 use Rattle.std.proofs.Common.{refl, subst}
-use Rattle.port_ledger.specs.Book.{Book, IsKept, fit_for}
-use Rattle.port_ledger.proofs.Keeping.{book_is}
-use Rattle.port_ledger.proofs.PerStream.{kept_fits, one_booked}
-use Rattle.port_ledger.proofs.Standing.{book_stands}
+use Rattle.port_ledger.specs.Book.{Book}
+use Rattle.port_ledger.specs.{IsKept, fit_for}
+use Rattle.port_ledger.proofs.{Keeping.book_is, PerStream.kept_fits, PerStream.one_booked, Standing.book_stands}
 use Rattle.port_ledger.proofs.ledger.Ledger.stands.Goals as goal
 
 pub returns-clause-decided : goal.returns-clause-decided

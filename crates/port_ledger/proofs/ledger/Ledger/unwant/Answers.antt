@@ -1,10 +1,8 @@
 use Rattle.std.proofs.Common.{◌≡◌, ◌≢◌, ◌↔◌, ◌≤◌, ◌<◌, ◌^◌, Bool, List, is_some, IsTrue, ap, refl, subst, sym, ◌∙◌}
 use Rattle.stream_importance.specs.declared.entry.Entry.{Entry}
-use Rattle.port_ledger.specs.Book.{Book, IsKept, since_of, unwanted_book, want_of, without}
-use Rattle.port_ledger.specs.Decision.{booked_of, decided_entries}
-use Rattle.port_ledger.proofs.Keeping.{book_is, kept_clocked, kept_unwanted}
-use Rattle.port_ledger.proofs.Unwanting.{missing-is, missing_out, unwanted_changes, wants_left}
-use Rattle.port_ledger.proofs.Changing.{ordered_later}
+use Rattle.port_ledger.specs.Book.{Book}
+use Rattle.port_ledger.specs.{IsKept, since_of, unwanted_book, want_of, without, booked_of, decided_entries}
+use Rattle.port_ledger.proofs.{Keeping.book_is, Keeping.kept_clocked, Keeping.kept_unwanted, Unwanting.missing-is, Unwanting.missing_out, Unwanting.unwanted_changes, Unwanting.wants_left, Changing.ordered_later}
 use Rattle.port_ledger.proofs.ledger.Ledger.unwant.Goals as goal
 
 pub unwanted-standing-requires : goal.unwanted-standing-requires

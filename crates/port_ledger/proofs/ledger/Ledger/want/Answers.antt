@@ -1,16 +1,8 @@
 use Rattle.std.proofs.Common.{◌≡◌, ◌≤◌, ◌<◌, ◌^◌, List, ap, refl, subst, sym, ◌∙◌}
 use Rattle.stream_importance.specs.declared.entry.Entry.{Entry}
-use Rattle.port_ledger.specs.Book.{Book, IsKept, booked_only_in, wanted_book, with_want}
-use Rattle.port_ledger.specs.Decision.{decided_entries, Decides}
-use Rattle.port_ledger.specs.Front.{IsOrdered}
-use Rattle.port_ledger.specs.declared.changed.Changed.{Changed}
-use Rattle.port_ledger.proofs.Comparing.{nothing_new}
-use Rattle.port_ledger.proofs.Unwanting.{has_want-is, wanted_again}
-use Rattle.port_ledger.proofs.Keeping.{ascending-with_want, book_is, kept_clocked, kept_wanted}
-use Rattle.port_ledger.proofs.Marking.{different_from_ascending}
-use Rattle.port_ledger.proofs.PerStream.{same_again, wants_kept}
-use Rattle.port_ledger.proofs.Rounds.{decided_decides}
-use Rattle.port_ledger.proofs.Changing.{ordered_later}
+use Rattle.port_ledger.specs.Book.{Book}
+use Rattle.port_ledger.specs.{IsKept, booked_only_in, wanted_book, with_want, decided_entries, Decides, IsOrdered, Changed}
+use Rattle.port_ledger.proofs.{Comparing.nothing_new, Unwanting.has_want-is, Unwanting.wanted_again, Keeping.ascending-with_want, Keeping.book_is, Keeping.kept_clocked, Keeping.kept_wanted, Marking.different_from_ascending, PerStream.same_again, PerStream.wants_kept, Rounds.decided_decides, Changing.ordered_later}
 use Rattle.port_ledger.proofs.ledger.Ledger.want.Goals as goal
 
 pub wanted-requires-clause-book : goal.wanted-requires-clause-book

@@ -1,7 +1,7 @@
 use Rattle.std.proofs.Common.{subst}
-use Rattle.port_ledger.specs.Book.{Book, IsKept}
-use Rattle.port_ledger.proofs.Keeping.{book_is}
-use Rattle.port_ledger.proofs.Shares.{book_within}
+use Rattle.port_ledger.specs.Book.{Book}
+use Rattle.port_ledger.specs.{IsKept}
+use Rattle.port_ledger.proofs.{Keeping.book_is, Shares.book_within}
 use Rattle.port_ledger.proofs.ledger.Ledger.within_caps.Goals as goal
 
 pub returns-clause-class_a : goal.returns-clause-class_a

@@ -1,5 +1,5 @@
 use Rattle.std.proofs.Common.{ℕ, ◌%◌, ap, ◌∙◌}
-use Rattle.scenario_generator.specs.Draws.{drawn}
+use Rattle.scenario_generator.specs.{drawn}
 use Rattle.scenario_generator.proofs.DrawLemmas.{drawn-at}
 use Rattle.scenario_generator.proofs.draws.Draws.draw.Goals as goal
 

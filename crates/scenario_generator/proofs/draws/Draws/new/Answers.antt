@@ -1,6 +1,6 @@
 use Rattle.std.proofs.Common.{◌≡◌, ℕ, map, ap, ◌∙◌, arith}
 use Rattle.std.specs.List.{range_with_len}
-use Rattle.scenario_generator.specs.Draws.{drawn}
+use Rattle.scenario_generator.specs.{drawn}
 use Rattle.scenario_generator.proofs.DrawLemmas.{drawn-more, none-drawn}
 use Rattle.scenario_generator.proofs.draws.Draws.new.Goals as goal
 

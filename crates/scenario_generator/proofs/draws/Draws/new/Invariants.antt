@@ -1,6 +1,6 @@
 use Rattle.std.proofs.Common.{◌≡◌, map}
 use Rattle.std.specs.List.{range_with_len}
-use Rattle.scenario_generator.specs.Draws.{drawn, state_after}
+use Rattle.scenario_generator.specs.{drawn, state_after}
 use Rattle.scenario_generator.proofs.draws.Draws.new.Given as goal
 
 abbrev pub invariant-loop : goal.invariant-loop

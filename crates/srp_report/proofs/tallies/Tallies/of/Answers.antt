@@ -1,6 +1,6 @@
 use Rattle.std.proofs.Common.{ap, ◌∙◌, List}
 use Rattle.report_words.specs.declared.tally.Tally.{Tally}
-use Rattle.srp_report.specs.Tallies.{ticks_counted, tally_at}
+use Rattle.srp_report.specs.{ticks_counted, tally_at}
 use Rattle.srp_report.proofs.TallyLemmas.{tallies-counted}
 use Rattle.srp_report.proofs.tallies.Tallies.of.Goals as goal
 

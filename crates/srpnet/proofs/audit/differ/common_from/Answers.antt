@@ -1,5 +1,5 @@
 use Rattle.std.proofs.Common.{◌≡◌, ◌≤◌, ℕ, List, length, take, drop, subst}
-use Rattle.srpnet.specs.Differ.{DifferAtOnce, line_feeds}
+use Rattle.srpnet.specs.{DifferAtOnce, line_feeds}
 use Rattle.srpnet.proofs.audit.differ.common_from.Goals as goal
 
 pub returns-clause-within : goal.returns-clause-within

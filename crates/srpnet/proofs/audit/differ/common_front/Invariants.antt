@@ -1,5 +1,5 @@
 use Rattle.std.proofs.Common.{◌≡◌, ◌≤◌, ◌-◌, length, take}
-use Rattle.srpnet.specs.Differ.{line_feeds}
+use Rattle.srpnet.specs.{line_feeds}
 use Rattle.srpnet.proofs.audit.differ.common_front.Given as goal
 
 abbrev pub invariant-loop-octets : goal.invariant-loop-octets

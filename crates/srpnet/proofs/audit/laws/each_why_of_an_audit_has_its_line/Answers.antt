@@ -1,7 +1,5 @@
 use Rattle.std.proofs.Common.{arith}
-use Rattle.journal_audit.specs.Texts.{lines_of}
-use Rattle.journal_audit.specs.Form.{AreFormed, IsFirstUnformed}
-use Rattle.journal_audit.specs.Audit.{known_of, IsFirstIllegal}
+use Rattle.journal_audit.specs.{Texts.lines_of, Form.AreFormed, Form.IsFirstUnformed, Audit.known_of, Audit.IsFirstIllegal}
 use Rattle.srpnet.proofs.WhyLemmas.{parts_exactly, report_exactly, why_exactly, whys_are, yes_exactly, yes_of_run}
 use Rattle.srpnet.proofs.audit.laws.each_why_of_an_audit_has_its_line.Goals as goal
 

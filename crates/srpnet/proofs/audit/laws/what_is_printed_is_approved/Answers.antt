@@ -1,6 +1,5 @@
 use Rattle.world_core.specs.Ticks.{AreCanonicalTicks, AreLegalTicks}
-use Rattle.srpnet.proofs.RunLemmas.{approved, journal_printed}
-use Rattle.srpnet.proofs.PrintedLemmas.{printed_approved}
+use Rattle.srpnet.proofs.{RunLemmas.approved, RunLemmas.journal_printed, PrintedLemmas.printed_approved}
 use Rattle.srpnet.proofs.audit.laws.what_is_printed_is_approved.Goals as goal
 
 pub returns-clause-text : goal.returns-clause-text

@@ -1,6 +1,6 @@
 use Rattle.std.proofs.Common.{◌≡◌, ◌++◌, drop}
 use Rattle.std.specs.Prelude.{flat_map}
-use Rattle.srpnet.specs.BoundsText.{bound_line}
+use Rattle.srpnet.specs.{bound_line}
 use Rattle.srpnet.proofs.bounds.text.put_each.Given as goal
 
 abbrev pub invariant-loop-flow : goal.invariant-loop-flow

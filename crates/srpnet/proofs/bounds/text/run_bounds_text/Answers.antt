@@ -1,5 +1,5 @@
 use Rattle.std.proofs.Common.{ℕ, ◌++◌, List, ap, ◌∙◌}
-use Rattle.srpnet.specs.BoundsText.{bound_lines}
+use Rattle.srpnet.specs.{bound_lines}
 use Rattle.srpnet.proofs.bounds.text.run_bounds_text.Goals as goal
 
 pub returns : goal.returns

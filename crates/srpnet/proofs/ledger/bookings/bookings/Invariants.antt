@@ -2,9 +2,7 @@ use Rattle.std.proofs.Common.{◌≡◌, ◌+◌, drop, take, None}
 use Rattle.srp_base.specs.declared.numbers.StreamId.{StreamId}
 use Rattle.port_ledger.specs.Book.{Book, want_of}
 use Rattle.toml_rules.specs.Rules.{first_fall}
-use Rattle.srpnet.specs.LedgerFile.{want_ticks}
-use Rattle.srpnet.specs.LedgerRun.{Leads}
-use Rattle.srpnet.specs.LedgerText.{last_want}
+use Rattle.srpnet.specs.{want_ticks, Leads, last_want}
 use Rattle.srpnet.proofs.ledger.bookings.bookings.Given as goal
 
 abbrev pub invariant-loop-want : goal.invariant-loop-want

@@ -1,5 +1,5 @@
 use Rattle.std.proofs.Common.{◌≡◌, drop, take, []}
-use Rattle.srpnet.specs.LedgerFile.{first_crowd, different, streams_of}
+use Rattle.srpnet.specs.{first_crowd, different, streams_of}
 use Rattle.srpnet.proofs.ledger.file.read_streams.Given as goal
 
 abbrev pub invariant-loop-i : goal.invariant-loop-i

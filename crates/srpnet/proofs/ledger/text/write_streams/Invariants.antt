@@ -1,5 +1,5 @@
 use Rattle.std.proofs.Common.{◌≡◌, ◌++◌, drop, string_bytes}
-use Rattle.srpnet.specs.LedgerText.{stream_lines}
+use Rattle.srpnet.specs.{stream_lines}
 use Rattle.srpnet.proofs.ledger.text.write_streams.Given as goal
 
 abbrev pub invariant-loop-stream : goal.invariant-loop-stream

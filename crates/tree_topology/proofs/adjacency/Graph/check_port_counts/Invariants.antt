@@ -1,5 +1,5 @@
 use Rattle.std.proofs.Common.{◌<◌, ◌≤◌, ◌+◌, ℕ, length}
-use Rattle.tree_topology.specs.Ports.{neighbours}
+use Rattle.tree_topology.specs.{neighbours}
 use Rattle.tree_topology.proofs.adjacency.Graph.check_port_counts.Given as goal
 
 abbrev pub invariant-loop-i : goal.invariant-loop-i

@@ -1,5 +1,5 @@
 use Rattle.std.proofs.Common.{◌<◌, ◌+◌, ℕ}
-use Rattle.tree_topology.specs.Refusal.{IsStationWithLinks}
+use Rattle.tree_topology.specs.{IsStationWithLinks}
 use Rattle.tree_topology.proofs.adjacency.Graph.check_stations.Given as goal
 
 abbrev pub invariant-loop-i : goal.invariant-loop-i

@@ -1,6 +1,5 @@
 use Rattle.std.proofs.Common.{sym, ◌∙◌, leb-true, arith}
-use Rattle.tree_topology.proofs.Links.{joined-known}
-use Rattle.tree_topology.proofs.RowFacts.{joined-any, any-joined}
+use Rattle.tree_topology.proofs.{Links.joined-known, RowFacts.joined-any, RowFacts.any-joined}
 use Rattle.tree_topology.proofs.adjacency.Graph.joins.Goals as goal
 
 pub returns-then-from-len : goal.returns-then-from-len

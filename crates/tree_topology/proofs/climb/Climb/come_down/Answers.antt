@@ -1,5 +1,4 @@
-use Rattle.tree_topology.proofs.Links.{joined-sym}
-use Rattle.tree_topology.proofs.RouteFacts.{step-down}
+use Rattle.tree_topology.proofs.{Links.joined-sym, RouteFacts.step-down}
 use Rattle.tree_topology.proofs.climb.Climb.come_down.Goals as goal
 
 pub port_to-port-requires : goal.port_to-port-requires

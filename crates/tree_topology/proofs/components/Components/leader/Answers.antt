@@ -1,6 +1,5 @@
 use Rattle.std.proofs.Common.{◌<◌, ℕ, sym, subst, length}
-use Rattle.tree_topology.proofs.ListReads.{read-at}
-use Rattle.tree_topology.proofs.ComponentSteps.{leads-lower, leads-further}
+use Rattle.tree_topology.proofs.{ListReads.read-at, ComponentSteps.leads-lower, ComponentSteps.leads-further}
 use Rattle.tree_topology.proofs.components.Components.leader.Goals as goal
 
 pub loop-next-smaller : goal.loop-next-smaller

@@ -1,7 +1,5 @@
 use Rattle.std.proofs.Common.{◌≡◌, ◌<◌, ◌-◌, List, length, get_or}
-use Rattle.tree_topology.specs.declared.graph.Link.{Link}
-use Rattle.tree_topology.specs.Graph.{Connected}
-use Rattle.tree_topology.specs.Tables.{LeadsAlong}
+use Rattle.tree_topology.specs.{Link, Connected, LeadsAlong}
 use Rattle.tree_topology.proofs.components.Components.leader.Given as goal
 
 abbrev pub invariant-loop-next : goal.invariant-loop-next

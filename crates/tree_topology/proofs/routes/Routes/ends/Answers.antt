@@ -1,10 +1,6 @@
 use Rattle.std.proofs.Common.{◌≡◌, ◌≤◌, ◌∙◌, length, sym, ap, subst}
-use Rattle.tree_topology.specs.declared.graph.Link.{Link}
-use Rattle.tree_topology.specs.Graph.{Joined}
-use Rattle.tree_topology.specs.Ports.{port_to, link_at}
-use Rattle.tree_topology.specs.Routes.{Routed}
-use Rattle.tree_topology.proofs.Links.{joined-sym}
-use Rattle.tree_topology.proofs.RouteFacts.{link-ends}
+use Rattle.tree_topology.specs.{Link, Joined, port_to, link_at, Routed}
+use Rattle.tree_topology.proofs.{Links.joined-sym, RouteFacts.link-ends}
 use Rattle.tree_topology.proofs.routes.Routes.ends.Goals as goal
 
 pub port_to-requires : goal.port_to-requires

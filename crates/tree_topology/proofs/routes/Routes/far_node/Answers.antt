@@ -1,7 +1,5 @@
 use Rattle.std.proofs.Common.{◌-◌, length, sym, subst, get_or}
-use Rattle.tree_topology.specs.Graph.{IsNode, Joined}
-use Rattle.tree_topology.specs.Ports.{IsPort}
-use Rattle.tree_topology.specs.Routes.{Routed}
+use Rattle.tree_topology.specs.{IsNode, Joined, IsPort, Routed}
 use Rattle.tree_topology.proofs.RouteFacts.{far-node, far-read}
 use Rattle.tree_topology.proofs.routes.Routes.far_node.Goals as goal
 

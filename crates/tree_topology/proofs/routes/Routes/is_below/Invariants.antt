@@ -1,6 +1,5 @@
 use Rattle.std.proofs.Common.{◌≡◌, length, get_or}
-use Rattle.tree_topology.specs.Graph.{IsNode}
-use Rattle.tree_topology.specs.Walk.{begins_with, walk_between}
+use Rattle.tree_topology.specs.{IsNode, begins_with, walk_between}
 use Rattle.tree_topology.proofs.routes.Routes.is_below.Given as goal
 
 abbrev pub invariant-loop-at : goal.invariant-loop-at

@@ -1,8 +1,6 @@
 use Rattle.std.proofs.Common.{ℕ, length, sym, subst, arith}
-use Rattle.tree_topology.specs.Graph.{IsNode}
-use Rattle.tree_topology.specs.Routes.{Routed}
-use Rattle.tree_topology.proofs.ListReads.{read-at}
-use Rattle.tree_topology.proofs.RouteFacts.{parent-known}
+use Rattle.tree_topology.specs.{IsNode, Routed}
+use Rattle.tree_topology.proofs.{ListReads.read-at, RouteFacts.parent-known}
 use Rattle.tree_topology.proofs.routes.Routes.parent.Goals as goal
 
 pub returns-clause-node : goal.returns-clause-node

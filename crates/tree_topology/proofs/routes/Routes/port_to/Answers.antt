@@ -1,7 +1,5 @@
 use Rattle.std.proofs.Common.{List, ℕ, refl, sym, ap, subst, ◌∙◌, arith}
-use Rattle.tree_topology.specs.Graph.{Joined}
-use Rattle.tree_topology.specs.Ports.{index_in}
-use Rattle.tree_topology.specs.Routes.{Routed}
+use Rattle.tree_topology.specs.{Joined, index_in, Routed}
 use Rattle.tree_topology.proofs.RouteFacts.{port-fits}
 use Rattle.tree_topology.proofs.routes.Routes.port_to.Goals as goal
 

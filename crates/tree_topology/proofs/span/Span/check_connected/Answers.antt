@@ -1,6 +1,5 @@
 use Rattle.std.proofs.Common.{◌+◌, arith}
-use Rattle.tree_topology.proofs.ListReads.{read-zero}
-use Rattle.tree_topology.proofs.SpanSteps.{first-unreached, reached-all, tree-from_span}
+use Rattle.tree_topology.proofs.{ListReads.read-zero, SpanSteps.first-unreached, SpanSteps.reached-all, SpanSteps.tree-from_span}
 use Rattle.tree_topology.proofs.span.Span.check_connected.Goals as goal
 
 pub returns-then-index-eq0-clause-err : goal.returns-then-index-eq0-clause-err

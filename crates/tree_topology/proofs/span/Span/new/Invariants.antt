@@ -1,6 +1,5 @@
 use Rattle.std.proofs.Common.{◌≢◌, ◌<◌, ◌≤◌, ◌+◌, ◌-◌, ℕ, length, get_or}
-use Rattle.tree_topology.specs.Graph.{Joined}
-use Rattle.tree_topology.specs.Tables.{IsSpan}
+use Rattle.tree_topology.specs.{Joined, IsSpan}
 use Rattle.tree_topology.proofs.span.Span.new.Given as goal
 
 abbrev pub invariant-loop-done : goal.invariant-loop-done

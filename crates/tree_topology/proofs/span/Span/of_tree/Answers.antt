@@ -1,6 +1,5 @@
 use Rattle.std.proofs.Common.{List, subst}
-use Rattle.tree_topology.specs.declared.graph.Link.{Link}
-use Rattle.tree_topology.specs.Refusal.{HasNoLoop}
+use Rattle.tree_topology.specs.{Link, HasNoLoop}
 use Rattle.tree_topology.proofs.span.Span.of_tree.Goals as goal
 
 pub check_tree-requires-clause-no_loop : goal.check_tree-requires-clause-no_loop

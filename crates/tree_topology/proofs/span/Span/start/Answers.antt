@@ -1,7 +1,6 @@
 use Rattle.std.proofs.Common.{◌≡◌, Vec, Global, ℕ, List, length, [], ◌∷◌, ◌++◌, ◌∙◌, ap, set, arith}
-use Rattle.tree_topology.proofs.SpanSteps.{span-start_none, span-start_one}
+use Rattle.tree_topology.proofs.{SpanSteps.span-start_none, SpanSteps.span-start_one, span.Span.start.Goals.then-count-gt0+in_ok-push, span.Span.start.Goals.else-count-gt0}
 use Rattle.tree_topology.proofs.span.Span.start.Goals as goal
-use Rattle.tree_topology.proofs.span.Span.start.Goals.{then-count-gt0+in_ok-push, else-count-gt0}
 
 pub returns : goal.returns
 returns c =

@@ -1,5 +1,5 @@
 use Rattle.std.proofs.Common.{◌≢◌, ◌<◌, ℕ, length, get_or}
-use Rattle.tree_topology.specs.Tables.{IsSpan, Grows}
+use Rattle.tree_topology.specs.{IsSpan, Grows}
 use Rattle.tree_topology.proofs.span.Span.visit.Given as goal
 
 abbrev pub invariant-loop-neighbour : goal.invariant-loop-neighbour

@@ -1,7 +1,6 @@
 use Rattle.std.proofs.Common.{◌≡◌, subst}
-use Rattle.tree_topology.specs.Walk.{is_behind}
+use Rattle.tree_topology.specs.{is_behind, IsAccepted}
 use Rattle.tree_topology.specs.Topology.{Topology}
-use Rattle.tree_topology.specs.Refusal.{IsAccepted}
 use Rattle.tree_topology.proofs.PortLaws.{behind-answer}
 use Rattle.tree_topology.proofs.tree.Tree.behind.Goals as goal
 

@@ -1,6 +1,5 @@
 use Rattle.std.proofs.lemmas.Result.{err_from_is_err_and}
-use Rattle.tree_topology.proofs.RefusalChecks.{refusal-fits, refusal-none}
-use Rattle.tree_topology.proofs.Refusals.{accepted-refusal}
+use Rattle.tree_topology.proofs.{RefusalChecks.refusal-fits, RefusalChecks.refusal-none, Refusals.accepted-refusal}
 use Rattle.tree_topology.proofs.tree.Tree.new.Goals as goal
 
 pub returns-in_err-routes-clause-refusal : goal.returns-in_err-routes-clause-refusal

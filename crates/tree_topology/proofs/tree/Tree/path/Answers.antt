@@ -1,10 +1,8 @@
 use Rattle.std.proofs.Common.{List, ap, subst, ◌∙◌}
 use Rattle.std.proofs.lemmas.Result.{IfOk-weaker}
 use Rattle.srp_base.specs.declared.numbers.EgressPort.{EgressPort}
-use Rattle.tree_topology.specs.Ports.{IsPortPath}
-use Rattle.tree_topology.specs.Walk.{path_between}
+use Rattle.tree_topology.specs.{IsPortPath, path_between, IsAccepted}
 use Rattle.tree_topology.specs.Topology.{Topology}
-use Rattle.tree_topology.specs.Refusal.{IsAccepted}
 use Rattle.tree_topology.proofs.PortLaws.{path-answer}
 use Rattle.tree_topology.proofs.tree.Tree.path.Goals as goal
 

@@ -1,7 +1,5 @@
 use Rattle.std.proofs.Common.{ℕ, ◌∙◌, ap, sym, subst, IfOk, OnErr}
-use Rattle.turn_lock.specs.History.{Log}
-use Rattle.turn_lock.specs.Calls.{HasCalled, HasLooked}
-use Rattle.turn_lock.specs.Passes.{seen_by}
+use Rattle.turn_lock.specs.{Log, HasCalled, HasLooked, seen_by}
 use Rattle.turn_lock.proofs.PassLemmas.{pass_after}
 use Rattle.turn_lock.proofs.lock.TurnLock.call.Goals as goal
 

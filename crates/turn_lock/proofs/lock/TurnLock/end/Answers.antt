@@ -1,9 +1,7 @@
 use Rattle.std.proofs.Common.{rules, ◌≡◌, ⊎_elim, inl, inr, ◌≤◌, ◌==◌, ℕ, ◌∷◌, [], ◌++◌, ◌∙◌, List, map, All, true, sym, ap, subst}
 use Rattle.std.proofs.lemmas.List.{append-nil}
 use Rattle.std.specs.List.{list_any}
-use Rattle.turn_lock.specs.History.{Log}
-use Rattle.turn_lock.specs.Passes.{PassOf, is_given}
-use Rattle.turn_lock.specs.Closing.{HasClosed, ended_of, having_ended}
+use Rattle.turn_lock.specs.{Log, PassOf, is_given, HasClosed, ended_of, having_ended}
 use Rattle.turn_lock.proofs.CloseLemmas.{all_front, all_last, given_split, closes}
 use Rattle.turn_lock.proofs.lock.TurnLock.end.Goals as goal
 

@@ -1,7 +1,7 @@
 use Rattle.std.proofs.Common.{sym, ap, subst, ◌∙◌}
 use Rattle.tree_topology.specs.Topology.{Topology}
 use Rattle.frame_flow.specs.Force.{changes_at}
-use Rattle.world_core.specs.History.{HistoryState, all_changes_of, IsByPort, act_noted, acts_noted}
+use Rattle.world_core.specs.{HistoryState, all_changes_of, IsByPort, act_noted, acts_noted}
 use Rattle.world_core.proofs.Histories.{all_joined, acts_by_port}
 use Rattle.world_core.proofs.history.History.note_steps.Goals as goal
 

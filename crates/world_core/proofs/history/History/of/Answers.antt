@@ -1,5 +1,5 @@
 use Rattle.std.proofs.Common.{sym, ap, subst, [], ◌∙◌}
-use Rattle.world_core.specs.History.{all_changes_of, IsByPort}
+use Rattle.world_core.specs.{all_changes_of, IsByPort}
 use Rattle.world_core.proofs.Histories.{is_by_port, none_joined}
 use Rattle.world_core.proofs.history.History.of.Goals as goal
 

@@ -1,6 +1,6 @@
 use Rattle.std.proofs.Common.{◌≡◌, ℕ, List, length, get_or, set, ap, ◌∙◌, arith}
 use Rattle.srp_base.specs.declared.ports.PortChange.{PortChange}
-use Rattle.world_core.specs.History.{ComeUpTo, ports_noted}
+use Rattle.world_core.specs.{ComeUpTo, ports_noted}
 use Rattle.world_core.proofs.Histories.{one_more_port, port_left}
 use Rattle.world_core.proofs.history.NodeChanges.note.Goals as goal
 

@@ -1,5 +1,5 @@
 use Rattle.std.proofs.Common.{◌≡◌}
-use Rattle.world_core.specs.History.{ports_noted}
+use Rattle.world_core.specs.{ports_noted}
 use Rattle.world_core.proofs.history.NodeChanges.note.Given as goal
 
 abbrev pub invariant-loop-k : goal.invariant-loop-k

@@ -1,5 +1,5 @@
 use Rattle.std.proofs.Common.{ap, ◌∙◌}
-use Rattle.world_core.specs.Marks.{both_at}
+use Rattle.world_core.specs.{both_at}
 use Rattle.world_core.proofs.marks.Marks.both.Goals as goal
 
 pub returns : goal.returns

@@ -1,7 +1,6 @@
 use Rattle.std.proofs.Common.{List, sym, subst}
 use Rattle.tree_topology.specs.Topology.{Topology}
-use Rattle.world_core.specs.declared.marks.EndMarks.{EndMarks}
-use Rattle.world_core.specs.Marks.{IsOfTree, rows_from}
+use Rattle.world_core.specs.{EndMarks, IsOfTree, rows_from}
 use Rattle.world_core.proofs.NewMarks.{new_of}
 use Rattle.world_core.proofs.marks.Marks.of.Goals as goal
 

@@ -1,5 +1,5 @@
 use Rattle.std.proofs.Common.{ap, ◌∙◌}
-use Rattle.world_core.specs.Marks.{with_two}
+use Rattle.world_core.specs.{with_two}
 use Rattle.world_core.proofs.marks.Marks.put_both.Goals as goal
 
 pub returns : goal.returns

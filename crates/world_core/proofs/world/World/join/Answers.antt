@@ -1,9 +1,7 @@
 use Rattle.std.proofs.Common.{List, sym, subst}
 use Rattle.std.specs.List.{AllByRecursion}
-use Rattle.node_core.specs.Holding.{NodeHolding, states_in}
-use Rattle.node_core.specs.Proper.{IsProperNode}
-use Rattle.world_core.specs.Kept.{IsKeptWorld}
-use Rattle.world_core.specs.World.{world_with}
+use Rattle.node_core.specs.{Holding.NodeHolding, Holding.states_in, Proper.IsProperNode}
+use Rattle.world_core.specs.{IsKeptWorld, world_with}
 use Rattle.world_core.proofs.world.World.join.Goals as goal
 
 pub invariant_of-result : goal.invariant_of-result

@@ -2,8 +2,7 @@ use Rattle.std.proofs.Common.{◌≡◌, List, ap, ◌∙◌}
 use Rattle.std.specs.Prelude.{flat_map}
 use Rattle.srp_base.specs.declared.ports.PortChange.{PortChange}
 use Rattle.frame_flow.specs.Force.{changes_at}
-use Rattle.world_core.specs.Timeline.{force_at, lacking, tree_ports}
-use Rattle.world_core.specs.Merging.{changes_among}
+use Rattle.world_core.specs.{force_at, lacking, tree_ports, changes_among}
 use Rattle.world_core.proofs.Noting.{tree_merged}
 use Rattle.world_core.proofs.world.World.note_tick.Goals as goal
 

@@ -1,7 +1,6 @@
 use Rattle.std.proofs.Common.{List, sym, subst}
 use Rattle.node_core.specs.Holding.{NodeHolding, states_in}
-use Rattle.world_core.specs.Kept.{IsWhole}
-use Rattle.world_core.specs.World.{world_with}
+use Rattle.world_core.specs.{IsWhole, world_with}
 use Rattle.world_core.proofs.world.World.part.Goals as goal
 
 pub returns-clause-whole : goal.returns-clause-whole

@@ -1,8 +1,7 @@
 use Rattle.std.proofs.Common.{List, sym, ap, ◌∙◌}
 use Rattle.std.specs.List.{list_all}
-use Rattle.node_core.specs.Holding.{NodeHolding}
-use Rattle.node_core.specs.State.{is_still_node}
-use Rattle.world_core.specs.World.{is_quiet}
+use Rattle.node_core.specs.{Holding.NodeHolding, State.is_still_node}
+use Rattle.world_core.specs.{is_quiet}
 use Rattle.world_core.proofs.InStep.{still_states}
 use Rattle.world_core.proofs.world.World.quiet.Goals as goal
 

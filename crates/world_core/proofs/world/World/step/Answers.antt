@@ -1,9 +1,8 @@
 use Rattle.std.proofs.Common.{sym, ap, ◌∙◌}
+use Rattle.srp_base.proofs.Arithmetic.{if_ok}
 use Rattle.node_core.specs.Holding.{states_in}
-use Rattle.world_core.specs.declared.events.WorldEvent.{WorldEvent}
-use Rattle.world_core.specs.declared.events.WorldEvent.TheVariants.{Request, Carry, Clock}
-use Rattle.world_core.specs.World.{world_step}
-use Rattle.world_core.proofs.Standing.{stands, peer_stands, each_node, can_as, asked_there, if_ok, kept_either}
+use Rattle.world_core.specs.{WorldEvent, Request, Carry, Clock, world_step}
+use Rattle.world_core.proofs.Standing.{stands, peer_stands, each_node, can_as, asked_there, kept_either}
 use Rattle.world_core.proofs.world.World.step.Goals as goal
 
 pub make_step-requires-clause-some : goal.make_step-requires-clause-some

@@ -1,6 +1,5 @@
 use Rattle.std.proofs.Common.{◌≡◌, IfOk, subst}
-use Rattle.world_core.specs.declared.events.WorldEvent.{WorldEvent}
-use Rattle.world_core.specs.World.{world_step}
+use Rattle.world_core.specs.{WorldEvent, world_step}
 use Rattle.world_core.proofs.world.World.step_copy.Goals as goal
 
 pub returns-clause-ok : goal.returns-clause-ok
