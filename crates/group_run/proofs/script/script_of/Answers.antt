@@ -2,7 +2,7 @@ use Rattle.std.proofs.Common.{◌≡◌, ◌<◌, ℕ, suc, List, [], ◌∷◌,
 use Rattle.group_file.specs.declared.entries.GroupEntry.{GroupEntry}
 use Rattle.group_file.specs.{Events.IsKnownGroup, Plan.GroupPlan}
 use Rattle.mmrp.specs.declared.events.GroupEvent.{GroupEvent}
-use Rattle.group_run.specs.{IsCursor, event_of}
+use Rattle.group_run.specs.{NamesNeighbours, IsCursor, event_of}
 use Rattle.group_run.proofs.Scripts.{IsScripted, StandsAt, begins, one_entry, stops, runs_out}
 use Rattle.group_run.proofs.script.script_of.Goals as goal
 
@@ -39,7 +39,7 @@ event_of-requires c =
     let test = c.loop-i-test.true in
     let here = at_place plan c.as_slice-events.result.now c.loop-i.i e (c.as_slice-events.ensures ∙ ap (λ (p : GroupPlan). p.events) c.scenario.view_is) (omega (arith, test)) c.index-events-i.is in
     let known = subst (λ (x : GroupEntry). IsKnownGroup plan.nodes plan.links x.kind) (sym here.is) (c.keeps_rules.ensures.events_known c.loop-i.i e here.below) in
-    c.what_events_name_are_neighbours.ensures plan e.kind c.keeps_rules.ensures known
+    subst (λ (p : GroupPlan). NamesNeighbours p.tree.links e.kind) (sym c.scenario.view_is) (c.what_events_name_are_neighbours.ensures plan e.kind c.keeps_rules.ensures known)
 
 pub loop-i-preserved : goal.loop-i-preserved
 loop-i-preserved c =
@@ -48,7 +48,9 @@ loop-i-preserved c =
     let test = c.loop-i-test.true in
     let here = at_place plan c.as_slice-events.result.now c.loop-i.i e (c.as_slice-events.ensures ∙ ap (λ (p : GroupPlan). p.events) c.scenario.view_is) (omega (arith, test)) c.index-events-i.is in
     one_entry plan c.args.now.0 c.loop-i.i e c.loop-i.script.items _ here c.if-entry-now.false
-    (c.in_ok-push.ensures.items ∙ ap (λ (made : GroupEvent). c.loop-i.script.items ++ made ∷ []) c.event_of.ensures) c.loop-i.invariant
+    (c.in_ok-push.ensures.items
+    ∙ ap (λ (made : GroupEvent). c.loop-i.script.items ++ made ∷ []) (c.event_of.ensures ∙ ap (λ (p : GroupPlan). event_of p.tree.links e.kind) c.scenario.view_is))
+    c.loop-i.invariant
 
 pub returns-clause-events : goal.returns-clause-events
 returns-clause-events c =
