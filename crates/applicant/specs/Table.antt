@@ -32,8 +32,8 @@ row vo vp vn an aa qa la Aa = aa Aa
 row vo vp vn an aa qa la Qa = qa Qa
 row vo vp vn an aa qa la La = la La
 
--- the table, whose columns are the states; `held` says that the port's own registrar of the attribute
--- is IN
+-- the table, whose columns are the states; `held` says that the port's own registrar of the
+-- attribute is IN
 abbrev pub table : AppEvent → Bool → Cell
 -- VO, VP, VN, AN, AA, QA, LA
 table NewReq held =

@@ -1,5 +1,5 @@
-//! What the table means for a user: laws over the definitions that the machine's contracts cite. Each is a
-//! function that does nothing; calling it brings the law to a proof.
+//! What the table means for a user: laws over the definitions that the machine's contracts cite.
+//! Each is a function that does nothing; calling it brings the law to a proof.
 
 ghost use Rattle.std.specs.Prelude.{◌≡◌, ◌⊎◌, Bool, true, false};
 ghost use Rattle.applicant.specs.declared.Applicant.{Applicant};
@@ -9,8 +9,8 @@ ghost use Rattle.applicant.specs.declared.AppEvent.TheVariants.{TxLeaveAll, TxLe
 ghost use Rattle.applicant.specs.declared.Say.TheVariants.{Lv};
 ghost use Rattle.applicant.specs.Table.{next, say_of, is_request, declare_of, redeclare_of, withdraw_of, is_declared_in};
 
-/// What the user's calls do: after declaring and redeclaring the attribute is declared, after withdrawing it
-/// isn't; and what was declared and is withdrawn is in LA.
+/// What the user's calls do: after declaring and redeclaring the attribute is declared, after
+/// withdrawing it isn't; and what was declared and is withdrawn is in LA.
 pub fn uses()
     ensures declared { (s : Applicant) → is_declared_in (declare_of s) ≡ true }
     ensures redeclared { (s : Applicant) → is_declared_in (redeclare_of s) ≡ true }
@@ -25,8 +25,8 @@ pub fn events_keep_declarations()
         → is_declared_in (next event held s) ≡ is_declared_in s }
 {}
 
-/// LA is left for VO only where Lv is said, or in a PDU with LeaveAll, which says it of every attribute. So no
-/// withdrawal is silent.
+/// LA is left for VO only where Lv is said, or in a PDU with LeaveAll, which says it of every
+/// attribute. So no withdrawal is silent.
 pub fn leaving_is_said()
     ensures { (event : AppEvent) (held : Bool)
         → next event held La ≡ Vo

@@ -9,14 +9,14 @@
 //! withdrawn  La  leaving: a Lv is still to be said
 //! ```
 //!
-//! `step` is one cell of the table in `specs/Table.antt`: the new state, and what is said. The user's
-//! `declare`, `redeclare` and `withdraw` are requests of that table, chosen so that every withdrawal
-//! of something declared says a Lv, or rides on a LeaveAll: a plain Lv! in VP would go to VO in
-//! silence while an earlier Join may still be in flight, and leave the attribute registered at the
-//! neighbour for good. The table is this project's, after the standard's.
+//! `step` is one cell of the table in `specs/Table.antt`: the new state, and what is said. The
+//! user's `declare`, `redeclare` and `withdraw` are requests of that table, chosen so that every
+//! withdrawal of something declared says a Lv, or rides on a LeaveAll: a plain Lv! in VP would go
+//! to VO in silence while an earlier Join may still be in flight, and leave the attribute
+//! registered at the neighbour for good. The table is this project's, after the standard's.
 //!
-//! A new state or event is a variant, a row or a column of `specs/Table.antt`, and its arms of `step`. What
-//! follows from the table alone, whoever stands on it, is a law in `laws`.
+//! A new state or event is a variant, a row or a column of `specs/Table.antt`, and its arms of
+//! `step`. What follows from the table alone, whoever stands on it, is a law in `laws`.
 #![tactic(auto)]
 
 pub mod laws;
@@ -24,10 +24,10 @@ pub mod laws;
 ghost use Rattle.std.specs.Prelude.{◌≡◌};
 ghost use Rattle.applicant.specs.Table.{table, declare_of, redeclare_of, withdraw_of, is_declared_in};
 
-/// The states (IEEE Std 802.1Q-2018, 10.7.7). The first letter says how far the neighbour can be trusted to
-/// know: V very anxious, A anxious, Q quiet, L leaving. The second says what this side is: O observer, which
-/// declares nothing; P passive, which declares and hasn't said so; N new, which declares as new; A active,
-/// which has said what it declares.
+/// The states (IEEE Std 802.1Q-2018, 10.7.7). The first letter says how far the neighbour can be
+/// trusted to know: V very anxious, A anxious, Q quiet, L leaving. The second says what this side
+/// is: O observer, which declares nothing; P passive, which declares and hasn't said so; N new,
+/// which declares as new; A active, which has said what it declares.
 #[derive(Clone, Copy, PartialEq, Eq)]
 pub enum Applicant {
     Vo,
@@ -39,8 +39,8 @@ pub enum Applicant {
     La,
 }
 
-/// What happens to an Applicant: a request of its user, a received event, or a transmission opportunity
-/// (IEEE Std 802.1Q-2018, 10.7.7; its names stand beside).
+/// What happens to an Applicant: a request of its user, a received event, or a transmission
+/// opportunity (IEEE Std 802.1Q-2018, 10.7.7; its names stand beside).
 #[derive(Clone, Copy, PartialEq, Eq)]
 pub enum AppEvent {
     /// New!
@@ -67,7 +67,8 @@ pub enum AppEvent {
     TxLeaveAllFull,
 }
 
-/// What an Applicant says of its attribute in the PDU that is being sent (IEEE Std 802.1Q-2018, 10.7.7).
+/// What an Applicant says of its attribute in the PDU that is being sent (IEEE Std 802.1Q-2018,
+/// 10.7.7).
 #[derive(Clone, Copy, PartialEq, Eq)]
 pub enum Say {
     Quiet,
@@ -77,8 +78,8 @@ pub enum Say {
 }
 
 impl Applicant {
-    /// The new state, and what is said: one cell of the table (IEEE Std 802.1Q-2018, 10.7.7). `held` is
-    /// whether the port's own Registrar of the attribute is IN.
+    /// The new state, and what is said: one cell of the table (IEEE Std 802.1Q-2018, 10.7.7).
+    /// `held` is whether the port's own Registrar of the attribute is IN.
     pub fn step(self, event: AppEvent, held: bool) -> (Applicant, Say)
         ensures { result ≡ table event held self }
     {
@@ -124,8 +125,8 @@ impl Applicant {
         self.step(AppEvent::NewReq, false).0
     }
 
-    /// The state after the user withdrew: New! and then Lv! in `Vp`, nothing in `Vo` and `La`, Lv! in
-    /// the others.
+    /// The state after the user withdrew: New! and then Lv! in `Vp`, nothing in `Vo` and `La`, Lv!
+    /// in the others.
     pub fn withdraw(self) -> Applicant
         ensures { result ≡ withdraw_of self }
     {

@@ -2,8 +2,8 @@
 use Rattle.std.specs.Prelude.{◌≡◌, ◌≤◌, ◌<◌, ℕ, suc, Bool, true, false, not, List, [], ◌∷◌, ◌++◌, length, filter, fold, take, drop, Result, Ok, Err}
 use Rattle.std.specs.{declared.cmp.Ordering.Ordering, declared.cmp.Ordering.TheVariants.Less, declared.cmp.Ordering.TheVariants.Equal, declared.cmp.Ordering.TheVariants.Greater, Ordering.is_eq, List.AllByRecursion, List.list_any}
 
--- a set of keys as contracts see it: its keys, ascending strictly, and its spare: so many more keys find room without
--- memory being taken
+-- a set of keys as contracts see it: its keys, ascending strictly, and its spare: so many more keys
+-- find room without memory being taken
 pub record KeySet (K : Type 0) : Type 0 where
   pub keys : List K
   pub spare : ℕ
@@ -17,8 +17,8 @@ IsAscending cmp (x ∷ xs) = AllByRecursion (λ y. cmp x y ≡ Less) xs × IsAsc
 abbrev pub is_awaiting : {K : Type 0} → (K → K → Ordering) → K → List K → Bool
 is_awaiting cmp k keys = list_any (λ x. is_eq (cmp x k)) keys
 
--- at the first of some keys: another key that comes after it, is it, or comes before it; `later` is the
--- rest with that key
+-- at the first of some keys: another key that comes after it, is it, or comes before it; `later` is
+-- the rest with that key
 abbrev pub marked_at : {K : Type 0} → Ordering → K → K → List K → List K → List K
 marked_at Less k x keys later = x ∷ later
 marked_at Equal k x keys later = x ∷ keys
@@ -37,7 +37,8 @@ all_marked cmp new keys = fold (λ ks k. with_key cmp k ks) keys new
 abbrev pub without_key : {K : Type 0} → (K → K → Ordering) → K → List K → List K
 without_key cmp k keys = filter (λ x. not (is_eq (cmp x k))) keys
 
--- a key stands at a place of the keys: marking it changes nothing, clearing it takes out what stands there
+-- a key stands at a place of the keys: marking it changes nothing, clearing it takes out what
+-- stands there
 pub record IsFoundAt {K : Type 0} (cmp : K → K → Ordering) (k : K) (keys : List K) (i : ℕ) : Type 0 where
   pub within : i < length keys
   pub present : is_awaiting cmp k keys ≡ true
@@ -51,7 +52,8 @@ pub record IsMissingAt {K : Type 0} (cmp : K → K → Ordering) (k : K) (keys :
   pub more : with_key cmp k keys ≡ take i keys ++ (k ∷ drop i keys)
   pub without : without_key cmp k keys ≡ keys
 
--- the answer of a search is right: Ok with the key's place, or Err with the place at which it is to be put in
+-- the answer of a search is right: Ok with the key's place, or Err with the place at which it is to
+-- be put in
 abbrev pub IsPlace : {K : Type 0} → (K → K → Ordering) → K → List K → Result ℕ ℕ → Type 0
 IsPlace cmp k keys (Ok i) = IsFoundAt cmp k keys i
 IsPlace cmp k keys (Err i) = IsMissingAt cmp k keys i

@@ -1,5 +1,5 @@
--- The flat rule of propagation (IEEE Std 802.1Q-2018, 10.3, 11.2): what is registered at one port is
--- declared at every other.
+-- The flat rule of propagation (IEEE Std 802.1Q-2018, 10.3, 11.2): what is registered at one port
+-- is declared at every other.
 use Rattle.std.specs.Prelude.{◌≡◌, ◌≢◌, ℕ, Bool, true, ◌||◌, List, take, drop, slice_get, Some}
 use Rattle.std.specs.List.{list_any}
 

@@ -62,9 +62,9 @@ marked_elsewhere cmp at keys sets = marked_from 0 cmp at keys sets
 abbrev pub marked_everywhere : {K : Type 0} → (K → K → Ordering) → List K → List (List K) → List (List K)
 marked_everywhere cmp keys sets = map (all_marked cmp keys) sets
 
--- what keys that are told make of the sets of all ports, whatever the keys are: those await that were told or awaited;
--- each port but the one that told them, or each port, has them beside its own; there are as many sets; and where no key
--- is told all stay
+-- what keys that are told make of the sets of all ports, whatever the keys are: those await that
+-- were told or awaited; each port but the one that told them, or each port, has them beside its
+-- own; there are as many sets; and where no key is told all stay
 pub record HasTold {K : Type 0} (cmp : K → K → Ordering) : Type 0 where
   pub among : (k : K) (keys set : List K)
       → is_awaiting cmp k (all_marked cmp keys set) ≡ (is_awaiting cmp k keys || is_awaiting cmp k set)

@@ -7,8 +7,8 @@ use srp_base::NoMemory;
 use std::alloc::Global;
 use std::marker::Model;
 
-/// A set of keys that await settling. Contracts see a `KeySet`: the list of its keys, ascending strictly, and its
-/// spare, the number of new keys for which it has room.
+/// A set of keys that await settling. Contracts see a `KeySet`: the list of its keys, ascending
+/// strictly, and its spare, the number of new keys for which it has room.
 #[derive(Drop)]
 pub struct Dirty<K: Copy + Ord> {
     keys: Vec<K>,
@@ -45,8 +45,8 @@ impl<K: Copy + Ord> Dirty<K> {
         let _ = &self.keys;
     }
 
-    /// Makes room: afterwards the spare is at least `keys`, and the keys are as before. After want of memory the set
-    /// is as it was.
+    /// Makes room: afterwards the spare is at least `keys`, and the keys are as before. After want
+    /// of memory the set is as it was.
     pub fn room(&mut self, keys: usize) -> Result<(), NoMemory>
         ensures ok { OnOk result (keys ≤ self.new.spare) }
         ensures keys { self.new.keys ≡ self.old.keys }
@@ -56,8 +56,8 @@ impl<K: Copy + Ord> Dirty<K> {
         Ok(())
     }
 
-    /// Puts a key in. A key that isn't in uses one of the spare, and where there is none takes memory; a key that is
-    /// in takes none. After want of memory the set is as it was.
+    /// Puts a key in. A key that isn't in uses one of the spare, and where there is none takes
+    /// memory; a key that is in takes none. After want of memory the set is as it was.
     pub fn mark(&mut self, key: K) -> Result<(), NoMemory>
         ensures ok { OnOk result (self.new.keys ≡ with_key K.cmp key self.old.keys) }
         ensures err { OnErr result (self.new.keys ≡ self.old.keys) }
@@ -71,8 +71,8 @@ impl<K: Copy + Ord> Dirty<K> {
         insert(&mut self.keys, key)
     }
 
-    /// Puts these keys in, in this order. It takes no memory: there is room for as many. Each lowers the spare by one
-    /// at most.
+    /// Puts these keys in, in this order. It takes no memory: there is room for as many. Each
+    /// lowers the spare by one at most.
     pub fn mark_all(&mut self, keys: &[K])
         requires { length keys.now ≤ self.old.spare }
         ensures keys { self.new.keys ≡ all_marked K.cmp keys.now self.old.keys }
@@ -139,7 +139,8 @@ impl<K: Copy + Ord> Dirty<K> {
         self.keys.as_slice()
     }
 
-    /// The key at a place, counted from 0 and ascending; None exactly where the index isn't below `len`.
+    /// The key at a place, counted from 0 and ascending; None exactly where the index isn't below
+    /// `len`.
     pub fn key_at(&self, index: usize) -> Option<K>
         ensures { result ≡ slice_get self.now.keys index }
     {

@@ -3,8 +3,9 @@
 ghost use Rattle.std.specs.Prelude.{◌≡◌, ◌↔◌, take, drop, IsTrue};
 ghost use Rattle.attribute_propagation.specs.Flat.{is_any, elsewhere, IsElsewhere};
 
-/// Whether a place other than `port` is true: a port declares what another port, the application side
-/// included, has registered (IEEE Std 802.1Q-2018, 11.2). The places count from 0, the application side.
+/// Whether a place other than `port` is true: a port declares what another port, the application
+/// side included, has registered (IEEE Std 802.1Q-2018, 11.2). The places count from 0, the
+/// application side.
 pub fn flat_declares(registered: &[bool], port: usize) -> bool
     ensures value { result ≡ elsewhere port registered.now }
     ensures meaning { IsTrue result ↔ IsElsewhere port registered.now }

@@ -1,5 +1,5 @@
-//! What awaits after a set has changed, key by key: laws over the lists of keys. Each is a function that does nothing;
-//! calling it brings the law to a proof.
+//! What awaits after a set has changed, key by key: laws over the lists of keys. Each is a function
+//! that does nothing; calling it brings the law to a proof.
 
 ghost use Rattle.std.specs.Prelude.{◌≡◌, ◌&&◌, ◌||◌, not, List};
 ghost use Rattle.std.specs.Ordering.{is_eq};
@@ -27,8 +27,8 @@ pub fn keys_stay_ascending<K: Copy + Ord>()
         → IsAscending K.cmp (without_key K.cmp x keys) }
 {}
 
-/// Keys that are told await at every port but the one that told them, or at every port, beside those that awaited
-/// there; where none is told all stay.
+/// Keys that are told await at every port but the one that told them, or at every port, beside
+/// those that awaited there; where none is told all stay.
 pub fn each_port_is_told<K: Copy + Ord>()
     ensures { HasTold K.cmp }
 {}

@@ -74,8 +74,8 @@ pub fn told_where<K: Copy + Ord>(is_told: bool, keys: &[K]) -> &[K]
     if is_told { keys } else { &[] }
 }
 
-/// Makes room for this many more keys at each port. After want of memory, as before it, each port has the keys
-/// that it had.
+/// Makes room for this many more keys at each port. After want of memory, as before it, each port
+/// has the keys that it had.
 pub fn room_everywhere<K: Copy + Ord>(sets: &mut Vec<Dirty<K>>, keys: usize) -> Result<(), NoMemory>
     ensures room { OnOk result (HasRoom keys sets.new.items) }
     ensures keys { keys_in sets.new.items ≡ keys_in sets.old.items }
@@ -86,8 +86,8 @@ pub fn room_everywhere<K: Copy + Ord>(sets: &mut Vec<Dirty<K>>, keys: usize) -> 
     Ok(())
 }
 
-/// Puts these keys in at every port but the one at a place, counted from 0. It takes no memory: at each port there
-/// is room for as many.
+/// Puts these keys in at every port but the one at a place, counted from 0. It takes no memory: at
+/// each port there is room for as many.
 pub fn tell_elsewhere<K: Copy + Ord>(sets: &mut Vec<Dirty<K>>, at: usize, keys: &[K])
     requires { HasRoom (length keys.now) sets.old.items }
     ensures { keys_in sets.new.items ≡ marked_elsewhere K.cmp at keys.now (keys_in sets.old.items) }
@@ -97,8 +97,8 @@ pub fn tell_elsewhere<K: Copy + Ord>(sets: &mut Vec<Dirty<K>>, at: usize, keys: 
     }
 }
 
-/// Puts these keys in at every port. It takes no memory: at each port there is room for as many. Where there was room
-/// for more than these, the rest of it is left.
+/// Puts these keys in at every port. It takes no memory: at each port there is room for as many.
+/// Where there was room for more than these, the rest of it is left.
 pub fn tell_everywhere<K: Copy + Ord>(sets: &mut Vec<Dirty<K>>, keys: &[K])
     requires { HasRoom (length keys.now) sets.old.items }
     ensures keys { keys_in sets.new.items

@@ -1,4 +1,5 @@
-//! Two stations on a link, of which one declares a VID and loses what it sends, and texts that are or aren't their journal.
+//! Two stations on a link, of which one declares a VID and loses what it sends, and texts that are
+//! or aren't their journal.
 
 use journal_audit::{Verdict, audit};
 use std::alloc::Global;

@@ -1,5 +1,5 @@
-//! A counter behind a lock: what its calls answer and what its history says; and a lock that is closed without
-//! one of its passes.
+//! A counter behind a lock: what its calls answer and what its history says; and a lock that is
+//! closed without one of its passes.
 
 ghost use Rattle.std.specs.Prelude.{◌≡◌};
 
@@ -65,8 +65,8 @@ fn a_lock_of_one_pass_counts_too(rt: HostRuntime) -> Result<(), Fail> {
     Ok(())
 }
 
-// The number that is missing when a lock of two passes is closed with the second alone, and what it holds when
-// it is closed with both.
+// The number that is missing when a lock of two passes is closed with the second alone, and what it
+// holds when it is closed with both.
 fn closed_without_the_first(alloc: Global) -> Option<(u32, u32, u64)> {
     let (lock, passes) = TurnLock::begin(alloc, Counter { sum: 3 }, 2).ok()?;
     let mut passes = passes.into_vec();
@@ -97,7 +97,8 @@ fn a_missing_pass_is_named_and_all_comes_back(rt: HostRuntime) -> Result<(), Fai
     Ok(())
 }
 
-// The number that is missing when a lock is closed with all passes but the middle one of three, and without any.
+// The number that is missing when a lock is closed with all passes but the middle one of three, and
+// without any.
 fn missing_of_three(alloc: Global) -> Option<(u32, u32)> {
     let (lock, passes) = TurnLock::begin(alloc, Counter { sum: 0 }, 3).ok()?;
     let mut passes = passes.into_vec();

@@ -1,5 +1,5 @@
-//! A bridge of three link ports behind a hub: steps by its passes, a hub that is closed without one of them, and what
-//! it gives once it has all.
+//! A bridge of three link ports behind a hub: steps by its passes, a hub that is closed without one
+//! of them, and what it gives once it has all.
 
 ghost use Rattle.std.specs.Prelude.{◌≡◌, ◌+◌, ◌≤◌, IfSome};
 ghost use Rattle.node_core.specs.State.{ports_of};
@@ -63,8 +63,9 @@ fn step<R: Wait>(rt: &R, hub: &NodeHub, pass: &mut PortPass, step: PortStep) -> 
     hub.step(rt, &NoGate, pass, step).ok()
 }
 
-// How many passes a hub of the bridge has, which number is missing when it is closed without the second, and what it
-// gives when it is closed with all three, of which the first and the third have stepped.
+// How many passes a hub of the bridge has, which number is missing when it is closed without the
+// second, and what it gives when it is closed with all three, of which the first and the third have
+// stepped.
 fn closed_without_the_second<R: Wait>(rt: &R, alloc: Global) -> Option<(usize, u32, HubClosed)> {
     let (hub, mut passes) = begun(alloc, new_bridge(alloc)?)?;
     let count = passes.len();

@@ -71,7 +71,8 @@ fn calls<R: Wait>(
     pass
 }
 
-// The calls of both passes, each by a thread of its own. Where no thread can be made its calls are made here.
+// The calls of both passes, each by a thread of its own. Where no thread can be made its calls are
+// made here.
 fn in_two_threads<R: Threads + Wait + Sync>(
     rt: &R,
     lock: &TurnLock<Counter>,

@@ -18,7 +18,8 @@ fn has(bound: BoundB, wait: u64, hi: u128) -> bool {
     bound.wait == wait && bound.hi == hi
 }
 
-/// Whether the bounds at 100 Mb/s, by the caps in Mb/s, have these waits, and hiCredits in units of a 10,000,000,000,000th.
+/// Whether the bounds at 100 Mb/s, by the caps in Mb/s, have these waits, and hiCredits in units of
+/// a 10,000,000,000,000th.
 fn at_100(cap_a: u64, cap_ab: u64, wide: (u64, u128), tight: (u64, u128)) -> bool {
     let mega = 1_000_000;
     match numbers(

@@ -5,9 +5,10 @@ use credit_shaper::{Arrival, PortInput, SlopeChange, Traffic};
 use srp_base::{NoMemory, Rate, Seq};
 use std::alloc::Global;
 
-/// At 100 Mb/s two frames of class B of 800 bits, at bit times 0 and 1, with a slope of 50 Mb/s that becomes 20 Mb/s at bit
-/// time 1,000: the second starts once the credit is 0 again, at bit time 2,500, and the last bit of it goes in bit time
-/// 3,299. A frame of other traffic of 400 bits comes at bit time 800. Class A has no frame, and a slope of 10 Mb/s.
+/// At 100 Mb/s two frames of class B of 800 bits, at bit times 0 and 1, with a slope of 50 Mb/s
+/// that becomes 20 Mb/s at bit time 1,000: the second starts once the credit is 0 again, at bit
+/// time 2,500, and the last bit of it goes in bit time 3,299. A frame of other traffic of 400 bits
+/// comes at bit time 800. Class A has no frame, and a slope of 10 Mb/s.
 fn input(alloc: Global) -> Result<PortInput, NoMemory> {
     let mut slopes = Seq::new(alloc);
     for (bit, slope_b) in [(0, 50_000_000), (1_000, 20_000_000)] {

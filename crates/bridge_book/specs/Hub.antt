@@ -24,7 +24,8 @@ PortPass = PassOf Shared PortAsk Told
 abbrev pub first_node : Hub → NodeState
 first_node hub = hub.lock.start.node
 
--- a lock of a hub: it began with a node of which no step was noted, and has a pass for each of its link ports
+-- a lock of a hub: it began with a node of which no step was noted, and has a pass for each of its
+-- link ports
 abbrev pub IsHubLock : Lock Shared → Type 0
 IsHubLock lock = (lock.start.steps ≡ []) × (lock.start.notices ≡ []) × (lock.passes ≡ ports_of lock.start.node) × (lock.passes ≤ 255)
 
@@ -48,7 +49,8 @@ abbrev pub HasStepped : Hub → PortPass → PortStep → StepReply → (after :
 HasStepped hub pass step reply after =
     (notice : Notice) × HasCalled node_does (first_node hub) pass.number pass.seen (ask_by pass step) (record { reply = reply; notice = notice }) after
 
--- a closed hub: a history of the node's steps from the node that it began with, and the node that it leaves
+-- a closed hub: a history of the node's steps from the node that it began with, and the node that
+-- it leaves
 pub record HasClosedHub (hub : Hub) (passes : List PortPass) (node : NodeState) (steps : List NodeStep) (notices : List Notice) : Type 0 where
   pub history : Steps
   pub steps_are : steps ≡ map step_of history

@@ -6,7 +6,8 @@ use Rattle.bridge_book.specs.declared.{shared.PortAsk.PortAsk, notice.Told.Told,
 use Rattle.turn_lock.specs.declared.close.CloseErr.{CloseErr}
 use Rattle.turn_lock.specs.declared.close.CloseErr.TheVariants as closing
 
--- what is handed back is what was given; a pass is said to be missing only where it is, and it is the lowest such one
+-- what is handed back is what was given; a pass is said to be missing only where it is, and it is
+-- the lowest such one
 abbrev pub IsRefusedHub : Hub → List PortPass → HubCloseErr → Type 0
 IsRefusedHub hub passes (MissingPass number hub' passes') =
     IsLowestMissing hub.lock.passes passes number × (hub' ≡ hub) × (passes' ≡ passes)

@@ -7,7 +7,8 @@ use Rattle.node_core.specs.declared.{types.NodeEvent.TheVariants.Port, types.Nod
 use Rattle.bridge_book.specs.declared.{notice.Notice.Notice, notice.Told.Told, shared.PortAsk.PortAsk}
 use Rattle.bridge_book.specs.declared.notice.Notice.TheVariants.{Quiet, Took, Said}
 
--- a node, the steps that were made of it with their answers, and what each of them did to the PDUs on its port's link
+-- a node, the steps that were made of it with their answers, and what each of them did to the PDUs
+-- on its port's link
 pub record Shared : Type 0 where
   pub node : NodeState
   pub steps : List NodeStep
@@ -25,7 +26,8 @@ abbrev pub notice_of_saying : App → (leave_all : Bool) → StepReply → Notic
 notice_of_saying app leave_all (Sent octets) = Said app leave_all
 notice_of_saying app leave_all _ = Quiet
 
--- what a step has done that was going to do this, by its answer: an application that was to say something may have been silent
+-- what a step has done that was going to do this, by its answer: an application that was to say
+-- something may have been silent
 abbrev pub with_reply : Notice → StepReply → Notice
 with_reply (Said app leave_all) reply = notice_of_saying app leave_all reply
 with_reply Quiet reply = Quiet
@@ -56,7 +58,8 @@ port_does node ask =
 abbrev pub told_nothing : Told
 told_nothing = record { reply = Nothing; notice = Quiet }
 
--- what is told of a port's step, and the node after it; for what isn't a link port of the node nothing happens
+-- what is told of a port's step, and the node after it; for what isn't a link port of the node
+-- nothing happens
 abbrev pub node_does : NodeState → PortAsk → Told × NodeState
 node_does node ask = cond (is_port ask.port (ports_of node)) (port_does node ask) (told_nothing, node)
 

@@ -17,7 +17,8 @@ use std::marker::Model;
 use std::sync::Wait;
 use turn_lock::{CloseErr, Closed, Pass, TurnLock};
 
-/// The right to step one port of a hub's node, for one thread at a time. Passes are numbered as the ports are.
+/// The right to step one port of a hub's node, for one thread at a time. Passes are numbered as the
+/// ports are.
 pub type PortPass = Pass<SharedNode>;
 
 /// A node that its port threads share. Contracts see its number and the lock round the node.
@@ -37,8 +38,8 @@ impl Model for NodeHub {
     ghost invariant = { λ h. IsHubLock h.lock };
 }
 
-/// What a hub held: the node, and the steps that were made of it, in their order, with what each did to the PDUs on its
-/// port's link.
+/// What a hub held: the node, and the steps that were made of it, in their order, with what each
+/// did to the PDUs on its port's link.
 #[derive(Drop)]
 pub struct HubClosed {
     pub node: Node,
@@ -105,8 +106,8 @@ fn handed_back(number: NodeNo, refused: CloseErr<SharedNode>) -> HubCloseErr
 }
 
 impl NodeHub {
-    /// A hub round a node, with a pass for each of its link ports, of which it has at least one. The number is what a
-    /// gate is told. After want of memory the node comes back.
+    /// A hub round a node, with a pass for each of its link ports, of which it has at least one.
+    /// The number is what a gate is told. After want of memory the node comes back.
     pub fn begin(
         alloc: Global,
         number: NodeNo,
@@ -137,9 +138,10 @@ impl NodeHub {
         }
     }
 
-    /// Makes a step of the pass's port, in its turn, with the gate's `within` called inside it. The answer is that of the
-    /// node at the call's place in one history, which begins with all that the pass had seen. After want of memory the node
-    /// and its steps are as before; the pass may have seen more of them.
+    /// Makes a step of the pass's port, in its turn, with the gate's `within` called inside it. The
+    /// answer is that of the node at the call's place in one history, which begins with all that
+    /// the pass had seen. After want of memory the node and its steps are as before; the pass may
+    /// have seen more of them.
     pub fn step<R: Wait, G: Gate>(
         &self,
         rt: &R,
@@ -181,8 +183,9 @@ impl NodeHub {
         self.lock.call(rt, pass, ask, &|| gate.within(number, port))
     }
 
-    /// Closes the hub with all its passes, in any order, and answers its node and the steps that were made of it, with what
-    /// each did to the PDUs on its port's link. Where a pass is missing everything comes back.
+    /// Closes the hub with all its passes, in any order, and answers its node and the steps that
+    /// were made of it, with what each did to the PDUs on its port's link. Where a pass is missing
+    /// everything comes back.
     pub fn close(self, passes: Seq<PortPass>) -> Result<HubClosed, HubCloseErr>
         requires { All (λ p. p.lock ≡ self.lock) passes }
         ensures closed { IfOk result (λ c. HasClosedHub self passes

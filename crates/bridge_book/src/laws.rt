@@ -9,7 +9,8 @@ ghost use Rattle.bridge_book.specs.Hub.{Steps};
 
 use node_core::laws::steps_keep_what_a_node_is;
 
-/// A history changes no number of ports, so a step of a link port is the node's own, wherever it stands in one.
+/// A history changes no number of ports, so a step of a link port is the node's own, wherever it
+/// stands in one.
 pub fn ports_make_their_steps()
     ensures ports { (node : NodeState) (history : Steps)
         → ports_of (last_state node_does node history) ≡ ports_of node }

@@ -11,8 +11,8 @@ use node_core::{Node, NodeEvent, PortStep, StepReply, Wire, wire_leaves};
 use srp_base::{App, NoMemory, PortNo};
 use std::alloc::Global;
 
-/// What a step does to the PDUs on its port's link: nothing; it takes one of an application, or says one, with LeaveAll
-/// (IEEE Std 802.1Q-2018, 10.7.10) or without.
+/// What a step does to the PDUs on its port's link: nothing; it takes one of an application, or
+/// says one, with LeaveAll (IEEE Std 802.1Q-2018, 10.7.10) or without.
 #[derive(Clone, Copy, PartialEq, Eq)]
 pub enum Notice {
     /// No PDU is taken or said.
@@ -40,7 +40,8 @@ pub(crate) fn nothing() -> Told
     }
 }
 
-/// Makes a step of a link port, with what it does to the PDUs on the port's link. After want of memory the node is as it was.
+/// Makes a step of a link port, with what it does to the PDUs on the port's link. After want of
+/// memory the node is as it was.
 pub(crate) fn make_step(alloc: Global, node: &mut Node, ask: &PortAsk) -> Result<Told, NoMemory>
     requires { IsLinkPort ask.now.port (ports_of node.old.state) }
     ensures ok { IfOk result (λ told. port_does node.old.state ask.now ≡ (told, node.new.state)) }
@@ -52,7 +53,8 @@ pub(crate) fn make_step(alloc: Global, node: &mut Node, ask: &PortAsk) -> Result
     Ok(Told { reply, notice })
 }
 
-// What a step of a port is going to do to the PDUs, where an application that is to say something isn't silent.
+// What a step of a port is going to do to the PDUs, where an application that is to say something
+// isn't silent.
 fn coming(alloc: Global, node: &Node, port: PortNo, step: &PortStep) -> Result<Notice, NoMemory>
     requires { IsLinkPort port (ports_of node.now.state) }
     ensures { IfOk result (λ notice. (reply : reply_type) → with_reply notice reply
@@ -92,7 +94,8 @@ fn took(alloc: Global, wire: &Wire) -> Result<Notice, NoMemory>
     Ok(Notice::Took(wire.app, leave_all))
 }
 
-// What a step has done that was going to do this, by its answer: an application may have been silent.
+// What a step has done that was going to do this, by its answer: an application may have been
+// silent.
 fn with_reply(coming: Notice, reply: StepReply) -> Notice
     ensures { result ≡ with_reply coming reply }
 {

@@ -18,7 +18,8 @@ pub struct PortAsk {
     pub step: PortStep,
 }
 
-/// A node, the steps that were made of it with their answers, and what each did to the PDUs on its port's link.
+/// A node, the steps that were made of it with their answers, and what each did to the PDUs on its
+/// port's link.
 #[derive(Drop)]
 pub struct SharedNode {
     pub(crate) node: Node,
@@ -90,8 +91,8 @@ impl Sequential for SharedNode {
 
     ghost does = { shared_does };
 
-    /// Makes the step of a port and notes it. An ask of a port that isn't a link port of the node is answered `Nothing`
-    /// and changes nothing of the node.
+    /// Makes the step of a port and notes it. An ask of a port that isn't a link port of the node
+    /// is answered `Nothing` and changes nothing of the node.
     fn step(&mut self, ask: PortAsk) -> Result<Told, NoMemory> {
         step_and_note(&mut self.node, &mut self.steps, &mut self.notices, &ask)
     }

@@ -5,7 +5,8 @@ use Rattle.capture_file.specs.{Capture, Record, CaptureErr, Packet, packets_in, 
 use Rattle.capture_file.specs.declared.error.CaptureErr.TheVariants as errors
 use Rattle.capture_file.proofs.Holds.{reading_holds}
 
-pub placed_ok : (octets : List ℕ) (packets : List Packet) (left : Option ℕ) → read_as (magic_of octets) octets ≡ Ok (packets, left) → reading octets ≡ Ok (packets, option_map (λ n. length octets - n) left)
+pub placed_ok : (octets : List ℕ) (packets : List Packet) (left : Option ℕ) → read_as (magic_of octets) octets ≡ Ok (packets, left)
+    → reading octets ≡ Ok (packets, option_map (λ n. length octets - n) left)
 unfolding reading
 placed_ok octets packets left e = ap (placed_in (length octets)) e
 
@@ -41,7 +42,8 @@ other_link octets errors.NoMemory number h is = absurd cc
 
 -- the capture that is made of what was read of the file
 pub capture_read : (octets : List ℕ) (records : Vec Record Global) (left broken : Option ℕ) (capture : Capture) → read_as (magic_of octets) octets ≡ Ok (packets_in records.items, left)
-    → broken ≡ option_map (λ n. length octets - n) left → ◌≡◌ {A = Result Capture CaptureErr} (Ok (record { records = records; broken = broken })) (Ok capture) → reading octets ≡ Ok (capture_in capture)
+    → broken ≡ option_map (λ n. length octets - n) left → ◌≡◌ {A = Result Capture CaptureErr} (Ok (record { records = records; broken = broken })) (Ok capture)
+    → reading octets ≡ Ok (capture_in capture)
 capture_read octets records left broken capture e placed is =
     let made : Capture = record { records = records; broken = broken } in
     let same : made ≡ capture = cc in

@@ -174,7 +174,8 @@ module _ (octets : List ℕ) (magic : Magic) (known : magic_of octets ≡ Some m
       pieces = run.pieces;
       rules = run.rules;
       spelled = refl;
-      whole = sym (take-append-drop (head_size magic.form) octets) ∙ ap (λ (o : List ℕ). take (head_size magic.form) octets ++ o) run.whole ∙ sym (append_assoc (take (head_size magic.form) octets) (pieces_octets run.pieces) rest);
+      whole = sym (take-append-drop (head_size magic.form) octets) ∙ ap (λ (o : List ℕ). take (head_size magic.form) octets ++ o) run.whole
+          ∙ sym (append_assoc (take (head_size magic.form) octets) (pieces_octets run.pieces) rest);
       meaning = run.meaning;
       leaves = refl;
     }
@@ -200,11 +201,13 @@ module _ (octets : List ℕ) (magic : Magic) (known : magic_of octets ≡ Some m
     file_holds (Err errors.NotCapture) h = absurd h
     file_holds (Err errors.NoMemory) h = absurd h
     file_holds (Err (errors.OtherLink number)) h =
-        link_in_piece h.packets (setting_after start h.run.pieces) (take (head_size magic.form) octets ++ pieces_octets h.run.pieces) h.text h.more (reaches h.packets (h.text ++ h.more) h.run) h.piece h.means
+        link_in_piece h.packets (setting_after start h.run.pieces) (take (head_size magic.form) octets ++ pieces_octets h.run.pieces) h.text h.more
+        (reaches h.packets (h.text ++ h.more) h.run) h.piece h.means
 
   head_holds : (s : Result Setting CaptureErr) → setting_in magic octets ≡ s → IsReading octets (placed_in (length octets) (behind_head s (drop (head_size magic.form) octets)))
   head_holds (Ok start) is =
-      file_holds start is (pieces_in 0 start (drop (head_size magic.form) octets)) (pieces_stops (length octets) start (drop (head_size magic.form) octets) (omega (arith, length-drop (head_size magic.form) octets)))
+      file_holds start is (pieces_in 0 start (drop (head_size magic.form) octets))
+      (pieces_stops (length octets) start (drop (head_size magic.form) octets) (omega (arith, length-drop (head_size magic.form) octets)))
   head_holds (Err (errors.OtherLink number)) is = link_in_head magic known fits is
   head_holds (Err errors.NotCapture) is = absurd (setting_err magic octets errors.NotCapture is)
   head_holds (Err errors.NoMemory) is = absurd (setting_err magic octets errors.NoMemory is)

@@ -89,7 +89,8 @@ module _ (order : ByteOrder) (octets : List ℕ) (code len : ℕ) (rest : List �
 -- ---- the law of options
 
 -- an option, whatever stands behind it
-with_more : (order : ByteOrder) (text more : List ℕ) (code len : ℕ) (value : List ℕ) → option_at order text ≡ Some (Some (code, len, value)) → option_at order (text ++ more) ≡ Some (Some (code, len, value ++ more))
+with_more : (order : ByteOrder) (text more : List ℕ) (code len : ℕ) (value : List ℕ) → option_at order text ≡ Some (Some (code, len, value))
+    → option_at order (text ++ more) ≡ Some (Some (code, len, value ++ more))
 unfolding option_at
 with_more order [] more code len value e = absurd cc
 with_more order (a ∷ []) more code len value e = absurd cc

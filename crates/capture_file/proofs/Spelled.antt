@@ -68,7 +68,8 @@ reaches_read : (octets : List ℕ) (packets : List Packet) (setting : Setting) (
 reaches_read octets packets setting front rest r =
     let text : octets ≡ r.head ++ (pieces_octets r.pieces ++ rest) = r.whole ∙ ap (λ (o : List ℕ). o ++ rest) r.spelled ∙ append_assoc r.head (pieces_octets r.pieces) rest in
     let fits : head_size r.magic.form ≤ length octets = omega (arith, ap length text, length-append r.head (pieces_octets r.pieces ++ rest), r.size) in
-    let behind : drop (head_size r.magic.form) octets ≡ pieces_octets r.pieces ++ rest = ap (λ (o : List ℕ). drop (head_size r.magic.form) o) text ∙ drop_at r.head (pieces_octets r.pieces ++ rest) (head_size r.magic.form) r.size in
+    let behind : drop (head_size r.magic.form) octets ≡ pieces_octets r.pieces ++ rest
+    = ap (λ (o : List ℕ). drop (head_size r.magic.form) o) text ∙ drop_at r.head (pieces_octets r.pieces ++ rest) (head_size r.magic.form) r.size in
     behind_is octets r.magic r.known fits
     ∙ ap (λ (o : List ℕ). behind_head (setting_in r.magic octets) o) behind
     ∙ ap (λ (s : Result Setting CaptureErr). behind_head s (pieces_octets r.pieces ++ rest)) r.starts

@@ -75,7 +75,8 @@ small_block order s text =
 
 small_meaning : (form : FileForm) (s : Setting) (text : List ℕ) → SmallIf (length text) (meaning_of form s text)
 unfolding meaning_of
-small_meaning Pcap s text = small_frame (length text) (slice_get s.interfaces 0) (field s.order 0 text) (field s.order 4 text) (field s.order 12 text) (drop 16 text) (omega (arith, length-drop 16 text))
+small_meaning Pcap s text = small_frame (length text) (slice_get s.interfaces 0) (field s.order 0 text) (field s.order 4 text) (field s.order 12 text) (drop 16 text)
+    (omega (arith, length-drop 16 text))
 small_meaning Pcapng s text = small_block (order_in s text) s text
 
 -- ---- what is read

@@ -1,5 +1,5 @@
--- Numbers in the octets of a capture file, in either byte order. Where the octets end too early, a number counts as 0: each rule
--- asks for the octets that it needs.
+-- Numbers in the octets of a capture file, in either byte order. Where the octets end too early, a
+-- number counts as 0: each rule asks for the octets that it needs.
 use Rattle.std.specs.Prelude.{ℕ, ◌+◌, ◌*◌, List, ◌∷◌, drop}
 use Rattle.capture_file.specs.declared.{setting.ByteOrder.ByteOrder, setting.ByteOrder.TheVariants.Little, setting.ByteOrder.TheVariants.Big}
 

@@ -1,5 +1,5 @@
--- The grammar of capture files: which octets spell a capture of which frames, where others break off, and which are none. All of it
--- joins whole lists of octets.
+-- The grammar of capture files: which octets spell a capture of which frames, where others break
+-- off, and which are none. All of it joins whole lists of octets.
 use Rattle.std.specs.Prelude.{◌≡◌, ℕ, ◌%◌, ◌<◌, ◌≤◌, ◌&&◌, true, ◌==◌, if◌then◌else◌, List, [], ◌∷◌, ◌++◌, length, Option, Some, None, Result, Ok, Err}
 use Rattle.std.specs.List.{flat_map}
 use Rattle.capture_file.specs.declared.{error.CaptureErr.CaptureErr, setting.ByteOrder.ByteOrder, setting.ByteOrder.TheVariants.Little, setting.ByteOrder.TheVariants.Big, setting.FileForm.FileForm, setting.FileForm.TheVariants.Pcap, setting.FileForm.TheVariants.Pcapng, setting.LinkType.LinkType, setting.Magic.Magic, setting.Setting.Setting}
@@ -8,7 +8,8 @@ use Rattle.capture_file.specs.{Fields.field, Settings.link_numbered, Settings.un
 
 -- ---- How a file begins
 
--- the form that the first octets tell, if they tell one in this byte order: pcap in µs or ns, pcapng with its byte-order magic
+-- the form that the first octets tell, if they tell one in this byte order: pcap in µs or ns,
+-- pcapng with its byte-order magic
 abbrev pub magic_in : ByteOrder → List ℕ → Option Magic
 magic_in order octets =
     let first = field order 0 octets in
@@ -26,7 +27,8 @@ first_of None other = other
 unfoldable pub magic_of : List ℕ → Option Magic
 magic_of octets = first_of (magic_in Big octets) (magic_in Little octets)
 
--- the head of pcap: magic, versions, zone, accuracy, snap length, link type. In pcapng the first piece stands at once.
+-- the head of pcap: magic, versions, zone, accuracy, snap length, link type. In pcapng the first
+-- piece stands at once.
 abbrev pub head_size : FileForm → ℕ
 head_size Pcap = 24
 head_size Pcapng = 0
@@ -87,7 +89,8 @@ pieces_packets ps = flat_map (λ p. packets_meant p.meant) ps
 
 -- ---- A file
 
--- The file's head and whole pieces are its octets up to a place; behind it these octets stand, in this setting.
+-- The file's head and whole pieces are its octets up to a place; behind it these octets stand, in
+-- this setting.
 pub record Reaches (octets : List ℕ) (packets : List Packet) (setting : Setting) (front rest : List ℕ) : Type 0 where
   pub magic : Magic
   pub known : magic_of octets ≡ Some magic
@@ -107,7 +110,8 @@ pub record Spells (octets : List ℕ) (packets : List Packet) : Type 0 where
   pub setting : Setting
   pub reaches : Reaches octets packets setting octets []
 
--- No piece that keeps its rules begins here: the octets are too few, or lengths, magics or numbers in them aren't allowed.
+-- No piece that keeps its rules begins here: the octets are too few, or lengths, magics or numbers
+-- in them aren't allowed.
 pub record NoneBegins (s : Setting) (rest : List ℕ) : Type 0 where
   pub some : 0 < length rest
   pub none : (text more : List ℕ) → rest ≡ text ++ more → IsPiece s text → meaning s text ≡ None

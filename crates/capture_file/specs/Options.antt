@@ -1,5 +1,5 @@
--- The options of a block of pcapng: of each its code and its length in two octets, and its value with padding up to a multiple of 4
--- octets. They end with a code of 0, or with the octets.
+-- The options of a block of pcapng: of each its code and its length in two octets, and its value
+-- with padding up to a multiple of 4 octets. They end with a code of 0, or with the octets.
 use Rattle.std.specs.Prelude.{◌≡◌, ◌≢◌, ℕ, zero, suc, ◌+◌, ◌*◌, ◌/◌, ◌==◌, if◌then◌else◌, List, [], ◌∷◌, length, slice_get, Option, Some, None}
 use Rattle.capture_file.specs.declared.setting.ByteOrder.{ByteOrder}
 use Rattle.capture_file.specs.Fields.{two}
@@ -8,8 +8,8 @@ use Rattle.capture_file.specs.Fields.{two}
 abbrev pub padded : ℕ → ℕ
 padded n = (n + 3) / 4 * 4
 
--- the code and the length of the option that begins here, and the octets behind them; none where the options end. Fewer octets
--- than a code and a length take break.
+-- the code and the length of the option that begins here, and the octets behind them; none where
+-- the options end. Fewer octets than a code and a length take break.
 unfoldable pub option_at : ByteOrder → List ℕ → Option (Option (ℕ × ℕ × List ℕ))
 option_at order [] = Some None
 option_at order (a ∷ b ∷ c ∷ d ∷ octets) =
@@ -20,8 +20,9 @@ option_at order _ = None
 abbrev pub octet_value : ℕ → List ℕ → Option ℕ
 octet_value len octets = if len == 1 then slice_get octets 0 else None
 
--- the octet of the resolution that options give, behind so many octets that are to be passed first: the value of the first option
--- of code 9, or 6, which is µs, where there is none. An option that the octets are too short for breaks.
+-- the octet of the resolution that options give, behind so many octets that are to be passed first:
+-- the value of the first option of code 9, or 6, which is µs, where there is none. An option that
+-- the octets are too short for breaks.
 unfoldable pub resolution_in : ByteOrder → ℕ → List ℕ → Option ℕ
 resolution_in order (suc n) [] = None
 resolution_in order (suc n) (o ∷ octets) = resolution_in order n octets

@@ -2,7 +2,8 @@
 use Rattle.std.specs.Prelude.{ℕ, List, map, Option}
 use Rattle.capture_file.specs.declared.{capture.Record.Record, capture.Capture.Capture, setting.LinkType.LinkType}
 
--- A frame as it was captured: the link type of its interface, the moment in ns, how many octets it had, and those that were kept.
+-- A frame as it was captured: the link type of its interface, the moment in ns, how many octets it
+-- had, and those that were kept.
 pub record Packet : Type 0 where
   pub link : LinkType
   pub at_ns : ℕ

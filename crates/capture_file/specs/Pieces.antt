@@ -1,20 +1,22 @@
--- The pieces of a capture file: records of pcap, blocks of pcapng. A piece is its text, the octets from its first one to its last;
--- its rules and what it means speak of numbers at offsets in it (draft-ietf-opsawg-pcap, draft-ietf-opsawg-pcapng). Which rules
--- they are, the byte order and the interfaces are given by the setting that the pieces before it leave.
+-- The pieces of a capture file: records of pcap, blocks of pcapng. A piece is its text, the octets
+-- from its first one to its last; its rules and what it means speak of numbers at offsets in it
+-- (draft-ietf-opsawg-pcap, draft-ietf-opsawg-pcapng). Which rules they are, the byte order and the
+-- interfaces are given by the setting that the pieces before it leave.
 use Rattle.std.specs.Prelude.{◌≡◌, ℕ, ◌+◌, ◌-◌, ◌*◌, ◌%◌, ◌≤◌, min, Bool, true, false, ◌&&◌, nat_le, ◌==◌, if◌then◌else◌, List, [], ◌∷◌, ◌++◌, length, take, drop, slice_get, Option, Some, None}
 use Rattle.capture_file.specs.declared.{setting.ByteOrder.ByteOrder, setting.ByteOrder.TheVariants.Little, setting.ByteOrder.TheVariants.Big, setting.FileForm.FileForm, setting.FileForm.TheVariants.Pcap, setting.FileForm.TheVariants.Pcapng, setting.LinkType.LinkType, setting.Interface.Interface, setting.Setting.Setting}
 use Rattle.capture_file.specs.{Fields.field, Fields.half, Settings.link_numbered, Settings.units_of, Settings.moment, Options.resolution_in, Packets.Packet}
 
 -- ---- Where a piece ends
 
--- A record of pcap: 16 octets (seconds, fraction, captured length, original length), and the octets that were captured, which are
--- no more than the frame had.
+-- A record of pcap: 16 octets (seconds, fraction, captured length, original length), and the octets
+-- that were captured, which are no more than the frame had.
 pub record IsRecord (order : ByteOrder) (text : List ℕ) : Type 0 where
   pub head : 16 ≤ length text
   pub octets : length text ≡ 16 + field order 8 text
   pub within : field order 8 text ≤ field order 12 text
 
--- A block of pcapng: its type, its length, its body, and its length once more. The length is a multiple of 4.
+-- A block of pcapng: its type, its length, its body, and its length once more. The length is a
+-- multiple of 4.
 pub record IsBlock (order : ByteOrder) (text : List ℕ) : Type 0 where
   pub fixed : 12 ≤ length text
   pub fourths : length text % 4 ≡ 0
@@ -44,7 +46,8 @@ IsPiece s text = IsPieceOf s.form s text
 
 -- ---- What it means
 
--- a frame; a section, which has no interfaces yet; one more interface; an interface of a link type that isn't read; or nothing
+-- a frame; a section, which has no interfaces yet; one more interface; an interface of a link type
+-- that isn't read; or nothing
 pub data Meant : Type 0 where
   Frame : Packet → Meant
   Section : ByteOrder → Meant
@@ -85,12 +88,14 @@ interface_meant order text =
     if nat_le 20 (length text) then described (link_numbered (half order 8 text)) (half order 8 text) (field order 12 text) (resolution_in order 0 (interface_options text))
     else None
 
--- the captured octets of an enhanced packet block are no more than the frame had, and stand in the block
+-- the captured octets of an enhanced packet block are no more than the frame had, and stand in the
+-- block
 abbrev pub enhanced_fits : ByteOrder → List ℕ → Bool
 enhanced_fits order text =
     nat_le (field order 20 text) (field order 24 text) && nat_le (field order 20 text + 32) (length text)
 
--- an enhanced packet block: the interface's number, the moment's high and low halves, captured and original length, octets
+-- an enhanced packet block: the interface's number, the moment's high and low halves, captured and
+-- original length, octets
 abbrev pub enhanced_meant : ByteOrder → Setting → List ℕ → Option Meant
 enhanced_meant order s text =
     if enhanced_fits order text then frame_of (slice_get s.interfaces (field order 8 text)) 0 (field order 12 text * 0x1_0000_0000 + field order 16 text) (field order 24 text) (take (field order 20 text) (drop 28 text))
@@ -100,7 +105,8 @@ enhanced_meant order s text =
 abbrev pub kept : ℕ → ℕ → ℕ
 kept snap whole = if snap == 0 then whole else min snap whole
 
--- a frame of the first interface, of this original length, if the octets that are kept stand in the block
+-- a frame of the first interface, of this original length, if the octets that are kept stand in the
+-- block
 abbrev pub simple_frame : Option Interface → ℕ → List ℕ → Option Meant
 simple_frame None whole text = None
 simple_frame (Some i) whole text =

@@ -1,4 +1,5 @@
--- Reading a capture file from left to right. That this is the grammar is the law `reading_is_the_grammar`.
+-- Reading a capture file from left to right. That this is the grammar is the law
+-- `reading_is_the_grammar`.
 use Rattle.std.specs.Prelude.{◌≡◌, IfSome, ℕ, zero, suc, ◌+◌, ◌-◌, ◌%◌, ◌&&◌, nat_le, nat_lt, ◌==◌, if◌then◌else◌, List, [], ◌∷◌, ◌++◌, length, take, drop, Option, Some, None, option_map, option_and_then, Result, Ok, Err}
 use Rattle.srp_base.specs.Results.{Gives}
 use Rattle.capture_file.specs.declared.{capture.Capture.Capture, error.CaptureErr.CaptureErr, said.Said.Said, setting.ByteOrder.ByteOrder, setting.FileForm.FileForm, setting.FileForm.TheVariants.Pcap, setting.FileForm.TheVariants.Pcapng, setting.Magic.Magic, setting.Setting.Setting}
@@ -44,7 +45,8 @@ abbrev pub told : ℕ → Option (Meant × ℕ) → (Meant × ℕ → Outcome) �
 told left None behind = Ok ([], Some left)
 told left (Some x) behind = behind x
 
--- Pieces in a setting, behind so many octets that are to be passed first. Where none begins, how many octets are left.
+-- Pieces in a setting, behind so many octets that are to be passed first. Where none begins, how
+-- many octets are left.
 unfoldable pub pieces_in : ℕ → Setting → List ℕ → Outcome
 pieces_in n s [] = Ok ([], None)
 pieces_in (suc n) s (o ∷ octets) = pieces_in n s octets

@@ -11,11 +11,13 @@ link_numbered number =
     else (if number == 276 then Some CookedV2
     else None))
 
--- how many units of time make a second, by the octet of a resolution: 10 ^ k, or 2 ^ k where its high bit is set
+-- how many units of time make a second, by the octet of a resolution: 10 ^ k, or 2 ^ k where its
+-- high bit is set
 abbrev pub per_second : ℕ → ℕ
 per_second resolution = if nat_lt resolution 128 then 10 ^ resolution else 2 ^ (resolution - 128)
 
--- the same where it is below 2 ^ 128, and else 2 ^ 128 - 1; the law `moments_are_exact` says that it makes no difference
+-- the same where it is below 2 ^ 128, and else 2 ^ 128 - 1; the law `moments_are_exact` says that
+-- it makes no difference
 abbrev pub units_of : ℕ → ℕ
 units_of resolution = min (per_second resolution) (2 ^ 128 - 1)
 

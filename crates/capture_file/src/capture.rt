@@ -20,7 +20,7 @@ pub struct Record<'a> {
 pub struct Capture<'a> {
     /// The records that are whole, in the order of the file.
     pub records: Vec<Record<'a>>,
-    /// Where the file breaks off: the offset, in octets from 0, of the first record or block that isn't
-    /// whole. None where the file was read to its end.
+    /// Where the file breaks off: the offset, in octets from 0, of the first record or block that
+    /// isn't whole. None where the file was read to its end.
     pub broken: Option<u32>,
 }

@@ -1,5 +1,5 @@
-//! Laws of the grammar of capture files, and of moments. A crate above that needs one calls it, and its proof
-//! has the clauses.
+//! Laws of the grammar of capture files, and of moments. A crate above that needs one calls it, and
+//! its proof has the clauses.
 
 ghost use Rattle.std.specs.Prelude.{◌≡◌, ◌↔◌, ◌<◌, ◌^◌, ◌++◌, ℕ, List};
 ghost use Rattle.capture_file.specs.declared.setting.ByteOrder.{ByteOrder};
@@ -8,8 +8,9 @@ ghost use Rattle.capture_file.specs.Options.{IsOtherOption, resolution_in};
 ghost use Rattle.capture_file.specs.Grammar.{Outcome, IsReading};
 ghost use Rattle.capture_file.specs.Reading.{reading};
 
-/// The law of the grammar: all octets have exactly one outcome. They spell a capture of exactly one list of
-/// frames, or break off at exactly one place behind exactly one list, or are none for exactly one cause.
+/// The law of the grammar: all octets have exactly one outcome. They spell a capture of exactly one
+/// list of frames, or break off at exactly one place behind exactly one list, or are none for
+/// exactly one cause.
 pub fn one_reading()
     ensures some { (octets : List ℕ) → (outcome : Outcome) × IsReading octets outcome }
     ensures one { (octets : List ℕ) (a b : Outcome)
@@ -22,8 +23,8 @@ pub fn reading_is_the_grammar()
         → (reading octets ≡ outcome) ↔ IsReading octets outcome }
 {}
 
-/// The law of the clock: a moment of 64 bits is the same by the units that are kept as by those of the
-/// resolution.
+/// The law of the clock: a moment of 64 bits is the same by the units that are kept as by those of
+/// the resolution.
 pub fn moments_are_exact()
     ensures { (resolution ticks : ℕ) → ticks < 2 ^ 64
         → ns_of (units_of resolution) ticks ≡ ns_of (per_second resolution) ticks }

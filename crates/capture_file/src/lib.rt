@@ -12,19 +12,22 @@
 //!                          or NotCapture, or OtherLink(number), or NoMemory
 //! ```
 //!
-//! The grammar stands in `specs/`. A piece, which is a record of pcap or a block of pcapng, is its text (`Pieces`): its
-//! rules and its meaning speak of numbers at offsets in it (`Fields`), in the setting that the pieces before it leave
-//! (`Settings`: byte order, interfaces, clocks). So the byte order and the resolution are parameters of one grammar.
-//! `Options` are those of an interface. `Grammar` says which octets spell a capture of which frames (`Spells`), at which
-//! place others break off and behind which frames (`BreaksAt`), and which have an interface whose frames aren't read
-//! (`HasOtherLink`); all octets have exactly one outcome by the law `one_reading`. `Reading` is the same as a function,
-//! which the law `reading_is_the_grammar` ties to the grammar. `Packets` says what a capture says that was read in
-//! place. `moments_are_exact` and `other_options_are_passed_over` are laws of clocks and options.
+//! The grammar stands in `specs/`. A piece, which is a record of pcap or a block of pcapng, is its
+//! text (`Pieces`): its rules and its meaning speak of numbers at offsets in it (`Fields`), in the
+//! setting that the pieces before it leave (`Settings`: byte order, interfaces, clocks). So the
+//! byte order and the resolution are parameters of one grammar. `Options` are those of an
+//! interface. `Grammar` says which octets spell a capture of which frames (`Spells`), at which
+//! place others break off and behind which frames (`BreaksAt`), and which have an interface whose
+//! frames aren't read (`HasOtherLink`); all octets have exactly one outcome by the law
+//! `one_reading`. `Reading` is the same as a function, which the law `reading_is_the_grammar` ties
+//! to the grammar. `Packets` says what a capture says that was read in place. `moments_are_exact`
+//! and `other_options_are_passed_over` are laws of clocks and options.
 //!
-//! The code reads in one pass (`reading`): how many octets the next piece takes, and what it says (`pieces`), which
-//! changes the setting or is one more record. The records' octets are borrowed from the file's. A further kind of block
-//! is a case of `block_meant` with its function in `pieces`; a further link type is a variant of `LinkType`, with a line
-//! in `link_numbered` of `setting` and of `specs/Settings`.
+//! The code reads in one pass (`reading`): how many octets the next piece takes, and what it says
+//! (`pieces`), which changes the setting or is one more record. The records' octets are borrowed
+//! from the file's. A further kind of block is a case of `block_meant` with its function in
+//! `pieces`; a further link type is a variant of `LinkType`, with a line in `link_numbered` of
+//! `setting` and of `specs/Settings`.
 #![tactic(auto)]
 
 mod capture;

@@ -140,8 +140,8 @@ fn interface<'a>(order: ByteOrder, text: &'a [u8]) -> Option<Said<'a>>
     )
 }
 
-/// Whether the captured octets of an enhanced packet block are no more than the frame had, and stand in
-/// the block.
+/// Whether the captured octets of an enhanced packet block are no more than the frame had, and
+/// stand in the block.
 fn enhanced_fits(order: ByteOrder, text: &[u8]) -> bool
     ensures { result ≡ enhanced_fits order text.now }
 {

@@ -189,29 +189,30 @@ fn placed(all: usize, left: Option<usize>) -> Option<u32>
     }
 }
 
-/// The frames of a capture file, read in one pass, with their octets borrowed from the file's. The file is
-/// pcap (draft-ietf-opsawg-pcap), in µs or ns, or pcapng (draft-ietf-opsawg-pcapng), in either byte order.
-/// There are fewer than 2^32 octets.
+/// The frames of a capture file, read in one pass, with their octets borrowed from the file's. The
+/// file is pcap (draft-ietf-opsawg-pcap), in µs or ns, or pcapng (draft-ietf-opsawg-pcapng), in
+/// either byte order. There are fewer than 2^32 octets.
 ///
-/// In pcap the versions, the zone, the accuracy and the snap length aren't looked at, and the link type is
-/// the low 28 bits of its field. In pcapng sections, interfaces, enhanced and simple packet blocks are read,
-/// and all other blocks passed over by their length. An interface has its resolution by option 9, or µs;
-/// its other options aren't looked at. A simple packet block has no moment, so its frame has 0.
+/// In pcap the versions, the zone, the accuracy and the snap length aren't looked at, and the link
+/// type is the low 28 bits of its field. In pcapng sections, interfaces, enhanced and simple packet
+/// blocks are read, and all other blocks passed over by their length. An interface has its
+/// resolution by option 9, or µs; its other options aren't looked at. A simple packet block has no
+/// moment, so its frame has 0.
 ///
-/// Moments stand as the file has them, also where they go back. One that doesn't fit, past 2^64 - 1 ns, is
-/// 2^64 - 1, and one finer than a ns is rounded down.
+/// Moments stand as the file has them, also where they go back. One that doesn't fit, past 2^64 - 1
+/// ns, is 2^64 - 1, and one finer than a ns is rounded down.
 ///
-/// The file breaks off, at the offset `broken`, where its head, a record or a block isn't whole: where the
-/// octets are too few for it, where a captured length is above the original one, where the length of a
-/// block is below 12, no multiple of 4, or not the same at its end, where a fixed part or an option of a
-/// block that is read passes its end, where a section has no byte-order magic, or where a frame's interface
-/// isn't there. All records before it are in `records`.
+/// The file breaks off, at the offset `broken`, where its head, a record or a block isn't whole:
+/// where the octets are too few for it, where a captured length is above the original one, where
+/// the length of a block is below 12, no multiple of 4, or not the same at its end, where a fixed
+/// part or an option of a block that is read passes its end, where a section has no byte-order
+/// magic, or where a frame's interface isn't there. All records before it are in `records`.
 ///
 /// # Errors
 ///
 /// `NotCapture` where the octets begin as neither form; in pcapng the byte-order magic tells too.
-/// `OtherLink` carries the number of the first link type that isn't read: that of pcap's head, or of an
-/// interface. `NoMemory` where memory for the records runs out.
+/// `OtherLink` carries the number of the first link type that isn't read: that of pcap's head, or
+/// of an interface. `NoMemory` where memory for the records runs out.
 pub fn read_capture(alloc: Global, octets: &[u8]) -> Result<Capture<'_>, CaptureErr>
     requires { length octets.now < 2 ^ 32 }
 
@@ -229,8 +230,9 @@ pub fn read_capture(alloc: Global, octets: &[u8]) -> Result<Capture<'_>, Capture
     ensures within { IfOk result (λ capture. AllByRecursion
         (λ r. length r.octets.now ≤ length octets.now) capture.records.items) }
 
-    // Want of memory alone is free: else the answer is the reading, which the law `reading_is_the_grammar`
-    // says is what the octets spell, where they break off, or why they are no capture.
+    // Want of memory alone is free: else the answer is the reading, which the law
+    // `reading_is_the_grammar` says is what the octets spell, where they break off, or why they are
+    // no capture.
     ensures exact { Answers result (reading octets.now) }
 {
     let (records, left) = read_file(alloc, octets)?;

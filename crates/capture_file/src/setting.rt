@@ -79,8 +79,8 @@ pub(crate) fn link_numbered(number: u32) -> Option<LinkType>
     }
 }
 
-/// How many units of time make a second, by the octet of a resolution: 10^k, or 2^k where the octet is
-/// 128 + k. A number from 2^128 on counts as 2^128 - 1.
+/// How many units of time make a second, by the octet of a resolution: 10^k, or 2^k where the octet
+/// is 128 + k. A number from 2^128 on counts as 2^128 - 1.
 pub(crate) fn units_of(resolution: u8) -> u128
     ensures { result ≡ units_of resolution }
 {

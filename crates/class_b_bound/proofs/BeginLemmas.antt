@@ -154,7 +154,8 @@ next_is laws input gap cap most t m gone a b rate left size line_a line_b next =
     let three = subst (λ (s : Bool). Begins gap cap most m gone k a s (credit_a_at input (suc t)) (credit_b_at input (suc t))) was_b two in
     let four = subst (λ (s : Bool). Begins gap cap most m gone k s (was_on_line input B (suc t)) (credit_a_at input (suc t)) (credit_b_at input (suc t))) was_a three in
     let five = subst (λ (n : ℕ). Begins gap cap most m n k (was_on_line input A (suc t)) (was_on_line input B (suc t)) (credit_a_at input (suc t)) (credit_b_at input (suc t))) went four in
-    subst (λ (n : ℕ). Begins gap cap most n (12336 - bits_left input (suc t)) k (was_on_line input A (suc t)) (was_on_line input B (suc t)) (credit_a_at input (suc t)) (credit_b_at input (suc t))) rem five
+    subst (λ (n : ℕ). Begins gap cap most n (12336 - bits_left input (suc t)) k (was_on_line input A (suc t)) (was_on_line input B (suc t)) (credit_a_at input (suc t))
+    (credit_b_at input (suc t))) rem five
 
 -- the wide facts of an input whose line is free
 wide_at : (input : PortInput) (gap cap most t : ℕ) → bits_left input t ≡ 0 → BeginsAt input gap cap most t

@@ -126,7 +126,8 @@ bits_one (d ∷ ds) t apart =
       | inr off ↦
           let now : taken_by t (suc t) d ≡ 0 = one ∙ to_number (is_sending B t d) false off in
           let rest = bits_one ds t (λ i j e lt below. apart (suc i) (suc j) e (omega (arith, lt)) (omega (arith, below))) in
-          let is : cond (list_any (is_sending B t) (d ∷ ds)) 1 0 ≡ cond (list_any (is_sending B t) ds) 1 0 = to_number (list_any (is_sending B t) (d ∷ ds)) (list_any (is_sending B t) ds) (ap (λ b. b || list_any (is_sending B t) ds) off) in
+          let is : cond (list_any (is_sending B t) (d ∷ ds)) 1 0 ≡ cond (list_any (is_sending B t) ds) 1 0
+          = to_number (list_any (is_sending B t) (d ∷ ds)) (list_any (is_sending B t) ds) (ap (λ b. b || list_any (is_sending B t) ds) off) in
           omega (arith, now, rest, is)
     ]
   where

@@ -1,4 +1,5 @@
--- The laws of a bit time that the bounds stand on, those of credit_shaper. No public contract names them.
+-- The laws of a bit time that the bounds stand on, those of credit_shaper. No public contract names
+-- them.
 use Rattle.std.specs.Prelude.{◌≡◌, ℕ, suc, ◌-◌, ◌≤◌, pos}
 use Rattle.srp_base.specs.Bandwidth.{bits_of}
 use Rattle.credit_shaper.specs.declared.{shaper.Traffic.Traffic, shaper.Traffic.TheVariants.A, shaper.Traffic.TheVariants.B, port.PortInput.PortInput}

@@ -17,8 +17,8 @@ pub record HasCaps (input : PortInput) (cap_a cap_ab : ℕ) : Type 0 where
   pub caps : AreCaps input.rate cap_a cap_ab
   pub slopes : KeepCaps cap_a cap_ab input.slopes
 
--- the wait: one frame of 12,336 bits, and what class A may take by its hiCredit, 12,336 x cap_a, and its
--- loCredit, -12,336 x rate, at the rate that its cap leaves; rounded up
+-- the wait: one frame of 12,336 bits, and what class A may take by its hiCredit, 12,336 x cap_a,
+-- and its loCredit, -12,336 x rate, at the rate that its cap leaves; rounded up
 abbrev pub wait_of : ℕ → ℕ → ℕ
 wait_of rate cap_a = div_ceil (rate * 12336 + (12336 * cap_a + 12336 * rate)) (rate - cap_a)
 

@@ -1,5 +1,5 @@
--- How what class B has of a window is summed up, departure by departure and slope by slope. No public
--- contract names these words.
+-- How what class B has of a window is summed up, departure by departure and slope by slope. No
+-- public contract names these words.
 use Rattle.std.specs.Prelude.{ℕ, ◌+◌, ◌-◌, ◌*◌, min, max, List, [], ◌∷◌, if◌then◌else◌}
 use Rattle.credit_shaper.specs.declared.{port.SlopeChange.SlopeChange, port.Departure.Departure, shaper.Traffic.TheVariants.B}
 use Rattle.credit_shaper.specs.Departures.{departs_as}

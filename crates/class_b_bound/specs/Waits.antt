@@ -8,8 +8,8 @@ use Rattle.std.specs.Prelude.{◌≡◌, ℕ, zero, suc, ◌+◌, ◌<◌, ◌�
 use Rattle.credit_shaper.specs.declared.{shaper.Traffic.TheVariants.B, port.Arrival.Arrival, port.PortInput.PortInput}
 use Rattle.credit_shaper.specs.{Bounds.credit_b_at, Bounds.is_on_line, Departures.DepartsAt, Steps.head_at, Steps.is_waiting}
 
--- whether class B is kept waiting in a bit time: a frame of it waits, its credit isn't negative, and none
--- of it is on the line
+-- whether class B is kept waiting in a bit time: a frame of it waits, its credit isn't negative,
+-- and none of it is on the line
 abbrev pub is_kept_waiting : PortInput → ℕ → Bool
 is_kept_waiting input t =
     is_waiting input B t && (int_le (pos 0) (credit_b_at input t) && not (is_on_line input B t))
@@ -43,8 +43,9 @@ worst_wait_of input = most_waited input input.end
 abbrev pub IsKeptWaiting : PortInput → Arrival → ℕ → Type 0
 IsKeptWaiting input x t = (head_at input B t ≡ Some x) × (is_kept_waiting input t ≡ true)
 
--- the wait of a frame: so many bit times from the first in which it heads class B's queue with credit of at
--- least 0 while no class B frame is on the line, up to its start or the end of the input
+-- the wait of a frame: so many bit times from the first in which it heads class B's queue with
+-- credit of at least 0 while no class B frame is on the line, up to its start or the end of the
+-- input
 pub record IsWaitOf (input : PortInput) (x : Arrival) (from bits : ℕ) : Type 0 where
   pub each : (t : ℕ) → from ≤ t → t < from + bits → IsKeptWaiting input x t
   pub first : (t : ℕ) → suc t ≡ from → IsKeptWaiting input x t → ⊥

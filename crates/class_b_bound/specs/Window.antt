@@ -17,7 +17,8 @@ area_b input from to = sum_by (slope_b_at input) (bit_times from to)
 abbrev pub window_of : PortInput → ℕ → ℕ → WindowB
 window_of input from to = record { bits = bits_b input from to; area = area_b input from to }
 
--- a window's class B bits, times the rate, stay within the area of idleSlope plus hiCredit minus loCredit
+-- a window's class B bits, times the rate, stay within the area of idleSlope plus hiCredit minus
+-- loCredit
 abbrev pub IsWindowBWithin : PortInput → BoundB → ℕ → ℕ → Type 0
 IsWindowBWithin input bound from to =
     pos (bits_of input.rate * bits_b input from to)

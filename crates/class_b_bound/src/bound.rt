@@ -10,8 +10,8 @@ use srp_base::Rate;
 /// How long a class B frame waits with credit, and what class B's credit stays between.
 #[derive(Clone, Copy, PartialEq, Eq)]
 pub struct BoundB {
-    /// The bit times that a class B frame waits at most, at the head of its queue with credit of at least 0
-    /// while no class B frame is on the line.
+    /// The bit times that a class B frame waits at most, at the head of its queue with credit of at
+    /// least 0 while no class B frame is on the line.
     pub wait: u64,
     /// hiCredit of class B, in units of 1/rate bit.
     pub hi: u128,
@@ -19,9 +19,10 @@ pub struct BoundB {
     pub lo: i128,
 }
 
-/// Class B's bound, by what class A takes in a window (IEEE Std 802.1Q-2018, 8.6.8.2): the wait is that of
-/// one frame of 12,336 bits and of all that class A may send in the wait. The caps are in bit/s, the first of
-/// class A and the second of both classes; the first isn't above the second, and that is below the rate.
+/// Class B's bound, by what class A takes in a window (IEEE Std 802.1Q-2018, 8.6.8.2): the wait is
+/// that of one frame of 12,336 bits and of all that class A may send in the wait. The caps are in
+/// bit/s, the first of class A and the second of both classes; the first isn't above the second,
+/// and that is below the rate.
 pub fn bound_b(rate: Rate, cap_a: u64, cap_ab: u64) -> BoundB
     requires { AreCaps rate cap_a cap_ab }
     ensures { result ≡ bound_of rate cap_a cap_ab }
@@ -36,9 +37,10 @@ pub fn bound_b(rate: Rate, cap_a: u64, cap_ab: u64) -> BoundB
     }
 }
 
-/// The tighter bound, under the same conditions, with the caps in bit/s. Worked cases come within 10 bit times of it, but
-/// not where class A has 1 or 2 percent of the rate: at 1 percent the longest wait that is known is 24,671 bit times of
-/// 24,796. Class A starts with credit only, so behind another frame it takes no more than its credit at that frame's end gives.
+/// The tighter bound, under the same conditions, with the caps in bit/s. Worked cases come within
+/// 10 bit times of it, but not where class A has 1 or 2 percent of the rate: at 1 percent the
+/// longest wait that is known is 24,671 bit times of 24,796. Class A starts with credit only, so
+/// behind another frame it takes no more than its credit at that frame's end gives.
 pub fn tight_bound_b(rate: Rate, cap_a: u64, cap_ab: u64) -> BoundB
     requires { AreCaps rate cap_a cap_ab }
     ensures { result ≡ tight_bound_of rate cap_a cap_ab }
@@ -52,16 +54,16 @@ pub fn tight_bound_b(rate: Rate, cap_a: u64, cap_ab: u64) -> BoundB
     }
 }
 
-/// Whether a bound may be asked for: whether class A's cap isn't above the cap of both classes, and that is below the
-/// rate.
+/// Whether a bound may be asked for: whether class A's cap isn't above the cap of both classes, and
+/// that is below the rate.
 pub fn are_caps(rate: Rate, cap_a: u64, cap_ab: u64) -> bool
     ensures { IsTrue result ↔ AreCaps rate cap_a cap_ab }
 {
     cap_a <= cap_ab && cap_ab < rate.bits()
 }
 
-/// Whether the bounds hold of an input: whether it is as `PortInput::is_valid` tests it, these are caps, and no slope of
-/// class A is above the first and no two slopes together above the second.
+/// Whether the bounds hold of an input: whether it is as `PortInput::is_valid` tests it, these are
+/// caps, and no slope of class A is above the first and no two slopes together above the second.
 pub fn has_caps(input: &PortInput, cap_a: u64, cap_ab: u64) -> bool
     ensures { IsTrue result ↔ HasCaps input.now cap_a cap_ab }
 {

@@ -1,5 +1,5 @@
-//! What is true of every input whose slopes keep their caps. Each is a function that does nothing; calling it
-//! brings the law to a proof.
+//! What is true of every input whose slopes keep their caps. Each is a function that does nothing;
+//! calling it brings the law to a proof.
 
 ghost use Rattle.std.specs.Prelude.{◌≡◌, ℕ, suc, ◌+◌, ◌-◌, ◌*◌, ◌<◌, ◌≤◌, true, false, pos, ◌≤ℤ◌};
 ghost use Rattle.srp_base.specs.declared.bandwidth.Rate.{Rate};
@@ -17,8 +17,8 @@ use credit_shaper::laws::{
     what_waits_goes_on_waiting,
 };
 
-/// Class B's credit stays between loCredit and hiCredit at every bit time: of the bound, and of the tight one, whose
-/// hiCredit is 2 x 12,336 times the cap of both classes.
+/// Class B's credit stays between loCredit and hiCredit at every bit time: of the bound, and of the
+/// tight one, whose hiCredit is 2 x 12,336 times the cap of both classes.
 pub fn class_b_credit_stays_within()
     ensures bound { (input : PortInput) (cap_a cap_ab t : ℕ) → HasCaps input cap_a cap_ab
         → IsCreditBWithin input (bound_of input.rate cap_a cap_ab) t }
@@ -30,8 +30,8 @@ pub fn class_b_credit_stays_within()
     bit_laws();
 }
 
-/// No wait of class B is longer than either bound's: a wait, times what class A's cap leaves of the rate, is at most
-/// 12,336 times twice the rate less that cap.
+/// No wait of class B is longer than either bound's: a wait, times what class A's cap leaves of the
+/// rate, is at most 12,336 times twice the rate less that cap.
 pub fn class_b_waits_stay_within()
     ensures bound { (input : PortInput) (cap_a cap_ab bits : ℕ) → HasCaps input cap_a cap_ab
         → HasWait input bits → bits ≤ (bound_of input.rate cap_a cap_ab).wait }
@@ -44,8 +44,8 @@ pub fn class_b_waits_stay_within()
     bit_laws();
 }
 
-/// Over each window what class B has of the line is at most the area of its idleSlope plus hiCredit minus
-/// loCredit, of the bound and of the tight one.
+/// Over each window what class B has of the line is at most the area of its idleSlope plus hiCredit
+/// minus loCredit, of the bound and of the tight one.
 pub fn class_b_windows_stay_within()
     ensures bound { (input : PortInput) (cap_a cap_ab a b : ℕ) → HasCaps input cap_a cap_ab → a ≤ b
         → IsWindowBWithin input (bound_of input.rate cap_a cap_ab) a b }
@@ -56,8 +56,8 @@ pub fn class_b_windows_stay_within()
     credits_go_on();
 }
 
-/// A bit time in which class B is kept waiting is followed by another, or by the start of a class B frame. So a
-/// wait goes on up to the frame's start or the end.
+/// A bit time in which class B is kept waiting is followed by another, or by the start of a class B
+/// frame. So a wait goes on up to the frame's start or the end.
 pub fn a_wait_ends_with_a_start()
     ensures { (input : PortInput) (t : ℕ) → IsPortInput input → is_kept_waiting input t ≡ true
         → is_kept_waiting input (suc t) ≡ false → Starts input B (suc t) }
@@ -66,17 +66,18 @@ pub fn a_wait_ends_with_a_start()
     what_waits_goes_on_waiting();
 }
 
-/// An input has one longest wait: it is the most bit times in a row, up to any up to the end, in which class B was kept
-/// waiting.
+/// An input has one longest wait: it is the most bit times in a row, up to any up to the end, in
+/// which class B was kept waiting.
 pub fn an_input_has_one_worst_wait()
     ensures some { (input : PortInput) → IsWorstWait input (worst_wait_of input) }
     ensures one { (input : PortInput) (one other : ℕ) → IsWorstWait input one
         → IsWorstWait input other → one ≡ other }
 {}
 
-/// The longest wait of an input is that of one frame: no frame of class B waits longer, from the first bit time in which it
-/// heads its queue with credit of at least 0 while none of its class is on the line, up to its start or the end of the
-/// input; and unless it is 0 some frame waits as long.
+/// The longest wait of an input is that of one frame: no frame of class B waits longer, from the
+/// first bit time in which it heads its queue with credit of at least 0 while none of its class is
+/// on the line, up to its start or the end of the input; and unless it is 0 some frame waits as
+/// long.
 pub fn the_longest_wait_is_that_of_a_frame()
     ensures { (input : PortInput) → IsPortInput input → IsLongestWait input (worst_wait_of input) }
 {

@@ -14,13 +14,14 @@ use credit_shaper::{Piece, PortInput, PortTrace, Traffic};
 use srp_base::NoMemory;
 use std::alloc::Global;
 
-/// The longest wait of class B at a port, in bit times: from the first bit time in which a class B frame heads its
-/// queue with credit of at least 0 while no class B frame is on the line, up to the frame's start or the end of the
-/// input; 0 where there is none. It takes a few steps a frame, however long the run, and the one error is want
-/// of memory.
+/// The longest wait of class B at a port, in bit times: from the first bit time in which a class B
+/// frame heads its queue with credit of at least 0 while no class B frame is on the line, up to the
+/// frame's start or the end of the input; 0 where there is none. It takes a few steps a frame,
+/// however long the run, and the one error is want of memory.
 ///
-/// The input is as `PortInput::is_valid` tests it. The caps are in bit/s: no slope of class A is above the first and
-/// no two slopes together above the second, the first isn't above the second, and that is below the rate.
+/// The input is as `PortInput::is_valid` tests it. The caps are in bit/s: no slope of class A is
+/// above the first and no two slopes together above the second, the first isn't above the second,
+/// and that is below the rate.
 pub fn worst_wait(
     alloc: Global,
     input: &PortInput,
@@ -91,8 +92,8 @@ impl Waits {
         }
     }
 
-    /// How many bit times in a row class B was kept waiting up to the end of a piece of so many, before the last
-    /// of which it wasn't in some.
+    /// How many bit times in a row class B was kept waiting up to the end of a piece of so many,
+    /// before the last of which it wasn't in some.
     fn now_after(self, bits: u64, without: u64) -> u64
         requires short { self.now + bits ≤ 2 ^ 42 }
         ensures { result ≡ (if nat_le without 0 then self.now + bits else bits - without) }

@@ -19,9 +19,9 @@ pub struct WindowB {
     pub area: u128,
 }
 
-/// What class B has of the window from one bit time to before another, in a port's input with what leaves the
-/// port. The first isn't after the second, that isn't after the input's end, the input is as
-/// `PortInput::is_valid` tests it, and `sent` is what `PortTrace::run` answers for it.
+/// What class B has of the window from one bit time to before another, in a port's input with what
+/// leaves the port. The first isn't after the second, that isn't after the input's end, the input
+/// is as `PortInput::is_valid` tests it, and `sent` is what `PortTrace::run` answers for it.
 pub fn window_b(input: &PortInput, sent: &Departures, from: u64, to: u64) -> WindowB
     requires input { IsPortInput input.now }
     requires order { from ≤ to }

@@ -292,7 +292,8 @@ early_wait input (suc t) =
     let q : Port = with_arrivals input t (port_at input t) in
     let come : All E q.waiting = All-append E (port_at input t).waiting (arrivals_at input.arrivals t)
     (λ k d l. omega (arith, early_wait input t k d l))
-    (λ k d l. let now : (get_or (arrivals_at input.arrivals t) k d).bit ≡ t = eqb-true (get_or (arrivals_at input.arrivals t) k d).bit t (filter_passes (λ x. x.bit == t) input.arrivals k d l) in omega (arith, now)) in
+    (λ k d l. let now : (get_or (arrivals_at input.arrivals t) k d).bit ≡ t = eqb-true (get_or (arrivals_at input.arrivals t) k d).bit t
+    (filter_passes (λ x. x.bit == t) input.arrivals k d l) in omega (arith, now)) in
     with_start_cases (λ p. All E p.waiting) t q (λ _. come) (λ _. come) (λ kind x _ _ _. without_all E x.traffic q.waiting come)
 
 -- where no frame of a traffic arrives before a bit time, what waits or arrives before it is of other traffic

@@ -252,7 +252,8 @@ gone_bits input front behind gone waiting x u place up e short =
           front_sum (λ y. y.bits) gone waiting (filter (is_of traffic) front) (filter (is_of traffic) (arrivals_before (x ∷ behind) u)) (sym e ∙ (list ∙ whole)) short
       | inr l ↦
           let none : bits_among traffic (arrivals_before (x ∷ behind) u) ≡ 0 = ap (bits_among traffic) (none_behind front behind x u up l) in
-          let all : sum_by (λ (y : Arrival). y.bits) (gone ++ waiting) ≡ sum_by (λ (y : Arrival). y.bits) (filter (is_of traffic) (arrivals_before front u) ++ filter (is_of traffic) (arrivals_before (x ∷ behind) u)) =
+          let all : sum_by (λ (y : Arrival). y.bits) (gone ++ waiting) ≡ sum_by (λ (y : Arrival). y.bits)
+          (filter (is_of traffic) (arrivals_before front u) ++ filter (is_of traffic) (arrivals_before (x ∷ behind) u)) =
           ap (sum_by (λ (y : Arrival). y.bits)) (sym e ∙ list) in
           let one = sum_by-append (λ (y : Arrival). y.bits) gone waiting in
           let two = sum_by-append (λ (y : Arrival). y.bits) (filter (is_of traffic) (arrivals_before front u)) (filter (is_of traffic) (arrivals_before (x ∷ behind) u)) in

@@ -143,7 +143,8 @@ low_next credit laws input traffic least longest t valid class short slope low =
           let few = ahead_few laws input traffic longest t valid short (left_few laws input traffic longest t valid short) on in
           let next : credit_at input traffic (suc t) ≡ credit_at input traffic t +ℤ pos (slope_at input traffic t) -ℤ pos rate =
           step ∙ ap (λ b. credit_after rate (slope_at input traffic t) b (is_waiting input traffic t) (credit_at input traffic t)) on in
-          let down = sends_low gap longest (bits_ahead input t) rate (slope_at input traffic t) (credit_at input traffic t) some few (omega (arith, slope)) (low_ahead laws input traffic gap longest t valid class low on) in
+          let down = sends_low gap longest (bits_ahead input t) rate (slope_at input traffic t) (credit_at input traffic t) some few (omega (arith, slope))
+          (low_ahead laws input traffic gap longest t valid class low on) in
           subst (λ (n : ℕ). pos 0 ≤ℤ (credit_at input traffic (suc t) +ℤ pos (gap * (longest - n)))) (sym (left_next laws input traffic t on))
           (subst (λ (c : ℤ). pos 0 ≤ℤ (c +ℤ pos (gap * (longest - (bits_ahead input t - 1))))) (sym next) down)
       | inr off ↦

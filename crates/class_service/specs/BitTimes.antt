@@ -1,4 +1,5 @@
--- The laws of a bit time that these laws stand on, those of credit_shaper. No public contract names them.
+-- The laws of a bit time that these laws stand on, those of credit_shaper. No public contract names
+-- them.
 use Rattle.std.specs.Prelude.{◌≡◌, ℕ, suc, ◌-◌, ◌<◌, ◌≤◌, pos, List, filter, All, AllPairs}
 use Rattle.srp_base.specs.Bandwidth.{bits_of}
 use Rattle.credit_shaper.specs.declared.{shaper.Traffic.Traffic, port.Arrival.Arrival, port.PortInput.PortInput}

@@ -1,5 +1,5 @@
--- What class A and class B alike have at a port: a credit, an idleSlope, frames that wait or are on the line (IEEE
--- Std 802.1Q-2018, 8.6.8.2; whole bit times own).
+-- What class A and class B alike have at a port: a credit, an idleSlope, frames that wait or are on
+-- the line (IEEE Std 802.1Q-2018, 8.6.8.2; whole bit times own).
 use Rattle.std.specs.Prelude.{◌≡◌, ℕ, suc, ◌<◌, ◌≤◌, Bool, true, false, ◌||◌, count_by, sum_by, ℤ, pos}
 use Rattle.credit_shaper.specs.declared.{shaper.Traffic.Traffic, port.PortInput.PortInput}
 use Rattle.credit_shaper.specs.declared.shaper.Traffic.TheVariants.{A, B, Other}
@@ -23,8 +23,8 @@ slope_at input A t = slope_a_at input t
 slope_at input B t = slope_b_at input t
 slope_at input Other t = 0
 
--- whether a traffic is busy in a bit time: after the arrivals of that bit time and the start of a frame, one of its
--- frames is on the line or waits
+-- whether a traffic is busy in a bit time: after the arrivals of that bit time and the start of a
+-- frame, one of its frames is on the line or waits
 abbrev pub is_busy : PortInput → Traffic → ℕ → Bool
 is_busy input traffic t = is_on_line input traffic t || is_waiting input traffic t
 
@@ -36,7 +36,8 @@ IsBusy input traffic from to = (t : ℕ) → from ≤ t → t < to → is_busy i
 abbrev pub IsIdleBefore : PortInput → Traffic → ℕ → Type 0
 IsIdleBefore input traffic t = (k : ℕ) → suc k ≡ t → is_busy input traffic k ≡ false
 
--- in how many bit times from one to before another a frame of it is on the line: the bits that it has of the line
+-- in how many bit times from one to before another a frame of it is on the line: the bits that it
+-- has of the line
 abbrev pub bits_in : PortInput → Traffic → ℕ → ℕ → ℕ
 bits_in input traffic from to = count_by (is_on_line input traffic) (bit_times from to)
 

@@ -1,5 +1,5 @@
--- What a class's credit stays between from a bit time at which it is 0 on, by the frames and slopes since (IEEE Std
--- 802.1Q-2018, 8.6.8.2; class B's beside class A own).
+-- What a class's credit stays between from a bit time at which it is 0 on, by the frames and slopes
+-- since (IEEE Std 802.1Q-2018, 8.6.8.2; class B's beside class A own).
 use Rattle.std.specs.Prelude.{◌≡◌, ℕ, ◌+◌, ◌-◌, ◌*◌, ◌<◌, ◌≤◌, true, List, All, ℤ, pos, ◌-ℤ◌}
 use Rattle.std.specs.Int.{div_ceil}
 use Rattle.srp_base.specs.Bandwidth.{bits_of}
@@ -22,14 +22,15 @@ abbrev pub HaveMostSlopes : PortInput → ℕ → ℕ → ℕ → ℕ → Type 0
 HaveMostSlopes input most_a most_b from to =
     (t : ℕ) → from ≤ t → t < to → (slope_a_at input t ≤ most_a) × (slope_b_at input t ≤ most_b)
 
--- class B has room beside class A: class A's slope is below the rate, and both together aren't above it. Class A needs none
+-- class B has room beside class A: class A's slope is below the rate, and both together aren't
+-- above it. Class A needs none
 abbrev pub HasRoom : ℕ → ℕ → ℕ → Traffic → Type 0
 HasRoom rate most_a most_b A = Unit {0}
 HasRoom rate most_a most_b B = (most_a < rate) × (most_a + most_b ≤ rate)
 HasRoom rate most_a most_b Other = ⊥
 
--- how many bit times of its slope a class's credit rises to: the longest frame of other traffic for class A; for class B
--- that frame, and what class A sends of the credit that it has then
+-- how many bit times of its slope a class's credit rises to: the longest frame of other traffic for
+-- class A; for class B that frame, and what class A sends of the credit that it has then
 abbrev pub idle_of : ℕ → ℕ → Traffic → ℕ
 idle_of rate most_a A = 12336
 idle_of rate most_a B = div_ceil (12336 * (2 * rate - most_a)) (rate - most_a)
@@ -45,8 +46,8 @@ high_of rate most_a most_b Other = pos 0
 abbrev pub low_of : ℕ → ℕ → ℕ → ℤ
 low_of rate least longest = pos 0 -ℤ pos ((rate - least) * longest)
 
--- a stretch that begins with credit 0: the class's slope is at least this in it, no frame of the class is longer than so many
--- bits, and the slopes of A and B are at most these and leave it room
+-- a stretch that begins with credit 0: the class's slope is at least this in it, no frame of the
+-- class is longer than so many bits, and the slopes of A and B are at most these and leave it room
 pub record IsSince (input : PortInput) (traffic : Traffic) (least longest most_a most_b from to : ℕ) : Type 0 where
   pub from_zero : credit_at input traffic from ≡ pos 0
   pub frames : HasLongest traffic longest input.arrivals

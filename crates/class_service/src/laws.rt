@@ -121,14 +121,16 @@ pub fn no_credit_is_lost_since()
         → IsFresh input traffic from → from ≤ t
         → (s : ℕ) × (from ≤ s) × (s ≤ t) × LosesNone input traffic s t }
     ensures busy { (input : PortInput) (traffic : Traffic) (s t u : ℕ) → IsClass traffic → s ≤ t
-        → LosesNone input traffic s t → t ≤ u → IsBusy input traffic t u → LosesNone input traffic s u }
+        → LosesNone input traffic s t → t ≤ u → IsBusy input traffic t u
+        → LosesNone input traffic s u }
 {
     credit_laws();
 }
 
 /// A class none of whose frames arrives before a bit time is fresh there.
 pub fn a_class_without_frames_is_fresh()
-    ensures { (input : PortInput) (traffic : Traffic) (from : ℕ) → IsPortInput input → IsClass traffic
+    ensures { (input : PortInput) (traffic : Traffic) (from : ℕ) → IsPortInput input
+        → IsClass traffic
         → HasNoneBefore traffic from input.arrivals → IsFresh input traffic from }
 {
     credit_laws();
@@ -183,7 +185,8 @@ pub fn a_wait_is_owed_to_those_in_front()
     ensures fresh { (input : PortInput) (front behind : List Arrival) (x : Arrival)
         (slope slope_a from u : ℕ)
         → IsPortInput input → HasPlace input front x behind → IsClass x.traffic
-        → IsFresh input x.traffic from → from ≤ x.bit → HasOneSlope input x.traffic slope slope_a from u
+        → IsFresh input x.traffic from → from ≤ x.bit
+        → HasOneSlope input x.traffic slope slope_a from u
         → x.bit ≤ u → u ≤ input.end → HasNotStarted input front x u
         → IsWaitOwed input front x slope slope_a from u }
     ensures none_before { (input : PortInput) (front behind : List Arrival) (x : Arrival)

@@ -22,12 +22,12 @@ pub struct Service {
     pub is_busy: bool,
 }
 
-/// What class A or class B has of the window from one bit time to before another: where it is busy all along, its credit
-/// is at the end what it was, with the area, less the rate times the bits. It takes a few steps a frame, however
-/// long the run, and the one error is want of memory.
+/// What class A or class B has of the window from one bit time to before another: where it is busy
+/// all along, its credit is at the end what it was, with the area, less the rate times the bits. It
+/// takes a few steps a frame, however long the run, and the one error is want of memory.
 ///
-/// The input is as `PortInput::is_valid` tests it, the first bit time isn't after the second, and that isn't after the
-/// input's end.
+/// The input is as `PortInput::is_valid` tests it, the first bit time isn't after the second, and
+/// that isn't after the input's end.
 pub fn service_in(
     alloc: Global,
     input: &PortInput,

@@ -253,8 +253,10 @@ begins_next input gap most t valid least top b =
     step gap most (q.free_from - t) (bits_of input.rate) (slope_a_at input t) (does_send A q.line) (does_wait A q.waiting) q.shaper.credit_a
     least top (slope_a_below input t valid) stands in
     subst (λ (n : ℕ). Begins gap most n (does_send A q.line) (credit_after (bits_of q.shaper.rate) q.shaper.slope_a (does_send A q.line) (does_wait A q.waiting) q.shaper.credit_a)) less
-    (subst (λ (r : Rate). Begins gap most (q.free_from - t - 1) (does_send A q.line) (credit_after (bits_of r) q.shaper.slope_a (does_send A q.line) (does_wait A q.waiting) q.shaper.credit_a)) (sym rate)
-    (subst (λ (s : ℕ). Begins gap most (q.free_from - t - 1) (does_send A q.line) (credit_after (bits_of input.rate) s (does_send A q.line) (does_wait A q.waiting) q.shaper.credit_a)) (sym (ap (λ s. s.slope_a) is)) next))
+    (subst (λ (r : Rate). Begins gap most (q.free_from - t - 1) (does_send A q.line)
+    (credit_after (bits_of r) q.shaper.slope_a (does_send A q.line) (does_wait A q.waiting) q.shaper.credit_a)) (sym rate)
+    (subst (λ (s : ℕ). Begins gap most (q.free_from - t - 1) (does_send A q.line)
+    (credit_after (bits_of input.rate) s (does_send A q.line) (does_wait A q.waiting) q.shaper.credit_a)) (sym (ap (λ s. s.slope_a) is)) next))
 
 begins_zero : (gap most rem : ℕ) (sends : Bool) (c : ℤ) → c ≡ pos 0 → Begins gap most rem sends c
 begins_zero gap most rem sends c zero' = record { low = omega (arith, ints, zero'); high = omega (arith, ints, zero') }

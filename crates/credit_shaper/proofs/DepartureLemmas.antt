@@ -299,7 +299,9 @@ filter-without_other traffic lost (x ∷ xs) ne =
           let out : is_of traffic x ≡ false = ne_eqb (traffic_number x.traffic) (traffic_number traffic)
           (λ e. ne (sym (eqb-true (traffic_number x.traffic) (traffic_number lost) own) ∙ e)) in
           rw own (rw out refl)
-      | inr out ↦ rw out (elim (is_of traffic x) as (λ b. cond b (x ∷ filter (is_of traffic) (without_head lost xs)) (filter (is_of traffic) (without_head lost xs)) ≡ cond b (x ∷ filter (is_of traffic) xs) (filter (is_of traffic) xs)) [ true ↦ ap (λ ys. x ∷ ys) rest | false ↦ rest ])
+      | inr out ↦ rw out (elim (is_of traffic x) as
+          (λ b. cond b (x ∷ filter (is_of traffic) (without_head lost xs)) (filter (is_of traffic) (without_head lost xs)) ≡ cond b (x ∷ filter (is_of traffic) xs)
+          (filter (is_of traffic) xs)) [ true ↦ ap (λ ys. x ∷ ys) rest | false ↦ rest ])
     ]
 
 -- of these frames, those of each traffic departed in order, and the rest of them wait in order
@@ -400,7 +402,9 @@ arrivals_in (x ∷ xs) t k l =
     elim (cases_lt x.bit t) [
       | inl early ↦
           let a : nat_lt x.bit t ≡ true = lt-ltb x.bit t early in
-          rw a (elim (x.bit == k) as (λ b. cond b (x ∷ arrivals_at (arrivals_before xs t) k) (arrivals_at (arrivals_before xs t) k) ≡ cond b (x ∷ arrivals_at xs k) (arrivals_at xs k)) [ true ↦ ap (λ ys. x ∷ ys) rest | false ↦ rest ])
+          rw a (elim (x.bit == k) as
+          (λ b. cond b (x ∷ arrivals_at (arrivals_before xs t) k) (arrivals_at (arrivals_before xs t) k) ≡ cond b (x ∷ arrivals_at xs k) (arrivals_at xs k))
+          [ true ↦ ap (λ ys. x ∷ ys) rest | false ↦ rest ])
       | inr late ↦
           let a : nat_lt x.bit t ≡ false = le-ltb x.bit t late in
           let e : (x.bit == k) ≡ false = ne_eqb x.bit k (λ f. omega (arith, f, late, l)) in

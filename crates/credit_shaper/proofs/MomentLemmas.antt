@@ -84,7 +84,8 @@ filter_part p (x ∷ xs) (suc m) zero up l before in_part after = absurd (omega 
 filter_part p (x ∷ xs) (suc m) (suc n) up l before in_part after =
     let out : p x ≡ false = before 0 x (omega arith) (omega arith) in
     let rest : take n xs ≡ take m xs ++ filter p xs = filter_part p xs m n (omega (arith, up)) (omega (arith, l))
-    (λ k d a b. before (suc k) d (omega arith) (omega (arith, b))) (λ k d a b. in_part (suc k) d (omega (arith, a)) (omega (arith, b))) (λ k d a b. after (suc k) d (omega (arith, a)) (omega (arith, b))) in
+    (λ k d a b. before (suc k) d (omega arith) (omega (arith, b))) (λ k d a b. in_part (suc k) d (omega (arith, a)) (omega (arith, b)))
+    (λ k d a b. after (suc k) d (omega (arith, a)) (omega (arith, b))) in
     rw out (ap (λ ys. x ∷ ys) rest)
 
 -- the arrivals of a bit time are those between what was reached before it and by it

@@ -87,8 +87,8 @@ IsWaitAWithin input least most from to =
     DoesWaitA input from to
     → pos (area_a input from to) ≤ℤ (hi_credit most -ℤ lo_credit (bits_of input.rate) least)
 
--- no slope of class A among these changes is above the one number, and no two slopes together are above
--- the other
+-- no slope of class A among these changes is above the one number, and no two slopes together are
+-- above the other
 abbrev pub KeepCaps : ℕ → ℕ → List SlopeChange → Type 0
 KeepCaps cap_a cap_ab slopes =
     All (λ c. (c.slope_a ≤ cap_a) × (c.slope_a + c.slope_b ≤ cap_ab)) slopes

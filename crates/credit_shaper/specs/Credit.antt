@@ -17,9 +17,10 @@ abbrev pub does_send : Traffic → Line → Bool
 does_send traffic Free = false
 does_send traffic (Sends other) = traffic_number other == traffic_number traffic
 
--- a class's credit after one bit time, by whether it sends and whether it waits. It changes by sendSlope,
--- idleSlope less the rate, while a frame of the class is on the line; it rises by idleSlope while one
--- waits; else what is negative rises by idleSlope up to 0, and what is positive is set to 0
+-- a class's credit after one bit time, by whether it sends and whether it waits. It changes by
+-- sendSlope, idleSlope less the rate, while a frame of the class is on the line; it rises by
+-- idleSlope while one waits; else what is negative rises by idleSlope up to 0, and what is positive
+-- is set to 0
 abbrev pub credit_after : ℕ → ℕ → Bool → Bool → ℤ → ℤ
 credit_after rate slope true waits credit = credit +ℤ pos slope -ℤ pos rate
 credit_after rate slope false true credit = credit +ℤ pos slope

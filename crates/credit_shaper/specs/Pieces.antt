@@ -1,4 +1,5 @@
--- A run in pieces: bit times in a row that are alike, in which nothing happens but the credits' steps.
+-- A run in pieces: bit times in a row that are alike, in which nothing happens but the credits'
+-- steps.
 use Rattle.std.specs.Prelude.{◌≡◌, ℕ, ◌+◌, ◌<◌, List, [], ◌∷◌}
 use Rattle.srp_base.specs.Bandwidth.{bits_of}
 use Rattle.credit_shaper.specs.declared.{shaper.Traffic.TheVariants.A, shaper.Traffic.TheVariants.B, port.PortInput.PortInput, piece.Piece.Piece}

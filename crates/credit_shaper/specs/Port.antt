@@ -24,7 +24,8 @@ pub record AreSlopes (rate : Rate) (slopes : List SlopeChange) : Type 0 where
   pub ascend : AllPairs (λ x y. x.bit < y.bit) slopes
   pub below : All (λ c. (c.slope_a < bits_of rate) × (c.slope_b < bits_of rate)) slopes
 
--- the arrivals ascend by bit time and then by frame number, are before the end, and are of a frame's size
+-- the arrivals ascend by bit time and then by frame number, are before the end, and are of a
+-- frame's size
 pub record AreArrivals (end : ℕ) (arrivals : List Arrival) : Type 0 where
   pub ascend : AllPairs IsNotAfter arrivals
   pub in_time : All (λ x. x.bit < end) arrivals

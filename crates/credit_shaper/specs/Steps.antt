@@ -1,5 +1,5 @@
--- What goes on in one bit time: who waits, what the line does, and with what credit a frame starts (IEEE
--- Std 802.1Q-2018, 8.6.8 and 8.6.8.2; whole bit times own).
+-- What goes on in one bit time: who waits, what the line does, and with what credit a frame starts
+-- (IEEE Std 802.1Q-2018, 8.6.8 and 8.6.8.2; whole bit times own).
 --
 --     as it begins         in it, once a frame has started or not
 --     bits_left        --> bits_ahead
@@ -37,8 +37,8 @@ IsShortA input t = is_waiting input A t ≡ true → credit_a_at input t <ℤ po
 abbrev pub IsShortB : PortInput → ℕ → Type 0
 IsShortB input t = is_waiting input B t ≡ true → credit_b_at input t <ℤ pos 0
 
--- what a start of each traffic asks of the credits: of its own class that its credit isn't negative, and
--- of each class before it that it is short
+-- what a start of each traffic asks of the credits: of its own class that its credit isn't
+-- negative, and of each class before it that it is short
 abbrev pub HasTurn : PortInput → Traffic → ℕ → Type 0
 HasTurn input A t = pos 0 ≤ℤ credit_a_at input t
 HasTurn input B t = (pos 0 ≤ℤ credit_b_at input t) × IsShortA input t

@@ -5,9 +5,9 @@ use Rattle.credit_shaper.specs.declared.{shaper.Traffic.Traffic, shaper.Line.Lin
 use Rattle.credit_shaper.specs.declared.shaper.Traffic.TheVariants.{A, B, Other}
 use Rattle.credit_shaper.specs.{Credit.after_bit, Port.is_of, Port.slopes_at, Port.arrivals_at}
 
--- a port at a bit time: the frames that have arrived and not started, in order of arrival; the credits
--- with the slopes in force; what the line sends or sent last, and the bit time from which on it is free;
--- the departures so far. The three queues are the waiting frames of each traffic
+-- a port at a bit time: the frames that have arrived and not started, in order of arrival; the
+-- credits with the slopes in force; what the line sends or sent last, and the bit time from which
+-- on it is free; the departures so far. The three queues are the waiting frames of each traffic
 pub record Port : Type 0 where
   pub waiting : List Arrival
   pub shaper : Shaper
@@ -28,8 +28,8 @@ abbrev pub without_head : Traffic → List Arrival → List Arrival
 without_head traffic [] = []
 without_head traffic (x ∷ xs) = if is_of traffic x then xs else x ∷ without_head traffic xs
 
--- the traffic whose turn it is on a free line: class A where a frame of it waits and its credit isn't
--- negative, else class B alike, else the rest
+-- the traffic whose turn it is on a free line: class A where a frame of it waits and its credit
+-- isn't negative, else class B alike, else the rest
 abbrev pub turn_of : Shaper → List Arrival → Traffic
 turn_of s waiting =
     if does_wait A waiting && int_le (pos 0) s.credit_a
@@ -99,8 +99,8 @@ port_at input (suc t) = with_credits (within_bit input t (port_at input t))
 abbrev pub port_in : PortInput → ℕ → Port
 port_in input t = within_bit input t (port_at input t)
 
--- what leaves the port: the frames that start before the end, and the numbers of those that wait then,
--- in order of arrival
+-- what leaves the port: the frames that start before the end, and the numbers of those that wait
+-- then, in order of arrival
 abbrev pub departures_of : PortInput → Departures
 departures_of input =
     let p = port_at input input.end in record { sent = p.sent; left = map (λ x. x.frame) p.waiting }

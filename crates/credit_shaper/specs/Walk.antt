@@ -89,7 +89,8 @@ turn_in trace =
     then A
     else if has_frame trace B && int_le (pos 0) trace.shaper.credit_b then B else Other
 
--- the frame that starts in a trace's bit time: on a free line the first of the queue whose turn it is
+-- the frame that starts in a trace's bit time: on a free line the first of the queue whose turn it
+-- is
 abbrev pub frame_of : List Arrival → PortTrace → Option Arrival
 frame_of arrivals trace =
     let waiting = waiting_of arrivals trace in

@@ -2,8 +2,8 @@
 
 use crate::shaper::{Line, Shaper};
 
-/// Bit times in a row in which a port is alike: the line, the classes that wait and the slopes stay, and
-/// the credits go on by their steps alone.
+/// Bit times in a row in which a port is alike: the line, the classes that wait and the slopes
+/// stay, and the credits go on by their steps alone.
 #[derive(Clone, Copy)]
 pub struct Piece {
     /// The first of them.

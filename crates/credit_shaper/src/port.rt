@@ -36,7 +36,8 @@ pub struct Arrival {
 pub struct PortInput {
     /// The port's rate, which makes a bit time.
     pub rate: Rate,
-    /// The slopes, ascending strictly by bit time, the first from bit time 0 on; each is below the rate.
+    /// The slopes, ascending strictly by bit time, the first from bit time 0 on; each is below the
+    /// rate.
     pub slopes: Seq<SlopeChange>,
     /// The frames, ascending by bit time and then by number, all before the end.
     pub arrivals: Seq<Arrival>,
@@ -84,7 +85,8 @@ impl Arrival {
 impl PortInput {
     ghost use Rattle.credit_shaper.specs.Port.{IsPortInput};
 
-    /// Whether a run may be asked for: whether the slopes and the arrivals are in order and in their ranges.
+    /// Whether a run may be asked for: whether the slopes and the arrivals are in order and in
+    /// their ranges.
     pub fn is_valid(&self) -> bool
         ensures { IsTrue result ↔ IsPortInput self.now }
     {

@@ -53,8 +53,8 @@ pub struct Shaper {
 impl Shaper {
     ghost use Rattle.credit_shaper.specs.Credit.{after_bit, after_bits, IsInRange};
 
-    /// Whether a step may be asked for: whether the slopes are below the rate, and the credits within 2^100
-    /// of 0.
+    /// Whether a step may be asked for: whether the slopes are below the rate, and the credits
+    /// within 2^100 of 0.
     pub fn is_in_range(&self) -> bool
         ensures { IsTrue result ↔ IsInRange self.now }
     {
@@ -65,9 +65,9 @@ impl Shaper {
     }
 
     /// The credits after one bit time, by what the line does in it and which classes wait (IEEE Std
-    /// 802.1Q-2018, 8.6.8.2): sendSlope is added while a frame of the class is on the line, else idleSlope
-    /// while one waits; else what is negative rises by idleSlope up to 0, and what is positive is set to 0.
-    /// The slopes are below the rate, and the credits within 2^100 of 0.
+    /// 802.1Q-2018, 8.6.8.2): sendSlope is added while a frame of the class is on the line, else
+    /// idleSlope while one waits; else what is negative rises by idleSlope up to 0, and what is
+    /// positive is set to 0. The slopes are below the rate, and the credits within 2^100 of 0.
     pub fn bit_step(self, line: Line, waits_a: bool, waits_b: bool) -> Shaper
         requires { IsInRange self }
         ensures { result ≡ after_bit line waits_a waits_b self }
@@ -92,9 +92,9 @@ impl Shaper {
         }
     }
 
-    /// The credits after this many bit times, at most 2^41, in all of which the line does the same and
-    /// the same classes wait: what that many calls of `bit_step` make of them (IEEE Std 802.1Q-2018,
-    /// 8.6.8.2). The slopes are below the rate, and the credits within 2^100 of 0.
+    /// The credits after this many bit times, at most 2^41, in all of which the line does the same
+    /// and the same classes wait: what that many calls of `bit_step` make of them (IEEE Std
+    /// 802.1Q-2018, 8.6.8.2). The slopes are below the rate, and the credits within 2^100 of 0.
     #[tactic(auto, using(crate::proofs::CreditLemmas::after_bits_is))]
     pub fn jump(self, line: Line, waits_a: bool, waits_b: bool, bits: u64) -> Shaper
         requires range { IsInRange self }

@@ -11,7 +11,8 @@ use crate::shaper::{Line, Shaper, Traffic};
 use srp_base::{NoMemory, Rate, Seq};
 use std::alloc::Global;
 
-/// A port at a bit time of its run. The frames themselves stay in the input; what is sent is kept beside.
+/// A port at a bit time of its run. The frames themselves stay in the input; what is sent is kept
+/// beside.
 #[derive(Clone, Copy)]
 pub struct PortTrace {
     /// The bit time.
@@ -41,9 +42,10 @@ impl PortTrace {
     ghost use Rattle.credit_shaper.specs.Pieces.{IsPiece, ArePieces};
     ghost use Rattle.credit_shaper.specs.Walk.{AreHeads, HasReached, IsFirst, IsQuiet, IsIdle, pending, port_of, turn_in, frame_of, moved_to, piece_of};
 
-    /// What becomes of a port's frames: which start before the end, and when, in bit times, and which are
-    /// left. The input is as `PortInput::is_valid` tests it. The answer takes a few steps a frame, however
-    /// long the run, and the one error is want of memory (IEEE Std 802.1Q-2018, 8.6.8, 8.6.8.2).
+    /// What becomes of a port's frames: which start before the end, and when, in bit times, and
+    /// which are left. The input is as `PortInput::is_valid` tests it. The answer takes a few steps
+    /// a frame, however long the run, and the one error is want of memory (IEEE Std 802.1Q-2018,
+    /// 8.6.8, 8.6.8.2).
     pub fn run(alloc: Global, input: &PortInput) -> Result<Departures, NoMemory>
         requires { IsPortInput input.now }
         ensures exact { IfOk result (λ d. d ≡ departures_of input.now) }
@@ -77,9 +79,9 @@ impl PortTrace {
         })
     }
 
-    /// A run in pieces, in order and without a gap: bit times in a row in which the line, the classes that wait
-    /// and the slopes stay. They are a few for each frame, however long the run. The input is as
-    /// `PortInput::is_valid` tests it, and the one error is want of memory.
+    /// A run in pieces, in order and without a gap: bit times in a row in which the line, the
+    /// classes that wait and the slopes stay. They are a few for each frame, however long the run.
+    /// The input is as `PortInput::is_valid` tests it, and the one error is want of memory.
     pub fn pieces(alloc: Global, input: &PortInput) -> Result<Seq<Piece>, NoMemory>
         requires { IsPortInput input.now }
         ensures { IfOk result (λ ps. ArePieces input.now 0 input.now.end ps) }
@@ -265,7 +267,8 @@ impl PortTrace {
             → port_of arrivals.now (sent ++ departure_at self.bit x ∷ []) result
             ≡ sends_frame self.bit (port_of arrivals.now sent self) x }
         ensures same { result
-            ≡ record self { heads = result.heads; line = result.line; free_from = result.free_from } }
+            ≡ record self
+            { heads = result.heads; line = result.line; free_from = result.free_from } }
     {
         let after = self.heads.of(x.traffic) + 1;
         let head = first_of(arrivals, x.traffic, after, self.came);
@@ -317,8 +320,8 @@ impl PortTrace {
         }
     }
 
-    /// The next moment at which something arrives, a slope changes, or the line is free and a frame may
-    /// start; or the end.
+    /// The next moment at which something arrives, a slope changes, or the line is free and a frame
+    /// may start; or the end.
     fn next_moment(&self, input: &PortInput) -> u64
         requires input { IsPortInput input.now }
         requires bit { self.now.bit < input.now.end }
@@ -390,7 +393,8 @@ fn with_slopes(shaper: Shaper, slopes: &SlopeChange) -> Shaper
     }
 }
 
-/// After how many bit times a class's first frame may start: where its credit is 0; at most this many.
+/// After how many bit times a class's first frame may start: where its credit is 0; at most this
+/// many.
 fn bits_to_start(waits: bool, credit: i128, slope: u64, most: u64) -> u64
     requires credit { waits ≡ true → credit <ℤ pos 0 }
     requires range { IsWithin (2 ^ 100) credit }

@@ -1,5 +1,5 @@
--- How much comes to a port: bounds, the groups that keep them, and the peak of what the groups bring in over
--- what a slope takes away. Sizes are in bits × 10^12, spans in ps.
+-- How much comes to a port: bounds, the groups that keep them, and the peak of what the groups
+-- bring in over what a slope takes away. Sizes are in bits × 10^12, spans in ps.
 --
 --       of a group |            . '      first: base, and then slope by slope
 --                  |        , - -- - -   more of them: the least at each span counts

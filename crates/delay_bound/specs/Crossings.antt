@@ -1,4 +1,5 @@
--- Where the least of a group's bounds goes over from one to another, and what is known of heights there.
+-- Where the least of a group's bounds goes over from one to another, and what is known of heights
+-- there.
 use Rattle.std.specs.Prelude.{ℕ, ◌+◌, ◌-◌, ◌*◌, ◌/◌, ◌^◌, ◌<◌, ◌≤◌, List, All}
 use Rattle.delay_bound.specs.declared.bound.Bound.{Bound}
 use Rattle.delay_bound.specs.declared.bound.Group.{Group}

@@ -1,4 +1,5 @@
--- A bucket into which a stream's frames go and out of which its slope runs. No public contract names these words.
+-- A bucket into which a stream's frames go and out of which its slope runs. No public contract
+-- names these words.
 use Rattle.std.specs.Prelude.{◌≡◌, ◌+◌, ◌-◌, ◌*◌, ◌≤◌, List, [], ◌∷◌, Option, Some, None}
 use Rattle.delay_bound.specs.declared.stream.Bucket.{Bucket}
 use Rattle.delay_bound.specs.declared.stream.SentFrame.{SentFrame}
@@ -13,7 +14,8 @@ bucket_with limits bucket x =
       at = x.at.0;
     }
 
--- a frame may go into a bucket: it isn't longer than the longest, and makes it no higher than the burst
+-- a frame may go into a bucket: it isn't longer than the longest, and makes it no higher than the
+-- burst
 abbrev pub MayGoIn : StreamLimits → Bucket → SentFrame → Type 0
 MayGoIn limits bucket x =
     (x.bits ≤ limits.most) × ((bucket_with limits bucket x).level ≤ limits.burst * second)

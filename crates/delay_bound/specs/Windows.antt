@@ -1,4 +1,5 @@
--- What comes in a window of time, by the moment at which each frame is at a place; a frame that never is has none.
+-- What comes in a window of time, by the moment at which each frame is at a place; a frame that
+-- never is has none.
 use Rattle.std.specs.Prelude.{ℕ, ◌+◌, ◌-◌, ◌*◌, ◌≤◌, Bool, false, ◌&&◌, nat_le, List, [], ◌∷◌, All, filter, sum_by, Option, Some, None, if◌then◌else◌}
 use Rattle.delay_bound.specs.declared.bound.Bound.{Bound}
 use Rattle.delay_bound.specs.declared.bound.Group.{Group}
@@ -23,7 +24,8 @@ IsBoundBy bits at base slope fs =
 abbrev pub bits_from : ℕ → ℕ → List SentFrame → ℕ
 bits_from from to frames = bits_within (λ x. x.bits) (λ x. Some x.at.0) from to frames
 
--- a thing is at a second place at least some ps after it was at the first, and at most so many more, or never
+-- a thing is at a second place at least some ps after it was at the first, and at most so many
+-- more, or never
 abbrev pub ComesFrom : ℕ → ℕ → Option ℕ → Option ℕ → Type 0
 ComesFrom least gap here None = Unit {0}
 ComesFrom least gap None (Some there) = ⊥
@@ -42,9 +44,9 @@ AreGroups bits at fs (test ∷ tests) [] = ⊥
 AreGroups bits at fs (test ∷ tests) (g ∷ gs) =
     AreBoundBy bits at (filter test fs) (bounds_of g) × AreGroups bits at fs tests gs
 
--- a frame of so many bits that arrives at bit time t and hasn't started before bit time u: from a bit time s on,
--- what the slope gave is at most the bits ahead of it, at the rate, and what the class gained idle; and those bits with its
--- own are no more than some groups bring in from s to t
+-- a frame of so many bits that arrives at bit time t and hasn't started before bit time u: from a
+-- bit time s on, what the slope gave is at most the bits ahead of it, at the rate, and what the
+-- class gained idle; and those bits with its own are no more than some groups bring in from s to t
 pub record IsOwed (groups : List Group) (rate bit slope idle own ahead s t u : ℕ) : Type 0 where
   pub since : s ≤ t
   pub until : t ≤ u

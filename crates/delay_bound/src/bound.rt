@@ -5,7 +5,8 @@ ghost use Rattle.delay_bound.specs.Bounds.{given_in, least_in, bases_with};
 
 use srp_base::Seq;
 
-/// A bound of what comes to a port: over each span of so many ps no more than the base and what the slope gives.
+/// A bound of what comes to a port: over each span of so many ps no more than the base and what the
+/// slope gives.
 #[derive(Clone, Copy, PartialEq, Eq)]
 pub struct Bound {
     /// What may come at once, in bits × 10^12.
@@ -14,8 +15,8 @@ pub struct Bound {
     pub slope: u64,
 }
 
-/// The bounds of what comes to a port from one origin: the station itself, or the port of one link that sends into
-/// its node. Each of them holds.
+/// The bounds of what comes to a port from one origin: the station itself, or the port of one link
+/// that sends into its node. Each of them holds.
 #[derive(Clone, PartialEq, Eq, Drop)]
 pub struct Group {
     /// The bound of its streams by what their Talkers may send.

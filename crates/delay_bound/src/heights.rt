@@ -15,12 +15,13 @@ pub enum NoPeak {
     Large,
 }
 
-/// The peak of some groups at a port where their class has a slope, in bit/s: the least height, in bits × 10^12,
-/// with which what they bring in over each whole span of ps is at most the height and what the slope takes away. It is
-/// there where their first slopes together are at most the slope.
+/// The peak of some groups at a port where their class has a slope, in bit/s: the least height, in
+/// bits × 10^12, with which what they bring in over each whole span of ps is at most the height and
+/// what the slope takes away. It is there where their first slopes together are at most the slope.
 ///
-/// It stands at span 0 or at a crossing of two bounds of a group, at the whole span before it or behind it: so a
-/// walk over these finds it, in a few steps for each group and each of its crossings.
+/// It stands at span 0 or at a crossing of two bounds of a group, at the whole span before it or
+/// behind it: so a walk over these finds it, in a few steps for each group and each of its
+/// crossings.
 pub fn peak(groups: &[Group], slope: u64) -> Result<u128, NoPeak>
     ensures peak { IfOk result (λ height. IsPeak groups.now slope height) }
     ensures there { IsOk result

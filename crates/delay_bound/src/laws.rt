@@ -1,5 +1,5 @@
-//! What holds of bounds by numbers, whatever comes to the ports. Each is a function that does nothing; calling it
-//! brings the law to a proof.
+//! What holds of bounds by numbers, whatever comes to the ports. Each is a function that does
+//! nothing; calling it brings the law to a proof.
 
 ghost use Rattle.std.specs.Prelude.{◌≡◌, ℕ, ◌+◌, ◌-◌, ◌*◌, ◌<◌, ◌≤◌, Bool, true, List, Option, All, Any, sum_by, filter};
 ghost use Rattle.delay_bound.specs.declared.bound.Group.{Group};
@@ -9,7 +9,8 @@ ghost use Rattle.delay_bound.specs.Frames.{Keep, ComeOn};
 ghost use Rattle.delay_bound.specs.Waits.{wait_of};
 ghost use Rattle.delay_bound.specs.Windows.{bits_within, IsBoundBy, bits_from, ComesFrom, AreGroups, IsOwed};
 
-/// A frame waits no longer than `wait`, and a longer one less by at least what it is longer than the least.
+/// A frame waits no longer than `wait`, and a longer one less by at least what it is longer than
+/// the least.
 pub fn a_wait_is_within()
     ensures { (groups : List Group) (rate bit slope idle height least own ahead s t u : ℕ)
         → IsPeak groups slope height → rate * bit ≡ second → 0 < slope → slope ≤ rate → least ≤ own
@@ -26,8 +27,8 @@ pub fn groups_bring_no_more<F>()
         ≤ brought_in groups (to - from) }
 {}
 
-/// Where each of some things passes the test of a group, what comes in a window is at most what comes of the groups
-/// together.
+/// Where each of some things passes the test of a group, what comes in a window is at most what
+/// comes of the groups together.
 pub fn each_comes_in_a_group<F>()
     ensures { (bits : F → ℕ) (at : F → Option ℕ) (tests : List (F → Bool)) (fs : List F)
         (from to : ℕ)
@@ -36,8 +37,8 @@ pub fn each_comes_in_a_group<F>()
         ≤ sum_by (λ test. bits_within bits at from to (filter test fs)) tests }
 {}
 
-/// Frames that keep a base and a slope keep them at a further place, with what the slope gives in the time by which two
-/// of them may have moved towards each other.
+/// Frames that keep a base and a slope keep them at a further place, with what the slope gives in
+/// the time by which two of them may have moved towards each other.
 pub fn a_stream_is_handed_on()
     ensures { (base slope least gap : ℕ) (xs ys : List SentFrame) → Keep base slope xs
         → ComeOn least gap xs ys
@@ -50,8 +51,8 @@ pub fn a_stream_brings_no_more()
         → bits_from from to xs * second ≤ base + slope * (to - from) }
 {}
 
-/// The same by windows, in whatever order things come: a bound holds at a further place, with what the slope gives in
-/// the time by which two of them may have moved towards each other.
+/// The same by windows, in whatever order things come: a bound holds at a further place, with what
+/// the slope gives in the time by which two of them may have moved towards each other.
 pub fn a_bound_is_handed_on<F>()
     ensures { (bits : F → ℕ) (here there : F → Option ℕ) (base slope least gap : ℕ) (fs : List F)
         → IsBoundBy bits here base slope fs → All (λ f. ComesFrom least gap (here f) (there f)) fs

@@ -7,7 +7,8 @@ ghost use Rattle.delay_bound.specs.Levels.{IsNext};
 
 use srp_base::Ps;
 
-/// What a Talker may send of a stream (IEEE Std 802.1Q-2018, 35.2.2.8.4: the TSpec, in bits on the line).
+/// What a Talker may send of a stream (IEEE Std 802.1Q-2018, 35.2.2.8.4: the TSpec, in bits on the
+/// line).
 #[derive(Clone, Copy, PartialEq, Eq)]
 pub struct StreamLimits {
     /// The bits of its longest frame.
@@ -39,9 +40,10 @@ pub fn are_in_order(frames: &[SentFrame]) -> bool
     true
 }
 
-/// Whether a stream's frames, in order of moment, conform to its limits: none is longer than the longest, and from each
-/// of them through itself or a later one the bits of both and of those between are at most the burst and what the
-/// slope gives between the two moments. It is exact, and reads each frame once.
+/// Whether a stream's frames, in order of moment, conform to its limits: none is longer than the
+/// longest, and from each of them through itself or a later one the bits of both and of those
+/// between are at most the burst and what the slope gives between the two moments. It is exact, and
+/// reads each frame once.
 pub fn conforms(limits: &StreamLimits, frames: &[SentFrame]) -> bool
     requires { IsInOrder frames.now }
     ensures { IsTrue result ↔ DoConform limits.now frames.now }
@@ -56,8 +58,8 @@ pub fn conforms(limits: &StreamLimits, frames: &[SentFrame]) -> bool
     true
 }
 
-/// A bucket into which a stream's frames go and out of which its slope runs: the most that any frames next to each
-/// other up to now have over what the slope gave since the first of them.
+/// A bucket into which a stream's frames go and out of which its slope runs: the most that any
+/// frames next to each other up to now have over what the slope gave since the first of them.
 #[derive(Clone, Copy)]
 pub(crate) struct Bucket {
     /// In bits × 10^12.
@@ -67,8 +69,8 @@ pub(crate) struct Bucket {
 }
 
 impl Bucket {
-    /// The bucket with one frame more; None where the frame is longer than the longest, or makes it higher than the
-    /// burst.
+    /// The bucket with one frame more; None where the frame is longer than the longest, or makes it
+    /// higher than the burst.
     fn with(self, limits: &StreamLimits, frame: &SentFrame) -> Option<Bucket>
         requires { self.level ≤ limits.now.burst * second }
         ensures { IsNext limits.now self frame.now result }

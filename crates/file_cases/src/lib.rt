@@ -6,8 +6,9 @@
 //! scenario   topology_file
 //! ```
 //!
-//! The crate has tests alone, called as a user calls. To add one: a test in the file of its crate. What a file shows is better
-//! shown by a file: each way to break a rule is one of `examples/rules/`.
+//! The crate has tests alone, called as a user calls. To add one: a test in the file of its crate.
+//! What a file shows is better shown by a file: each way to break a rule is one of
+//! `examples/rules/`.
 #![tactic(auto)]
 
 #[cfg(test)]

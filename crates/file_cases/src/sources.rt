@@ -28,7 +28,8 @@ fn five_octets(alloc: Global, step: usize, fails: u64) -> Result<MemSource, NoMe
     Ok(MemSource::new(bytes, step.max(1), fails))
 }
 
-/// Whether reading five octets ends so, in steps of so many, with a fault at this read, within a limit.
+/// Whether reading five octets ends so, in steps of so many, with a fault at this read, within a
+/// limit.
 fn reads_five(
     alloc: Global,
     step: usize,
@@ -74,7 +75,8 @@ fn takes(sink: &mut MemSink, want: Result<(), WriteErr>, held: &[u8]) -> bool {
     write_whole(sink, b"hello") == want && sink.bytes() == held
 }
 
-/// Whether writing `hello` in steps of so many, with a fault at this write, ends so and leaves this.
+/// Whether writing `hello` in steps of so many, with a fault at this write, ends so and leaves
+/// this.
 fn writes(alloc: Global, step: usize, fails: u64, want: Result<(), WriteErr>, held: &[u8]) -> bool {
     match vec![in alloc; fails] {
         Ok(fails) => takes(&mut MemSink::new(alloc, step.max(1), fails), want, held),

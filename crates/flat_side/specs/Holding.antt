@@ -4,8 +4,9 @@ use Rattle.mrp_participant.specs.State.{Holding}
 use Rattle.attribute_propagation.specs.{Dirty.KeySet, Ports.HasRoom, Ports.keys_at, Ports.keys_in}
 use Rattle.flat_side.specs.{Part.Part, Side.FlatState}
 
--- the state of a side, and the place of the link port at which it is ready, if it is at one: there timers fire and keys
--- settle without memory being taken. What a side does is said of its state alone.
+-- the state of a side, and the place of the link port at which it is ready, if it is at one: there
+-- timers fire and keys settle without memory being taken. What a side does is said of its state
+-- alone.
 pub record SideHolding (K : Type 0) : Type 0 where
   pub state : FlatState K
   pub ready : Option ℕ
@@ -22,8 +23,8 @@ parts_in parts = map (λ p. p.state) parts
 abbrev pub flat_of : {K : Type 0} → List (PartHolding K) → List (KeySet K) → List K → FlatState K
 flat_of parts sets own = record { parts = parts_in parts; awaiting = keys_in sets; own = own }
 
--- the memory is taken for all that a port's timers and so many awaiting keys do: the participant is ready, has room for
--- as many rows, and at each port there is room for the keys of all rows
+-- the memory is taken for all that a port's timers and so many awaiting keys do: the participant is
+-- ready, has room for as many rows, and at each port there is room for the keys of all rows
 pub record HasPortRoom {K : Type 0} (waiting : ℕ) (sets : List (KeySet K)) (part : PartHolding K) : Type 0 where
   pub fires : part.ready ≡ true
   pub settles : waiting ≤ part.spare

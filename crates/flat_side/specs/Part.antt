@@ -1,5 +1,5 @@
--- The participant at a port of an application whose attributes are keys without content (IEEE Std 802.1Q-2018, 11.2.3,
--- 10.12.1).
+-- The participant at a port of an application whose attributes are keys without content (IEEE Std
+-- 802.1Q-2018, 11.2.3, 10.12.1).
 use Rattle.std.specs.Prelude.{Bool, true, List, map, fold, if◌then◌else◌}
 use Rattle.std.specs.{declared.cmp.Ordering.Ordering, Option.is_some}
 use Rattle.srp_base.specs.declared.{numbers.Cs.Cs, mrp.MrpEvent.MrpEvent}

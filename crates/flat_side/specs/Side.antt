@@ -1,5 +1,5 @@
--- An application at a node whose attributes go everywhere (IEEE Std 802.1Q-2018, 10.3): its state, and the state after
--- each call.
+-- An application at a node whose attributes go everywhere (IEEE Std 802.1Q-2018, 10.3): its state,
+-- and the state after each call.
 use Rattle.std.specs.Prelude.{◌≡◌, ◌⊎◌, ℕ, suc, Bool, true, false, ◌&&◌, ◌||◌, if◌then◌else◌, List, [], ◌∷◌, length, map, Option, Some, None, slice_get, slice_set, Contains, Result, Ok, Err, IfSome}
 use Rattle.std.specs.{declared.cmp.Ordering.Ordering, List.AllByRecursion, List.list_all, List.list_any}
 use Rattle.srp_base.specs.declared.{numbers.Cs.Cs, mrp.MrpEvent.MrpEvent, ports.PortSetup.PortSetup, memory.NoMemory.NoMemory}
@@ -9,8 +9,8 @@ use Rattle.mrp_participant.specs.{Lookup.find, Row.is_leaving_in, State.AreRows,
 use Rattle.attribute_propagation.specs.{Dirty.IsAscending, Dirty.is_awaiting, Dirty.with_key, Dirty.without_key, Flat.elsewhere, Ports.count_of, Ports.keys_at, Ports.marked_elsewhere, Ports.marked_everywhere, Ports.new_sets, Ports.none_awaits, Ports.some_awaits}
 use Rattle.flat_side.specs.{Part.Part, Part.same_content, Part.key_events, Part.received_part, Part.told_by_receipt, Part.declares, Part.registers, Part.settled_part, Codec.Codec, Codec.IsWritten}
 
--- the participants of the link ports, in the order of the ports; the keys that await settling at each, ascending; and
--- the keys that the application declares, ascending
+-- the participants of the link ports, in the order of the ports; the keys that await settling at
+-- each, ascending; and the keys that the application declares, ascending
 pub record FlatState (K : Type 0) : Type 0 where
   pub parts : List (Part K)
   pub awaiting : List (List K)
@@ -46,7 +46,8 @@ module _ {K : Type 0} where
   new_flat leave_time periodic ports =
       record { parts = map (λ p. new_state p.period leave_time periodic) ports; awaiting = new_sets ports; own = [] }
 
-  -- the LeaveAll timer has fired at a place: the LeaveAll machine is Active, and the timer restarts (10.7.9)
+  -- the LeaveAll timer has fired at a place: the LeaveAll machine is Active, and the timer restarts
+  -- (10.7.9)
   abbrev pub leave_all_flat : Cs → ℕ → FlatState K → FlatState K
   leave_all_flat now at side = at_part at (λ s. with_part_at at (leave_all_state now s) side) side
 
@@ -77,7 +78,8 @@ module _ {K : Type 0} (cmp : K → K → Ordering) where
   abbrev pub places_of : K → List K → List (Part K) → List Bool
   places_of key own parts = is_awaiting cmp key own ∷ map (registers cmp key) parts
 
-  -- the flat rule at a place: a port other than the one there, or the application, has the key registered
+  -- the flat rule at a place: a port other than the one there, or the application, has the key
+  -- registered
   abbrev pub rule_at : ℕ → List K → List (Part K) → K → Bool
   rule_at at own parts key = elsewhere (suc at) (places_of key own parts)
 
@@ -92,7 +94,8 @@ module _ {K : Type 0} (cmp : K → K → Ordering) where
   with_told_part at s keys side =
       record side { parts = slice_set side.parts at s; awaiting = marked_elsewhere cmp at keys side.awaiting }
 
-  -- the participant at a place received a PDU, and the keys whose registration that changed await at every other port
+  -- the participant at a place received a PDU, and the keys whose registration that changed await
+  -- at every other port
   abbrev pub received_flat : Cs → ℕ → Bool → List (MrpEvent × K) → FlatState K → FlatState K
   received_flat now at leave_all events side =
       at_part at
@@ -115,11 +118,13 @@ module _ {K : Type 0} (cmp : K → K → Ordering) where
   abbrev pub left_key : K → Part K → List K
   left_key key s = if is_leaving_in (find cmp key s.rows) then key ∷ [] else []
 
-  -- the leave timer of one key has ended at a place, and where the key left, it awaits at every other port
+  -- the leave timer of one key has ended at a place, and where the key left, it awaits at every
+  -- other port
   abbrev pub left_flat : ℕ → K → FlatState K → FlatState K
   left_flat at key side = at_part at (λ s. with_told_part at (left_state cmp key s) (left_key key s) side) side
 
-  -- the participant at a place has sent its PDU, of which some octets are stated, and some of each key
+  -- the participant at a place has sent its PDU, of which some octets are stated, and some of each
+  -- key
   abbrev pub sent_flat : ℕ → (Unit {0} → ℕ) → Cs → ℕ → FlatState K → FlatState K
   sent_flat base octets now at side = at_part at (λ s. with_part_at at (sent_state base octets cmp now s) side) side
 
@@ -135,7 +140,8 @@ module _ {K : Type 0} (cmp : K → K → Ordering) where
     awaiting = slice_set side.awaiting at [];
   }) side
 
-  -- the application declares a key or withdraws it; where that changes, the key awaits at every port
+  -- the application declares a key or withdraws it; where that changes, the key awaits at every
+  -- port
   abbrev pub requested_flat : K → Bool → FlatState K → FlatState K
   requested_flat key true side =
       if has_own key side then side
@@ -153,7 +159,8 @@ module _ {K : Type 0} (cmp : K → K → Ordering) where
       (s : Part K) (keys : List K) (key : K) → slice_get side.parts at ≡ Some s → slice_get side.awaiting at ≡ Some keys
       → is_awaiting cmp key keys ≡ false → declares cmp key s ≡ is_flat side at key
 
-  -- what every side keeps: participants' rows, a set of awaiting keys for each, its own keys ascending, and the flat rule
+  -- what every side keeps: participants' rows, a set of awaiting keys for each, its own keys
+  -- ascending, and the flat rule
   pub record IsKept (side : FlatState K) : Type 0 where
     pub rows : AllByRecursion (λ s. AreRows cmp s.rows) side.parts
     pub ports : length side.awaiting ≡ length side.parts
@@ -162,7 +169,8 @@ module _ {K : Type 0} (cmp : K → K → Ordering) where
 
   -- ---- what the calls answer
 
-  -- the PDU that is sent: a LeaveAll where the LeaveAll machine is Active, and what those rows say that find room in it
+  -- the PDU that is sent: a LeaveAll where the LeaveAll machine is Active, and what those rows say
+  -- that find room in it
   abbrev pub pdu_sent : {Pdu : Type 0} → Codec K Pdu → ℕ → (Unit {0} → ℕ) → Cs → Part K → Pdu
   pdu_sent codec base octets now s = codec.pdu_of (is_active s.leave_all) (key_events (sent_events base octets cmp now s))
 

@@ -10,8 +10,8 @@ use mrpdu_codec::DecodeErr;
 use srp_base::{MrpEvent, NoMemory, Seq};
 use std::alloc::Global;
 
-/// An application of MRP whose attributes have no content, and of which a port declares what another has registered
-/// (IEEE Std 802.1Q-2018, 10.3): MVRP and MMRP.
+/// An application of MRP whose attributes have no content, and of which a port declares what
+/// another has registered (IEEE Std 802.1Q-2018, 10.3): MVRP and MMRP.
 pub trait FlatApp: MrpApp<Content = ()> {
     /// What a PDU of the application says.
     type Pdu: Drop;

@@ -21,10 +21,10 @@ use srp_base::{Cs, MrpEvent, NoMemory, PortNo, Seq};
 use std::alloc::{AllocError, Global};
 
 impl<A: FlatApp> FlatSide<A> {
-    /// Makes the side ready at a link port: afterwards `due` and `settle` of that port take no memory, and all else is
-    /// as before. Each call that changes the side ends its readiness; `due`, `settle`, `send` and `request` leave it
-    /// where they change nothing. After want of memory, which comes only where the side isn't ready at the port, it is
-    /// ready nowhere.
+    /// Makes the side ready at a link port: afterwards `due` and `settle` of that port take no
+    /// memory, and all else is as before. Each call that changes the side ends its readiness;
+    /// `due`, `settle`, `send` and `request` leave it where they change nothing. After want of
+    /// memory, which comes only where the side isn't ready at the port, it is ready nowhere.
     pub fn room(&mut self, port: PortNo) -> Result<(), NoMemory>
         requires { IsLinkPort port (length self.old.state.parts) }
         ensures state { self.new.state ≡ self.old.state }
@@ -42,9 +42,9 @@ impl<A: FlatApp> FlatSide<A> {
         Ok(())
     }
 
-    /// Takes the octets of a PDU that came in at a link port at the moment `now`, in cs and below 2^62: its
-    /// LeaveAll first, then its events in order (IEEE Std 802.1Q-2018, 10.7.5). Answers the number of its
-    /// events. Keys whose registration changes await at every other link port.
+    /// Takes the octets of a PDU that came in at a link port at the moment `now`, in cs and below
+    /// 2^62: its LeaveAll first, then its events in order (IEEE Std 802.1Q-2018, 10.7.5). Answers
+    /// the number of its events. Keys whose registration changes await at every other link port.
     ///
     /// # Errors
     ///
@@ -90,10 +90,10 @@ impl<A: FlatApp> FlatSide<A> {
         receive_at(&mut self.parts, &mut self.awaiting, at, now, &msgs)
     }
 
-    /// Fires the timers of a link port that are due at the moment `now`, in cs and below 2^62 (IEEE Std
-    /// 802.1Q-2018, 10.7.4). Answers their number. Keys that leave await at every other link port. Want of memory
-    /// comes only where a timer is due and the side isn't ready at the port. Where none is due nothing changes,
-    /// readiness either.
+    /// Fires the timers of a link port that are due at the moment `now`, in cs and below 2^62 (IEEE
+    /// Std 802.1Q-2018, 10.7.4). Answers their number. Keys that leave await at every other link
+    /// port. Want of memory comes only where a timer is due and the side isn't ready at the port.
+    /// Where none is due nothing changes, readiness either.
     pub fn due(&mut self, now: Cs, port: PortNo) -> Result<u32, NoMemory>
         requires now { now.0 < 2 ^ 62 }
         requires port { IsLinkPort port (length self.old.state.parts) }
@@ -137,9 +137,9 @@ impl<A: FlatApp> FlatSide<A> {
         fired
     }
 
-    /// Ends the leave timer of one key at a link port, whatever the moment: LV becomes MT, and the key awaits
-    /// at every other link port. True exactly where the registrar was LV; where it wasn't, nothing changes, and no
-    /// memory is taken. It ends readiness.
+    /// Ends the leave timer of one key at a link port, whatever the moment: LV becomes MT, and the
+    /// key awaits at every other link port. True exactly where the registrar was LV; where it
+    /// wasn't, nothing changes, and no memory is taken. It ends readiness.
     pub fn leave_now(&mut self, port: PortNo, key: A::Key) -> Result<bool, NoMemory>
         requires { IsLinkPort port (length self.old.state.parts) }
         ensures after { OnOk result (self.new.state
@@ -161,8 +161,9 @@ impl<A: FlatApp> FlatSide<A> {
         Ok(leave_at(&mut self.parts, &mut self.awaiting, at, key, keys))
     }
 
-    /// Fires the LeaveAll timer of a link port at the moment `now`, in cs and below 2^62, whatever its own
-    /// moment: the machine is Active, and the timer starts anew (IEEE Std 802.1Q-2018, 10.7.9).
+    /// Fires the LeaveAll timer of a link port at the moment `now`, in cs and below 2^62, whatever
+    /// its own moment: the machine is Active, and the timer starts anew (IEEE Std 802.1Q-2018,
+    /// 10.7.9).
     pub fn leaveall_now(&mut self, now: Cs, port: PortNo)
         requires now { now.0 < 2 ^ 62 }
         requires port { IsLinkPort port (length self.old.state.parts) }
@@ -174,8 +175,8 @@ impl<A: FlatApp> FlatSide<A> {
         self.ready = None;
     }
 
-    /// Gives the periodic event to each key of a link port, also where periodic transmission is off (IEEE Std
-    /// 802.1Q-2018, 10.7.10).
+    /// Gives the periodic event to each key of a link port, also where periodic transmission is off
+    /// (IEEE Std 802.1Q-2018, 10.7.10).
     pub fn periodic_now(&mut self, port: PortNo)
         requires { IsLinkPort port (length self.old.state.parts) }
         ensures after { self.new.state ≡ periodic_flat (place_of port) self.old.state }
@@ -197,9 +198,9 @@ impl<A: FlatApp> FlatSide<A> {
         self.ready = None;
     }
 
-    /// Declares a key for the application where `declared` is true, and else withdraws it. Where that changes what
-    /// the application declares, the key awaits at every link port; where it doesn't, nothing changes, readiness
-    /// either, and no memory is taken.
+    /// Declares a key for the application where `declared` is true, and else withdraws it. Where
+    /// that changes what the application declares, the key awaits at every link port; where it
+    /// doesn't, nothing changes, readiness either, and no memory is taken.
     pub fn request(&mut self, key: A::Key, declared: bool) -> Result<(), NoMemory>
         ensures ok { OnOk result (self.new.state
             ≡ requested_flat A.Key.cmp key declared self.old.state) }
@@ -238,7 +239,8 @@ fn agree(one: bool, other: bool) -> bool
     one == other
 }
 
-// A key is declared, or withdrawn, and awaits at every port. After want of memory all are as they were.
+// A key is declared, or withdrawn, and awaits at every port. After want of memory all are as they
+// were.
 fn ask<K: Copy + Ord>(
     sets: &mut Vec<Dirty<K>>,
     own: &mut Dirty<K>,

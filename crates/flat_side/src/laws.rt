@@ -1,5 +1,5 @@
-//! What a flat side keeps at each call, and what it sends: laws over the states that contracts see. Each is a function
-//! that does nothing; calling it brings the law to a proof.
+//! What a flat side keeps at each call, and what it sends: laws over the states that contracts see.
+//! Each is a function that does nothing; calling it brings the law to a proof.
 
 ghost use Rattle.std.specs.Prelude.{◌≡◌, ℕ, Bool, false, List};
 ghost use Rattle.srp_base.specs.declared.{mrp.MrpEvent.MrpEvent, numbers.Cs.Cs, ports.PortSetup.PortSetup};
@@ -120,7 +120,8 @@ pub fn settling_and_requests_keep_a_side_proper<A: FlatApp>()
     what_is_asked_holds::<A>();
 }
 
-/// What a participant sends, where it isn't silent, can be written, and is of the application's keys.
+/// What a participant sends, where it isn't silent, can be written, and is of the application's
+/// keys.
 pub fn what_is_sent_can_be_written<A: FlatApp>()
     ensures fitting { (now : Cs) (s : Part A.Key) → AreRows A.Key.cmp s.rows
         → is_silent s ≡ false

@@ -1,5 +1,5 @@
-//! What the participant at a place does, in its place, and what it tells the ports. None of this takes memory but what
-//! answers that there was none.
+//! What the participant at a place does, in its place, and what it tells the ports. None of this
+//! takes memory but what answers that there was none.
 
 ghost use Rattle.std.specs.Prelude.{◌≡◌, ◌≤◌, ◌<◌, ◌^◌, true, false, List, length, slice_get, IfOk, IfSome, IsOk, OnOk, OnErr};
 ghost use Rattle.std.specs.List.{AllByRecursion};
@@ -18,7 +18,8 @@ use srp_base::{Cs, NoMemory, Seq};
 
 // ---- room
 
-/// Takes the memory for all that the timers and the awaiting keys of the port at a place do. No state changes.
+/// Takes the memory for all that the timers and the awaiting keys of the port at a place do. No
+/// state changes.
 pub(crate) fn room_at<A: FlatApp>(
     parts: &mut Vec<Participant<A>>,
     sets: &mut Vec<Dirty<A::Key>>,
@@ -47,8 +48,8 @@ fn part_room<A: FlatApp>(part: &mut Participant<A>, waiting: usize) -> Result<us
     Ok(part.rows())
 }
 
-/// Takes the memory for what the end of a key's leave timer tells. Answers the keys that are told: the key where its
-/// registrar is LV, and else none, and then no memory is taken.
+/// Takes the memory for what the end of a key's leave timer tells. Answers the keys that are told:
+/// the key where its registrar is LV, and else none, and then no memory is taken.
 #[tactic(auto, using(crate::proofs::Changing::no_room))]
 pub(crate) fn leave_room<A: FlatApp>(
     sets: &mut Vec<Dirty<A::Key>>,
@@ -119,8 +120,8 @@ pub(crate) fn sent_at<A: FlatApp>(parts: &mut Vec<Participant<A>>, at: usize, no
 
 // ---- what tells the other ports
 
-/// The participant at a place receives messages, and the keys whose registration that changes await at every other
-/// port. After want of memory all are as they were.
+/// The participant at a place receives messages, and the keys whose registration that changes await
+/// at every other port. After want of memory all are as they were.
 pub(crate) fn receive_at<A: FlatApp>(
     parts: &mut Vec<Participant<A>>,
     sets: &mut Vec<Dirty<A::Key>>,
@@ -144,8 +145,8 @@ pub(crate) fn receive_at<A: FlatApp>(
     Ok(())
 }
 
-/// The timers that are due at a place fire, and the keys that leave await at every other port. There is room for them.
-/// Answers how many fired.
+/// The timers that are due at a place fire, and the keys that leave await at every other port.
+/// There is room for them. Answers how many fired.
 pub(crate) fn fire_at<A: FlatApp>(
     parts: &mut Vec<Participant<A>>,
     sets: &mut Vec<Dirty<A::Key>>,
@@ -180,8 +181,8 @@ fn fired<A: FlatApp>(part: &mut Participant<A>, now: Cs) -> (u32, Seq<A::Key>)
     }
 }
 
-/// The leave timer of one key ends at a place, and the keys that leave, it or none, await at every other port. There is
-/// room for them. True exactly where its registrar was LV.
+/// The leave timer of one key ends at a place, and the keys that leave, it or none, await at every
+/// other port. There is room for them. True exactly where its registrar was LV.
 pub(crate) fn leave_at<A: FlatApp>(
     parts: &mut Vec<Participant<A>>,
     sets: &mut Vec<Dirty<A::Key>>,

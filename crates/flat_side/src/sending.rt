@@ -16,9 +16,9 @@ use srp_base::{Cs, MrpEvent, NoMemory, PortNo, Seq};
 use std::alloc::{AllocError, Global};
 
 impl<A: FlatApp> FlatSide<A> {
-    /// What a link port sends at the moment `now`, in cs and below 2^62: the octets of its PDU, at most 1,500
-    /// (IEEE Std 802.1Q-2018, 10.7.6, 10.8). None exactly where its participant has nothing to say; nothing
-    /// changes then, readiness either, and no memory is taken.
+    /// What a link port sends at the moment `now`, in cs and below 2^62: the octets of its PDU, at
+    /// most 1,500 (IEEE Std 802.1Q-2018, 10.7.6, 10.8). None exactly where its participant has
+    /// nothing to say; nothing changes then, readiness either, and no memory is taken.
     pub fn send(&mut self, now: Cs, port: PortNo) -> Result<Option<Seq<u8>>, NoMemory>
         requires now { now.0 < 2 ^ 62 }
         requires port { IsLinkPort port (length self.old.state.parts) }

@@ -16,11 +16,11 @@ use mrp_participant::Participant;
 use srp_base::{Cs, NoMemory, PortNo};
 
 impl<A: FlatApp> FlatSide<A> {
-    /// Settles the keys that await at a link port, ascending: each is declared there where another port or the
-    /// application has it registered, and else withdrawn (IEEE Std 802.1Q-2018, 10.3, 11.2). Answers how many
-    /// awaited; none does afterwards. `now` isn't looked at: keys settle alike at every moment. Want of memory comes
-    /// only where the side isn't ready at the port and some key awaits there. Where none awaits nothing changes,
-    /// readiness either.
+    /// Settles the keys that await at a link port, ascending: each is declared there where another
+    /// port or the application has it registered, and else withdrawn (IEEE Std 802.1Q-2018, 10.3,
+    /// 11.2). Answers how many awaited; none does afterwards. `now` isn't looked at: keys settle
+    /// alike at every moment. Want of memory comes only where the side isn't ready at the port and
+    /// some key awaits there. Where none awaits nothing changes, readiness either.
     pub fn settle(&mut self, now: Cs, port: PortNo) -> Result<u32, NoMemory>
         requires now { now.0 < 2 ^ 62 }
         requires port { IsLinkPort port (length self.old.state.parts) }
@@ -59,8 +59,8 @@ impl<A: FlatApp> FlatSide<A> {
     }
 }
 
-// The keys that await at a place are settled, and none awaits there afterwards. There is room for them. Answers how many
-// there were.
+// The keys that await at a place are settled, and none awaits there afterwards. There is room for
+// them. Answers how many there were.
 fn settle_at<A: FlatApp>(
     parts: &mut Vec<Participant<A>>,
     sets: &mut Vec<Dirty<A::Key>>,
@@ -81,7 +81,8 @@ fn settle_at<A: FlatApp>(
     count
 }
 
-// These keys are settled at a place, in this order. The participant there has room for as many rows.
+// These keys are settled at a place, in this order. The participant there has room for as many
+// rows.
 fn settle_keys<A: FlatApp>(
     parts: &mut Vec<Participant<A>>,
     own: &Dirty<A::Key>,

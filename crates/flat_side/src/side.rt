@@ -15,9 +15,9 @@ use srp_base::{Cs, NoMemory, PortNo, PortSetup};
 use std::alloc::Global;
 use std::marker::Model;
 
-/// A flat application at a node (IEEE Std 802.1Q-2018, 10.3): a participant at each link port, the keys that await
-/// settling there, and the keys that the application declares. Contracts see a `SideHolding`: the `FlatState`, and the
-/// link port at which the side is ready, if it is at one.
+/// A flat application at a node (IEEE Std 802.1Q-2018, 10.3): a participant at each link port, the
+/// keys that await settling there, and the keys that the application declares. Contracts see a
+/// `SideHolding`: the `FlatState`, and the link port at which the side is ready, if it is at one.
 #[derive(Drop)]
 pub struct FlatSide<A: FlatApp> {
     pub(crate) parts: Vec<Participant<A>>,
@@ -43,8 +43,8 @@ impl<A: FlatApp> Model for FlatSide<A> {
 }
 
 impl<A: FlatApp> FlatSide<A> {
-    /// The side of a node with these link ports: no key is declared or registered, none awaits. LeaveTime
-    /// and each port's period are 1 to 10,000 cs. It is ready nowhere.
+    /// The side of a node with these link ports: no key is declared or registered, none awaits.
+    /// LeaveTime and each port's period are 1 to 10,000 cs. It is ready nowhere.
     pub fn new(
         alloc: Global,
         leave_time: Cs,
@@ -66,8 +66,8 @@ impl<A: FlatApp> FlatSide<A> {
         })
     }
 
-    /// What every side keeps: at each port each key that doesn't await is declared exactly where another
-    /// port or the application has it registered. It is a law, and does nothing.
+    /// What every side keeps: at each port each key that doesn't await is declared exactly where
+    /// another port or the application has it registered. It is a law, and does nothing.
     pub fn keeps(&self)
         ensures { IsKept A.Key.cmp self.now.state }
     {

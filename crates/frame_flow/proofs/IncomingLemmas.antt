@@ -126,7 +126,8 @@ elsewhere-one links ticks place k r rest other =
       | inr late ↦ ap left (cond-false early (Some c) None late) ∙ sym (ap with (cond-false (goes && early) (Some copy) None (and_right goes early late)))
       | inl in_time ↦ ap left (cond-true early (Some c) None in_time)
           ∙ elim (cases_Bool goes) [
-            | inl yes_ ↦ ap (λ (o : Option FrameCopy). cons_option o [] ++ rest) (cond-true (not (k == place.at.port.0) && goes) (Some copy) None (and_from (not (k == place.at.port.0)) goes stays yes_))
+            | inl yes_ ↦ ap (λ (o : Option FrameCopy). cons_option o [] ++ rest)
+                (cond-true (not (k == place.at.port.0) && goes) (Some copy) None (and_from (not (k == place.at.port.0)) goes stays yes_))
                 ∙ sym (ap with (cond-true (goes && early) (Some copy) None (and_from goes early yes_ in_time)))
             | inr nay ↦ ap (λ (o : Option FrameCopy). cons_option o [] ++ rest) (cond-false (not (k == place.at.port.0) && goes) (Some copy) None (and_right (not (k == place.at.port.0)) goes nay))
                 ∙ sym (ap with (cond-false (goes && early) (Some copy) None (and_left goes early nay)))

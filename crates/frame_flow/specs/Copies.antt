@@ -66,8 +66,8 @@ abbrev pub handed_by : List Frame → Option PortFlow → List Reached
 handed_by frames None = []
 handed_by frames (Some x) = flat_map (λ e. handed_on frames x.input.rate e.0 e.1) x.fates
 
--- what comes to a port's node over the link of one of its ports; what comes over the port's own link
--- doesn't leave by it
+-- what comes to a port's node over the link of one of its ports; what comes over the port's own
+-- link doesn't leave by it
 abbrev pub comes_over : List Link → List Frame → List PortFlow → EgressPort → EgressPort → List Reached
 comes_over links frames flows p r =
     if is_port r p then [] else handed_by frames (flow_at flows (peer_of links r))
@@ -77,13 +77,14 @@ abbrev pub frames_reaching : List Link → List Frame → List PortFlow → Egre
 frames_reaching links frames flows p =
     sent_from frames p.node.0 ++ flat_map (comes_over links frames flows p) (ports_at links p.node.0)
 
--- whether a frame at a port's node goes on by the port: a stream's by each, one to a station by the port
--- with which the path to the station begins
+-- whether a frame at a port's node goes on by the port: a stream's by each, one to a station by the
+-- port with which the path to the station begins
 abbrev pub goes_by : List Link → EgressPort → Route → Bool
 goes_by links p (Stream stream traffic) = true
 goes_by links p (To station) = is_behind links p station.0
 
--- the copy that a frame at a port's node gives at the port, where its bit time is before the run's end
+-- the copy that a frame at a port's node gives at the port, where its bit time is before the run's
+-- end
 abbrev pub copy_of : List Link → ℕ → Place → Reached → Option FrameCopy
 copy_of links ticks place r =
     let bit = bit_from place.rate r.moment in

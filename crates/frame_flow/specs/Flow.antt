@@ -1,6 +1,6 @@
--- The flow of frames over a tree: one condition on all ports at once. Each port's copies are those that
--- the frames and the other ports' departures give it; its shaper is given those that it may send, and
--- their fates are what the shaper makes of them.
+-- The flow of frames over a tree: one condition on all ports at once. Each port's copies are those
+-- that the frames and the other ports' departures give it; its shaper is given those that it may
+-- send, and their fates are what the shaper makes of them.
 use Rattle.std.specs.Prelude.{◌≡◌, ℕ, Bool, false, not, ◌==◌, ◌&&◌, List, map, filter, find, Option, Some, None, if◌then◌else◌}
 use Rattle.srp_base.specs.declared.{bandwidth.Rate.Rate, ports.PortChange.PortChange}
 use Rattle.credit_shaper.specs.declared.{shaper.Traffic.Traffic, shaper.Traffic.TheVariants.Other, port.Arrival.Arrival, port.PortInput.PortInput, port.Departure.Departure}
@@ -10,8 +10,8 @@ use Rattle.frame_flow.specs.declared.{frame.Frame.Frame, frame.Route.Route, fram
 use Rattle.frame_flow.specs.declared.result.Fate.TheVariants.{Unbooked, NoVlan, Departed, Left}
 use Rattle.frame_flow.specs.{Moments.bits_of_ticks, Moments.tick_at, Force.changes_at, Force.in_force, Force.has_booked, Force.has_vid, Force.slopes_over, Copies.all_places, Copies.arriving}
 
--- what a flow is asked of: a tree, the rate of each of its links, what was in force at its ports, the
--- frames, and the number of ticks
+-- what a flow is asked of: a tree, the rate of each of its links, what was in force at its ports,
+-- the frames, and the number of ticks
 pub record Setting : Type 0 where
   pub tree : Topology
   pub rates : List Rate

@@ -12,8 +12,8 @@ abbrev pub IsRoute : Topology → Route → Type 0
 IsRoute tree (Stream stream traffic) = Unit {0}
 IsRoute tree (To station) = HasNode tree station.0
 
--- a frame is of a frame's size, stands before the end of so many ticks of 10^10 ps, and names nodes of
--- the tree, which are stations in use
+-- a frame is of a frame's size, stands before the end of so many ticks of 10^10 ps, and names nodes
+-- of the tree, which are stations in use
 pub record IsFrame (tree : Topology) (ticks : ℕ) (f : Frame) : Type 0 where
   pub size : IsFrameSize f.bits
   pub in_time : f.at.0 < ticks * 10000000000

@@ -1,5 +1,5 @@
--- The copies that come to a node, each with the port that it came in by, and those of them that leave by a
--- port. No public contract names these words.
+-- The copies that come to a node, each with the port that it came in by, and those of them that
+-- leave by a port. No public contract names these words.
 --
 --   frames of the station x, by port 0 --.
 --   what each port's peer sends, by k ---+--> x --> those that go by p and didn't come in by p --> in order of bit time --> p
@@ -56,14 +56,14 @@ abbrev pub AreOfSetting : Setting → List Incoming → Type 0
 AreOfSetting s copies =
     All (λ c. IsKnown s.frames c.copy.frame × IsRoute s.tree c.copy.frame.route) copies
 
--- what is gathered at a node serves a port: it is of the port's node and rate, and nothing is left out but what came in by
--- the port itself
+-- what is gathered at a node serves a port: it is of the port's node and rate, and nothing is left
+-- out but what came in by the port itself
 abbrev pub IsGatheredFor : AtNode → Place → Type 0
 IsGatheredFor at place =
     (place.at.node ≡ at.node) × (place.rate ≡ at.rate) × ((at.without.0 ≡ 0) ⊎ (at.without ≡ place.at.port))
 
--- of a node's copies those that leave by a port are, in order, those that arrive at it, for each port that they are gathered
--- for
+-- of a node's copies those that leave by a port are, in order, those that arrive at it, for each
+-- port that they are gathered for
 abbrev pub HasArriving : Setting → List PortFlow → AtNode → List Incoming → Type 0
 HasArriving s flows at copies =
     (place : Place) → HasPort s.tree place.at → IsGatheredFor at place
@@ -73,8 +73,9 @@ HasArriving s flows at copies =
 abbrev pub AreSourcesBelow : Topology → ℕ → ℕ → Type 0
 AreSourcesBelow tree level x = All (λ r. level_at tree (peer_of tree.links r) < level) (ports_at tree.links x)
 
--- a list that is kept for further ports of its node and level: it is of frames of the setting; and where no port is left out,
--- what sends into the node is of lower levels, so that the list still serves when flows of this level are put in
+-- a list that is kept for further ports of its node and level: it is of frames of the setting; and
+-- where no port is left out, what sends into the node is of lower levels, so that the list still
+-- serves when flows of this level are put in
 pub record AreKept (s : Setting) (level : ℕ) (flows : List PortFlow) (at : AtNode) (copies : List Incoming) : Type 0 where
   pub frames : AreOfSetting s copies
   pub below : at.without.0 ≡ 0 → AreSourcesBelow s.tree level at.node.0

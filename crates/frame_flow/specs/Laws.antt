@@ -47,8 +47,8 @@ pub record DepartsByArrival (x : PortFlow) : Type 0 where
 abbrev pub HasSlopes : SlopeChange → Option PortChange → Type 0
 HasSlopes e force = (e.slope_a ≡ (first_slopes force).slope_a) × (e.slope_b ≡ (first_slopes force).slope_b)
 
--- the copies that come to a port, in no order: those of its station's frames, and those that the other
--- ports' departures give
+-- the copies that come to a port, in no order: those of its station's frames, and those that the
+-- other ports' departures give
 abbrev pub coming : Setting → List PortFlow → Place → List FrameCopy
 coming s flows place =
     filter_map (copy_of s.tree.links s.ticks place) (frames_reaching s.tree.links s.frames flows place.at)

@@ -1,5 +1,5 @@
--- In which order the code goes over the ports: level by level, in each level node by node, and in the order of the links at
--- each node. No public contract names these words.
+-- In which order the code goes over the ports: level by level, in each level node by node, and in
+-- the order of the links at each node. No public contract names these words.
 use Rattle.std.specs.Prelude.{◌≡◌, ℕ, ◌<◌, ◌⊎◌, List, length, map, All}
 use Rattle.std.proofs.Common.{get_or}
 use Rattle.srp_base.specs.declared.numbers.EgressPort.{EgressPort}
@@ -28,8 +28,8 @@ abbrev pub IsDone : Setting → List Place → List PortFlow → ℕ → Type 0
 IsDone s places flows j =
     (x : PortFlow) (place : Place) → get_or flows j x ≡ port_flow s flows (get_or places j place)
 
--- a port is gone over before the one of index k at this node and level: its level is lower, or the same with a lower node, or
--- both are the same with an index j below k
+-- a port is gone over before the one of index k at this node and level: its level is lower, or the
+-- same with a lower node, or both are the same with an index j below k
 abbrev pub IsGoneOverBefore : Topology → ℕ → ℕ → ℕ → Place → ℕ → Type 0
 IsGoneOverBefore tree level node k place j =
     (level_of tree place < level)

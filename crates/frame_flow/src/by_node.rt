@@ -1,4 +1,5 @@
-//! The frames of each node, so that those of a port's station are found at once. They are kept by reference.
+//! The frames of each node, so that those of a port's station are found at once. They are kept by
+//! reference.
 
 ghost use Rattle.std.specs.Prelude.{◌≡◌, ◌+◌, ◌++◌, ◌∷◌, ◌<◌, [], length, map, replicate, slice_set, slice_index_or, IfOk, OnOk};
 ghost use Rattle.frame_flow.specs.Steps.{AreByNode};

@@ -19,8 +19,8 @@ use std::alloc::Global;
 use tree_topology::Tree;
 
 impl<'a> FlowSetting<'a> {
-    /// The copies at a node, by the flows at the ports that send into it. The list `old` is emptied and filled anew,
-    /// for the sake of its memory.
+    /// The copies at a node, by the flows at the ports that send into it. The list `old` is emptied
+    /// and filled anew, for the sake of its memory.
     pub(crate) fn copies_at(
         &self,
         flows: &[PortFlow],
@@ -76,7 +76,8 @@ impl<'a> FlowSetting<'a> {
     ) -> Result<(), NoMemory>
         requires { HasNode self.now.tree at.node.0 }
         ensures { OnOk result (copies.new.items ≡ copies.old.items
-            ++ flat_map (incoming_by self.now.tree.links self.now.frames self.now.ticks flows.now at)
+            ++ flat_map
+            (incoming_by self.now.tree.links self.now.frames self.now.ticks flows.now at)
             (range_with_len 1 (length (neighbours self.now.tree.links at.node.0)))) }
     {
         self.keeps();
@@ -151,8 +152,8 @@ impl<'a> FlowSetting<'a> {
         Ok(())
     }
 
-    /// Adds the copy of what a frame with this fate at a port of the rate `sent_at` hands on, where it has
-    /// departed.
+    /// Adds the copy of what a frame with this fate at a port of the rate `sent_at` hands on, where
+    /// it has departed.
     fn add_departed(
         &self,
         rate: Rate,
@@ -269,9 +270,10 @@ impl<'a> FlowSetting<'a> {
     }
 }
 
-/// Sorts a node's copies by bit time, ties by number, where several ports take theirs from them, for the sake of speed
-/// alone: what leaves by a port is in order then, so that none of the ports sorts it again. Those that come over one
-/// link mostly are in order, which the sort that keeps ties in place makes use of.
+/// Sorts a node's copies by bit time, ties by number, where several ports take theirs from them,
+/// for the sake of speed alone: what leaves by a port is in order then, so that none of the ports
+/// sorts it again. Those that come over one link mostly are in order, which the sort that keeps
+/// ties in place makes use of.
 fn sort_shared(at: AtNode, copies: &mut Vec<IncomingOf>) -> Result<(), NoMemory>
     ensures { IsPermutation copies.old.items copies.new.items }
 {
@@ -281,7 +283,8 @@ fn sort_shared(at: AtNode, copies: &mut Vec<IncomingOf>) -> Result<(), NoMemory>
     Ok(())
 }
 
-/// Puts copies in order of bit time, ties by number; those that are in order already are left as they stand.
+/// Puts copies in order of bit time, ties by number; those that are in order already are left as
+/// they stand.
 fn put_in_order(copies: &mut Vec<CopyOf>) -> Result<(), NoMemory>
     ensures same { IsPermutation copies.old.items copies.new.items }
     ensures order { OnOk result (IsInOrder copies.new.items) }
@@ -337,8 +340,8 @@ fn leaves_by(tree: &Tree, port: EgressPort, c: &IncomingOf) -> bool
     c.ingress() != port.port && goes_by(tree, port, c.to())
 }
 
-/// Whether a frame at a port's node goes on by the port: one that goes to a station by that with which the path to the
-/// station begins, another, whose station is 0, by each.
+/// Whether a frame at a port's node goes on by the port: one that goes to a station by that with
+/// which the path to the station begins, another, whose station is 0, by each.
 fn goes_by(tree: &Tree, at: EgressPort, to: NodeNo) -> bool
     requires port { HasPort tree.now at }
     requires station { to.0 ≢ 0 → HasNode tree.now to.0 }

@@ -12,8 +12,8 @@ use credit_shaper::SlopeChange;
 use srp_base::{EgressPort, NoMemory, PortChange, Rate, Seq, StreamId};
 use std::alloc::Global;
 
-/// How many of a port's changes have come over a stretch of bit times, so that it needn't be counted again
-/// for each copy.
+/// How many of a port's changes have come over a stretch of bit times, so that it needn't be
+/// counted again for each copy.
 #[derive(Clone, Copy)]
 pub(crate) struct InForce {
     /// How many have come.
@@ -41,7 +41,8 @@ impl InForce {
         }
     }
 
-    /// What has come by a bit time of a port's changes, which ascend: what has come so far, or what comes now.
+    /// What has come by a bit time of a port's changes, which ascend: what has come so far, or what
+    /// comes now.
     pub(crate) fn moved(self, rate: Rate, changes: &[&PortChange], bit: u64) -> InForce
         requires order { IsNonDecreasingBy (λ c. c.now.tick) changes.now }
         requires stretch { IsInForce rate changes.now self }

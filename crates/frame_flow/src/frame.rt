@@ -9,13 +9,15 @@ use std::marker::Model;
 /// Where a frame goes.
 #[derive(Clone, Copy, PartialEq, Eq)]
 pub enum Route {
-    /// A frame of a stream, with the traffic of the stream's priority: wherever the stream is booked.
+    /// A frame of a stream, with the traffic of the stream's priority: wherever the stream is
+    /// booked.
     Stream(StreamId, Traffic),
     /// A frame to a station: along the path to it. It is of no SR class.
     To(NodeNo),
 }
 
-/// A frame that a station sends. The wider fields stand first, so that a list of many frames stays small.
+/// A frame that a station sends. The wider fields stand first, so that a list of many frames stays
+/// small.
 #[derive(Clone, Copy, PartialEq, Eq)]
 pub struct Frame {
     /// The moment at which it reaches the station's own port, in ps from the run's start.
@@ -41,8 +43,8 @@ pub struct FrameCopy {
     pub frame: Frame,
 }
 
-/// A copy of a frame at a port, by a reference to the frame, so that a list of many copies stays small.
-/// Contracts see a `FrameCopy`.
+/// A copy of a frame at a port, by a reference to the frame, so that a list of many copies stays
+/// small. Contracts see a `FrameCopy`.
 #[derive(Drop)]
 pub(crate) struct CopyOf<'a> {
     bit: u64,

@@ -9,8 +9,8 @@ use srp_base::{NodeNo, PortNo, Rate};
 use std::alloc::Global;
 use std::marker::Model;
 
-/// Which copies are gathered: those at a node, in bit times of a rate, without those that came in by one port.
-/// Port 0 is none of its ports, so that then it is all.
+/// Which copies are gathered: those at a node, in bit times of a rate, without those that came in
+/// by one port. Port 0 is none of its ports, so that then it is all.
 #[derive(Clone, Copy)]
 pub(crate) struct AtNode {
     pub(crate) node: NodeNo,
@@ -19,8 +19,8 @@ pub(crate) struct AtNode {
 }
 
 impl AtNode {
-    /// Which copies to gather for a port: all that come to its node where they are shared with other ports, and
-    /// else all but those that came in by itself.
+    /// Which copies to gather for a port: all that come to its node where they are shared with
+    /// other ports, and else all but those that came in by itself.
     pub(crate) fn of_port(place: Place, is_shared: bool) -> AtNode
         ensures served { IsGatheredFor result place }
         ensures own { is_shared ≡ false → result.without ≡ place.at.port }
@@ -48,9 +48,9 @@ impl AtNode {
     }
 }
 
-/// A copy of a frame at a node, with the port that it came in by; a frame of the node's own station came in by
-/// port 0. The frame's number and its station stand beside it, so that copies are put in order and chosen without
-/// a look at each frame. Contracts see an `Incoming`.
+/// A copy of a frame at a node, with the port that it came in by; a frame of the node's own station
+/// came in by port 0. The frame's number and its station stand beside it, so that copies are put in
+/// order and chosen without a look at each frame. Contracts see an `Incoming`.
 #[derive(Drop)]
 pub(crate) struct IncomingOf<'a> {
     frame: &'a Frame,
@@ -66,7 +66,8 @@ impl<'a> Model for IncomingOf<'a> {
 
     ghost Value = { Incoming };
 
-    ghost view = { λ c. record { ingress = c.ingress.0; copy = record { bit = c.bit; frame = c.frame.now } } };
+    ghost view = { λ c. record
+        { ingress = c.ingress.0; copy = record { bit = c.bit; frame = c.frame.now } } };
 
     ghost invariant = { λ c. (c.number ≡ c.frame.now.number) × (c.to.0 ≡ station_of c.frame.now.route) };
 }

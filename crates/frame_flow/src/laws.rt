@@ -1,5 +1,5 @@
-//! What is true of every flow, over the definitions that the contract of `flow` cites. Each is a function
-//! that does nothing; calling it brings the law to a proof.
+//! What is true of every flow, over the definitions that the contract of `flow` cites. Each is a
+//! function that does nothing; calling it brings the law to a proof.
 
 ghost use Rattle.std.specs.Prelude.{◌≡◌, ℕ, ◌<◌, ◌≤◌, List, map, All, AllPairs};
 ghost use Rattle.std.specs.List.Sorted.{IsPermutation};
@@ -19,8 +19,8 @@ ghost use Rattle.frame_flow.specs.Laws.{arriving_numbers, fate_numbers, AreDiffe
 use credit_shaper::laws::{class_a_stays_within_in_every_run, frames_depart_in_order};
 use tree_topology::laws::ports;
 
-/// At most one flow fits what a flow is asked of, as what comes in over a port's own link never leaves by
-/// that port.
+/// At most one flow fits what a flow is asked of, as what comes in over a port's own link never
+/// leaves by that port.
 pub fn one_flow()
     ensures { (s : Setting) (one other : List PortFlow) → IsSound s.tree → IsFlow s one
         → IsFlow s other → one ≡ other }
@@ -35,8 +35,8 @@ pub fn a_flow_exists()
     ports();
 }
 
-/// What is in force decides a flow, and not how often the changes say it: where other changes say the same of each port in
-/// each tick, the same flow fits.
+/// What is in force decides a flow, and not how often the changes say it: where other changes say
+/// the same of each port in each tick, the same flow fits.
 pub fn what_is_in_force_decides_a_flow()
     ensures { (s : Setting) (changes : List PortChange) (flows : List PortFlow)
         → IsSound s.tree → 0 < s.ticks
@@ -47,7 +47,8 @@ pub fn what_is_in_force_decides_a_flow()
     ports();
 }
 
-/// What arrives at a port are the copies that come to it, each as often, in order of bit time, ties by number.
+/// What arrives at a port are the copies that come to it, each as often, in order of bit time, ties
+/// by number.
 pub fn copies_arrive_in_order()
     ensures order { (s : Setting) (flows : List PortFlow) (place : Place)
         → IsInOrder (arriving s.tree.links s.frames s.ticks flows place) }
@@ -56,8 +57,8 @@ pub fn copies_arrive_in_order()
         (arriving s.tree.links s.frames s.ticks flows place) }
 {}
 
-/// Each copy that arrives at a port has one fate: the numbers of the fates are those of the copies, in
-/// order of arrival, and no number stands twice at a port.
+/// Each copy that arrives at a port has one fate: the numbers of the fates are those of the copies,
+/// in order of arrival, and no number stands twice at a port.
 pub fn each_copy_has_one_fate()
     ensures each { (s : Setting) (flows : List PortFlow) → IsFlow s flows
         → map fate_numbers flows
@@ -74,17 +75,19 @@ pub fn each_input_is_valid()
         → All (λ x. IsPortInput x.input) flows }
 {}
 
-/// In each bit time of the run the slopes that a port's shaper is given are those in force in its tick.
+/// In each bit time of the run the slopes that a port's shaper is given are those in force in its
+/// tick.
 pub fn slopes_are_those_in_force()
     ensures { (s : Setting) (place : Place) (copies : List FrameCopy) (t : ℕ) → IsSetting s
         → t < bits_of_ticks place.rate s.ticks
-        → HasSlopes (slopes_at (port_input s.ticks place.rate (changes_at s.changes place.at) copies)
+        → HasSlopes
+        (slopes_at (port_input s.ticks place.rate (changes_at s.changes place.at) copies)
         t)
         (in_force (tick_at place.rate t) (changes_at s.changes place.at)) }
 {}
 
-/// The slopes that a port's shaper is given keep whatever caps the changes at the port keep: a cap on class A's
-/// slope, and one on both together.
+/// The slopes that a port's shaper is given keep whatever caps the changes at the port keep: a cap
+/// on class A's slope, and one on both together.
 pub fn inputs_keep_the_caps_of_changes()
     ensures class_a { (s : Setting) (flows : List PortFlow) (cap : EgressPort → ℕ)
         → KeepsCapsA cap s.changes → IsFlow s flows
@@ -101,8 +104,8 @@ pub fn copies_depart_in_order()
     frames_depart_in_order();
 }
 
-/// A copy departs from a port once where that is its fate there, with that start and that end, and else
-/// never.
+/// A copy departs from a port once where that is its fate there, with that start and that end, and
+/// else never.
 pub fn departed_copies_depart_once()
     ensures { (s : Setting) (flows : List PortFlow) → IsSetting s → IsSound s.tree → IsFlow s flows
         → All HasOutcomes flows }

@@ -22,12 +22,12 @@ use srp_base::{EgressPort, NoMemory, NodeNo, PortChange, Rate, Seq, Timeline};
 use std::alloc::Global;
 use tree_topology::Tree;
 
-/// The flow of frames over a tree in so many ticks of 10 ms: what each port's shaper is given, and what
-/// becomes of each copy of a frame.
+/// The flow of frames over a tree in so many ticks of 10 ms: what each port's shaper is given, and
+/// what becomes of each copy of a frame.
 ///
-/// There is one rate for each link. The frames ascend by number; each stands before the run's end, takes
-/// 336 to 12,336 bits, and names stations of the tree. The timeline's changes ascend by port and tick, and
-/// at each port both slopes together are below the rate. There are 1 to 12,000 ticks.
+/// There is one rate for each link. The frames ascend by number; each stands before the run's end,
+/// takes 336 to 12,336 bits, and names stations of the tree. The timeline's changes ascend by port
+/// and tick, and at each port both slopes together are below the rate. There are 1 to 12,000 ticks.
 pub fn flow(
     alloc: Global,
     tree: &Tree,
@@ -67,8 +67,8 @@ pub fn flow(
 }
 
 impl<'a> FlowSetting<'a> {
-    /// The flows at all ports: level by level, so that each comes after those that send into its node over its
-    /// other links.
+    /// The flows at all ports: level by level, so that each comes after those that send into its
+    /// node over its other links.
     fn flows(&self, alloc: Global) -> Result<Vec<PortFlow>, NoMemory>
         ensures { IfOk result (λ v. IsFlow self.now v.items) }
     {
@@ -104,7 +104,8 @@ impl<'a> FlowSetting<'a> {
         usize::from(self.tree.nodes()) + 1
     }
 
-    /// Puts in the flows at the ports of one level, node by node, where those of lower levels are there.
+    /// Puts in the flows at the ports of one level, node by node, where those of lower levels are
+    /// there.
     fn add_level(
         &self,
         alloc: Global,
@@ -128,7 +129,8 @@ impl<'a> FlowSetting<'a> {
         Ok(())
     }
 
-    /// Puts in the flows at a node's ports of one level, where those of lower levels and of lower nodes are there.
+    /// Puts in the flows at a node's ports of one level, where those of lower levels and of lower
+    /// nodes are there.
     fn add_node(
         &self,
         alloc: Global,
@@ -158,8 +160,9 @@ impl<'a> FlowSetting<'a> {
         Ok(())
     }
 
-    /// Whether another port of a port's node is of its level and rate. Where there is one, all that sends into the node is of
-    /// lower levels: each of the two is of a higher level than what sends into the node over another link than its own.
+    /// Whether another port of a port's node is of its level and rate. Where there is one, all that
+    /// sends into the node is of lower levels: each of the two is of a higher level than what sends
+    /// into the node over another link than its own.
     fn has_fellow(&self, places: &[Place], levels: &[usize], level: usize, place: Place) -> bool
         requires places { places.now ≡ all_places self.now.tree.links self.now.rates }
         requires levels { levels.now ≡ map (level_of self.now.tree) places.now }
@@ -176,9 +179,9 @@ impl<'a> FlowSetting<'a> {
         false
     }
 
-    /// The copies to take a port's from, in a level: those that are kept where they serve the port, and else new ones. Where
-    /// these are shared they are all that come to its node, so that they serve the node's other ports of the level and rate
-    /// as well.
+    /// The copies to take a port's from, in a level: those that are kept where they serve the port,
+    /// and else new ones. Where these are shared they are all that come to its node, so that they
+    /// serve the node's other ports of the level and rate as well.
     fn copies_for(
         &self,
         flows: &[PortFlow],

@@ -73,7 +73,8 @@ impl<'a> ByPlace<'a> {
     }
 }
 
-/// Departures in order of their frames, those of one frame in order of departure. Contracts see them.
+/// Departures in order of their frames, those of one frame in order of departure. Contracts see
+/// them.
 #[derive(Drop)]
 pub(crate) struct ByOrder {
     sent: Vec<Departure>,
@@ -110,7 +111,8 @@ impl ByOrder {
     }
 }
 
-/// The departures by frame, those of one frame in order of departure: the fates by them are the same.
+/// The departures by frame, those of one frame in order of departure: the fates by them are the
+/// same.
 fn by_frame(sent: Seq<Departure>) -> Result<Vec<Departure>, NoMemory>
     ensures order { IfOk result (λ v. IsNonDecreasingBy (λ d. d.frame) v.items) }
     ensures fates { IfOk result
@@ -133,7 +135,8 @@ fn span(sent: &[Departure]) -> (u32, usize) {
     (least, most.saturating_sub(least) as usize + 1)
 }
 
-/// The places of the first departures, from the least number on; None where a number isn't within this size.
+/// The places of the first departures, from the least number on; None where a number isn't within
+/// this size.
 fn places_of(
     alloc: Global,
     sent: &[Departure],

@@ -6,8 +6,8 @@ use srp_base::{PortChange, Rate};
 use std::marker::Model;
 use tree_topology::Tree;
 
-/// A tree, the rate of each of its links, what was in force at its ports, the frames, and the number of
-/// ticks, with the frames by node. Contracts see a `Setting`.
+/// A tree, the rate of each of its links, what was in force at its ports, the frames, and the
+/// number of ticks, with the frames by node. Contracts see a `Setting`.
 #[derive(Drop)]
 pub(crate) struct FlowSetting<'a> {
     pub(crate) tree: &'a Tree,

@@ -12,8 +12,8 @@ use srp_base::{NoMemory, NodeNo, PortChange, Rate, Timeline};
 use std::alloc::Global;
 use tree_topology::Tree;
 
-/// Whether `flow` may be asked for these: whether there is one rate for each link and 1 to 12,000 ticks, the
-/// frames and the timeline's changes are in order, and both are in their ranges.
+/// Whether `flow` may be asked for these: whether there is one rate for each link and 1 to 12,000
+/// ticks, the frames and the timeline's changes are in order, and both are in their ranges.
 pub fn is_valid(
     alloc: Global,
     tree: &Tree,

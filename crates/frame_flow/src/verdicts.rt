@@ -22,7 +22,8 @@ pub(crate) enum Verdict {
     MaySend,
 }
 
-/// The verdicts on a port's copies with their numbers, and those that may be sent as the shaper is given them.
+/// The verdicts on a port's copies with their numbers, and those that may be sent as the shaper is
+/// given them.
 #[derive(Drop)]
 pub(crate) struct Verdicts {
     pub(crate) all: Vec<(u32, Verdict)>,

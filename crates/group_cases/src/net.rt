@@ -1,7 +1,9 @@
-//! Two stations on a link, from the start on, event by event. One has joined a group and its PDU waits at the other: it is
-//! doubled, the copy is lost, and it comes in. Then it parts from the group, which leaves at the other; and it joins two.
+//! Two stations on a link, from the start on, event by event. One has joined a group and its PDU
+//! waits at the other: it is doubled, the copy is lost, and it comes in. Then it parts from the
+//! group, which leaves at the other; and it joins two.
 //!
-//! An event is asked at run time whether it may happen, so that a test needs no proof of what the file's text says.
+//! An event is asked at run time whether it may happen, so that a test needs no proof of what the
+//! file's text says.
 
 ghost use Rattle.std.specs.Prelude.{IsTrue};
 ghost use Rattle.tree_topology.specs.Topology.{HasNode, HasPort};
@@ -40,7 +42,8 @@ const GROUP: u64 = 0x0100_5e00_0001;
 
 const SECOND: u64 = 0x0100_5e00_0002;
 
-// A network with the scenario that it began as, which says which of its nodes are stations. Contracts see the network.
+// A network with the scenario that it began as, which says which of its nodes are stations.
+// Contracts see the network.
 #[derive(Drop)]
 struct Scene {
     scenario: GroupScenario,
@@ -137,7 +140,8 @@ impl Scene {
         true
     }
 
-    // Whether at a port this is the registrar of the group, it is found and expected so, and so many PDUs wait.
+    // Whether at a port this is the registrar of the group, it is found and expected so, and so
+    // many PDUs wait.
     fn shows(
         &self,
         at: EgressPort,

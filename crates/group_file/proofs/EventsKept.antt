@@ -72,13 +72,16 @@ module _ (law : NamesAreKnown) (nodes : List NodeEntry) (links : List LinkEntry)
       either-if P (is (codes "lose")) _ _ (at-pdu kinds.Lose (λ x y n h. h)) (
       either-if P (is (codes "repeat")) _ _ (at-pdu kinds.Repeat (λ x y n h. h)) tt)))
     where
-      at-member : (kind : NodeNo → ℕ → GroupKind) → ((x : NodeNo) (n : ℕ) → IsStationNumber nodes x.0 → IsKnownGroup nodes links (kind x n)) → IfSome (member_form kind nodes ms) (λ k. IfSome k (IsKnownGroup nodes links))
+      at-member : (kind : NodeNo → ℕ → GroupKind) → ((x : NodeNo) (n : ℕ) → IsStationNumber nodes x.0 → IsKnownGroup nodes links (kind x n))
+          → IfSome (member_form kind nodes ms) (λ k. IfSome k (IsKnownGroup nodes links))
       at-member kind make =
           parts-if (λ x. IsStationNumber nodes x.0) (λ n. Unit {0}) (IsKnownGroup nodes links) (λ x n. kind x n) (member_at nodes ms) (λ x n a b. make x n a) (member-known ms)
 
-      at-pdu : (kind : NodeNo → NodeNo → ℕ → GroupKind) → ((x y : NodeNo) (n : ℕ) → IsAtPdu nodes links x.0 y.0 n → IsKnownGroup nodes links (kind x y n)) → IfSome (pdu_form kind nodes links ms) (λ k. IfSome k (IsKnownGroup nodes links))
+      at-pdu : (kind : NodeNo → NodeNo → ℕ → GroupKind) → ((x y : NodeNo) (n : ℕ) → IsAtPdu nodes links x.0 y.0 n → IsKnownGroup nodes links (kind x y n))
+          → IfSome (pdu_form kind nodes links ms) (λ k. IfSome k (IsKnownGroup nodes links))
       at-pdu kind make =
-          parts-if (λ x. AreJoinedNumbers nodes links x.0.0 x.1.0) (λ n. n ≤ 65535) (IsKnownGroup nodes links) (λ x n. kind x.0 x.1 n) (pdu_at nodes links ms) (λ x n a b. make x.0 x.1 n (a, b)) (law.pdu nodes links ms)
+          parts-if (λ x. AreJoinedNumbers nodes links x.0.0 x.1.0) (λ n. n ≤ 65535) (IsKnownGroup nodes links) (λ x n. kind x.0 x.1 n) (pdu_at nodes links ms)
+          (λ x n a b. make x.0 x.1 n (a, b)) (law.pdu nodes links ms)
 
   event-form-keeps : (ticks n : ℕ) (ms : Members) → IfSome (event_form ticks nodes links n ms) (λ e. FormKeeps ticks nodes links e × (n ≤ 10000))
   event-form-keeps ticks n ms =

@@ -1,4 +1,5 @@
--- The events of a file of groups: their ticks, their kinds, the keys of each, and what is known of what they name.
+-- The events of a file of groups: their ticks, their kinds, the keys of each, and what is known of
+-- what they name.
 use Rattle.std.specs.Prelude.{◌≤◌, ◌<◌, ◌^◌, ℕ, nat_le, nat_eq, if◌then◌else◌, List, [], ◌∷◌, map, codes, Option, Some, None, option_map, option_and_then}
 use Rattle.std.specs.Cmp.Lexicographic.{pointwise}
 use Rattle.srp_base.specs.declared.numbers.NodeNo.{NodeNo}
@@ -39,7 +40,8 @@ member_form kind nodes ms = option_map (λ p. option_map (λ x. kind x p.1) p.0)
 abbrev pub pdu_form : (NodeNo → NodeNo → ℕ → GroupKind) → List NodeEntry → List LinkEntry → Members → Option (Option GroupKind)
 pdu_form kind nodes links ms = option_map (λ p. option_map (λ e. kind e.0 e.1 p.1) p.0) (pdu_at nodes links ms)
 
--- what happens, by the word of its kind, each with exactly its keys; missing where what it names isn't there
+-- what happens, by the word of its kind, each with exactly its keys; missing where what it names
+-- isn't there
 abbrev pub kind_form : List NodeEntry → List LinkEntry → Members → List ℕ → Option (Option GroupKind)
 kind_form nodes links ms word =
     if pointwise nat_eq word (codes "join") then member_form kinds.Join nodes ms

@@ -1,4 +1,5 @@
--- The group scenario of a table, or the first rule that it breaks, with the first entry that breaks it.
+-- The group scenario of a table, or the first rule that it breaks, with the first entry that breaks
+-- it.
 use Rattle.std.specs.Prelude.{◌≤◌, ◌<◌, All, ℕ, List, [], ◌∷◌, length, codes, Result, Ok}
 use Rattle.std.specs.List.Sorted.{IsNonDecreasing}
 use Rattle.srp_base.specs.Results.{◌>>=◌}
@@ -52,7 +53,8 @@ group_scenario_of ms = do
   event_tables ← needs 40 (tables (codes "event") ms)
   rest_of ms event_tables
 
--- What every group scenario keeps: what each network of a file keeps, and events in order, that speak of what is known.
+-- What every group scenario keeps: what each network of a file keeps, and events in order, that
+-- speak of what is known.
 pub record KeepsGroupRules (p : GroupPlan) : Type 0 where
   pub network : KeepsNetworkRules p.ticks p.leave_time.0 p.tree p.nodes p.links
   pub events_many : length p.events ≤ 10000

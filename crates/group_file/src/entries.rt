@@ -23,7 +23,8 @@ pub enum GroupKind {
         station: NodeNo,
         mac: Mac,
     },
-    /// The PDU of this index, from 0 to 65,535, is lost: of those that wait at `to` and come from `from`.
+    /// The PDU of this index, from 0 to 65,535, is lost: of those that wait at `to` and come from
+    /// `from`.
     Lose {
         from: NodeNo,
         to: NodeNo,

@@ -1,4 +1,5 @@
-//! The kinds of events: the keys of each, and what it names. A kind is a reader and its arm of `read_kind`.
+//! The kinds of events: the keys of each, and what it names. A kind is a reader and its arm of
+//! `read_kind`.
 
 ghost use Rattle.std.specs.Prelude.{◌≡◌};
 ghost use Rattle.toml.specs.View.{table_view};
@@ -70,7 +71,8 @@ fn read_repeat(names: &Names, table: &Table) -> Option<Option<GroupKind>>
     Some(ends.map(|(from, to)| GroupKind::Repeat { from, to, index }))
 }
 
-/// What happens, by the word of its kind, each with exactly its keys; missing where what it names isn't there.
+/// What happens, by the word of its kind, each with exactly its keys; missing where what it names
+/// isn't there.
 pub(crate) fn read_kind(names: &Names, table: &Table, word: &str) -> Option<Option<GroupKind>>
     ensures { result ≡ kind_form names.now.nodes names.now.links (table_view table.now) word.now }
 {

@@ -49,8 +49,8 @@ impl Model for GroupScenario {
 }
 
 impl GroupScenario {
-    /// Every group scenario keeps the rules of its file, and its tree is that of its nodes and links. It is a law, and
-    /// does nothing.
+    /// Every group scenario keeps the rules of its file, and its tree is that of its nodes and
+    /// links. It is a law, and does nothing.
     pub fn keeps_rules(&self)
         ensures { KeepsGroupRules self.now }
     {
@@ -60,7 +60,8 @@ impl GroupScenario {
 
 const GROUP_KEYS: [&str; 6] = ["ticks", "leave_time", "periodic", "node", "link", "event"];
 
-/// The group scenario of these event tables and of the network of a table: rules 1 to 15 and 41 to 43.
+/// The group scenario of these event tables and of the network of a table: rules 1 to 15 and 41 to
+/// 43.
 fn read_groups(
     alloc: Global,
     table: &Table,
@@ -85,8 +86,8 @@ fn read_groups(
     })
 }
 
-/// The group scenario of a table, or the first rule that fails with its first failing entry: rules 40, 1 to 15 and 41 to
-/// 43, in this order.
+/// The group scenario of a table, or the first rule that fails with its first failing entry: rules
+/// 40, 1 to 15 and 41 to 43, in this order.
 ///
 /// # Errors
 ///

@@ -9,7 +9,8 @@ use Rattle.mmrp.specs.declared.events.GroupEvent.{GroupEvent}
 use Rattle.mmrp.specs.declared.events.GroupEvent.TheVariants as events
 use Rattle.mmrp.specs.Net.{NetGroups, IsStation}
 
--- its nodes and ports are those of this tree, a station joins and parts; the clock's event ends the tick
+-- its nodes and ports are those of this tree, a station joins and parts; the clock's event ends the
+-- tick
 abbrev pub IsAllowed : Topology → GroupEvent → Type 0
 IsAllowed tree (events.Join n mac) = IsStation tree n
 IsAllowed tree (events.Part n mac) = IsStation tree n

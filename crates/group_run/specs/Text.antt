@@ -1,5 +1,5 @@
--- What is printed of a run of groups: its length, each port with what it sent and which groups are registered there, and how the
--- network is at the end.
+-- What is printed of a run of groups: its length, each port with what it sent and which groups are
+-- registered there, and how the network is at the end.
 use Rattle.std.specs.Prelude.{ℕ, List, ◌++◌, flat_map}
 use Rattle.srp_base.specs.declared.numbers.EgressPort.{EgressPort}
 use Rattle.group_file.specs.Plan.{GroupPlan}
@@ -13,7 +13,8 @@ use Rattle.group_run.specs.{Counts.replies_of, Counts.tally_of, Lines.group_line
 abbrev pub group_at : List ℕ → NetGroups → EgressPort → ℕ → List ℕ
 group_at port w p mac = group_line port mac (registrar_at w mac p)
 
--- the lines of a port: what it sent and discarded, and then each MAC address that is registered there, ascending
+-- the lines of a port: what it sent and discarded, and then each MAC address that is registered
+-- there, ascending
 abbrev pub port_part : GroupPlan → GroupRun → EgressPort → List ℕ
 port_part plan run p =
     let port = port_name plan.nodes run.net.tree.links p in

@@ -1,5 +1,5 @@
--- The ticks of a group scenario, in the one order in which nobody waits for anybody: which events a tick has, and the run that
--- is made of all ticks.
+-- The ticks of a group scenario, in the one order in which nobody waits for anybody: which events a
+-- tick has, and the run that is made of all ticks.
 use Rattle.std.specs.Prelude.{ℕ, zero, suc, ◌%◌, ◌==◌, Bool, if◌then◌else◌, List, [], ◌∷◌, ◌++◌, map, filter, fold, length, replicate, Option, Some, None}
 use Rattle.std.specs.List.{flat_map, range_with_len}
 use Rattle.srp_base.specs.declared.{numbers.Cs.Cs, numbers.NodeNo.NodeNo, numbers.EgressPort.EgressPort}
@@ -53,7 +53,8 @@ works_at w p = replicate (length (inbox p w)) (events.Port p Work)
 abbrev pub each_makes : GroupStep → List EgressPort → List GroupEvent
 each_makes step ports = map (λ p. events.Port p step) ports
 
--- what a busy node does: all its PDUs are taken, then all timers fire, then all that awaits is settled, ports ascending in each
+-- what a busy node does: all its PDUs are taken, then all timers fire, then all that awaits is
+-- settled, ports ascending in each
 abbrev pub busy_steps : NetGroups → List EgressPort → List GroupEvent
 busy_steps w ports = flat_map (works_at w) ports ++ each_makes Due ports ++ each_makes Settle ports
 
@@ -100,8 +101,8 @@ after_event run e =
 abbrev pub after_events : List GroupEvent → GroupRun → GroupRun
 after_events es run = fold after_event run es
 
--- A run with one tick more, whose number is the clock's: the events of the file; then the steps of every node, as those events
--- left it; then the carrying of all PDUs; and the clock goes on.
+-- A run with one tick more, whose number is the clock's: the events of the file; then the steps of
+-- every node, as those events left it; then the carrying of all PDUs; and the clock goes on.
 abbrev pub after_tick : GroupPlan → GroupRun → GroupRun
 after_tick plan run =
     let scripted = after_events (script_at plan run.net.clock.0) run in

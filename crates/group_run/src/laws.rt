@@ -1,4 +1,5 @@
-//! What may happen in the ticks of a run. Each is a function that does nothing; calling it brings the law to a proof.
+//! What may happen in the ticks of a run. Each is a function that does nothing; calling it brings
+//! the law to a proof.
 
 ghost use Rattle.std.specs.Prelude.{ℕ};
 ghost use Rattle.tree_topology.specs.Topology.{Topology};
@@ -28,8 +29,8 @@ pub fn what_events_name_are_neighbours()
         → IsKnownGroup plan.nodes plan.links kind → NamesNeighbours plan.tree.links kind }
 {}
 
-/// What happens in a tick of a scenario may: the events of its file, the steps of the nodes of a network over its tree, and
-/// the carrying of each port's PDUs.
+/// What happens in a tick of a scenario may: the events of its file, the steps of the nodes of a
+/// network over its tree, and the carrying of each port's PDUs.
 pub fn what_happens_in_a_tick_is_allowed()
     ensures scripted { (plan : GroupPlan) (t : ℕ) → KeepsGroupRules plan
         → AreAllowed plan.tree (script_at plan t) }

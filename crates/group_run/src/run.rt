@@ -20,7 +20,8 @@ use std::marker::Model;
 pub struct GroupRun {
     /// The network behind the last tick.
     pub net: GroupNet,
-    /// What the steps of the ports answered, in the order in which they were made, each with its port.
+    /// What the steps of the ports answered, in the order in which they were made, each with its
+    /// port.
     pub replies: Seq<(EgressPort, GroupReply)>,
 }
 
@@ -39,9 +40,10 @@ impl Model for Course {
     ghost view = { λ c. record { net = c.net; replies = c.replies.items } };
 }
 
-/// Runs a group scenario to its end: in each tick its events in the order of the file, each node's steps (all Works, then all
-/// Dues, then all Settles, then all Sends, ports ascending in each), the carrying of each port's PDUs, and the clock. It has no
-/// condition, and fails for want of memory alone.
+/// Runs a group scenario to its end: in each tick its events in the order of the file, each node's
+/// steps (all Works, then all Dues, then all Settles, then all Sends, ports ascending in each), the
+/// carrying of each port's PDUs, and the clock. It has no condition, and fails for want of memory
+/// alone.
 #[tactic(auto, using(crate::proofs::Scripts::before_all))]
 pub fn run_groups(alloc: Global, scenario: &GroupScenario) -> Result<GroupRun, NoMemory>
     ensures { IfOk result (λ run. run ≡ run_of scenario.now) }

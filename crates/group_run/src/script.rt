@@ -13,8 +13,8 @@ use srp_base::{Cs, EgressPort, NoMemory, NodeNo};
 use std::alloc::Global;
 use tree_topology::Tree;
 
-/// The events of a scenario in the tick of this moment, in the order of the file, from the cursor on. The cursor then stands
-/// at the first event of a later tick.
+/// The events of a scenario in the tick of this moment, in the order of the file, from the cursor
+/// on. The cursor then stands at the first event of a later tick.
 pub(crate) fn script_of(
     alloc: Global,
     scenario: &GroupScenario,

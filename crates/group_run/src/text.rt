@@ -14,10 +14,11 @@ use report_words::{port_name, ports_of_links, put_end, put_tally, put_ticks};
 use srp_base::{EgressPort, Mac, NoMemory};
 use std::alloc::Global;
 
-/// What is printed of a run of a group scenario, in octets: its length in ticks; for each port, link by link, end `a` first, how
-/// many PDUs it sent, their octets, and how many malformed PDUs it discarded, then each MAC address that is registered there
-/// with its Registrar's state, IN or LV (IEEE Std 802.1Q-2018, 10.7.8), ascending; and whether the network is quiet and in step
-/// at the end.
+/// What is printed of a run of a group scenario, in octets: its length in ticks; for each port,
+/// link by link, end `a` first, how many PDUs it sent, their octets, and how many malformed PDUs it
+/// discarded, then each MAC address that is registered there with its Registrar's state, IN or LV
+/// (IEEE Std 802.1Q-2018, 10.7.8), ascending; and whether the network is quiet and in step at the
+/// end.
 pub fn group_text(
     alloc: Global,
     scenario: &GroupScenario,

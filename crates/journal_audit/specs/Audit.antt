@@ -34,13 +34,15 @@ abbrev pub AgreesFor : Plan → List ℕ → ℕ → Type 0
 AgreesFor plan text count =
     (ticks : List Tick) × (end : WorldState) × AreLegalTicks plan ticks end × (take count (ticks_lines plan 0 ticks) ≡ take count (lines_of text))
 
--- the first so many lines of a text are those of a legal journal, and no legal journal has one line more of it, or ends there
+-- the first so many lines of a text are those of a legal journal, and no legal journal has one line
+-- more of it, or ends there
 pub record IsFirstIllegal (plan : Plan) (text : List ℕ) (count : ℕ) : Type 0 where
   pub before : AgreesFor plan text count
   pub here : AgreesFor plan text (suc count) → ⊥
 
--- A text isn't the journal of a run. At a line the cause is 2 where this is the first that isn't of the form; it is 3 where all lines
--- are of it, and this is the first with which no legal journal agrees, or the one past the last.
+-- A text isn't the journal of a run. At a line the cause is 2 where this is the first that isn't of
+-- the form; it is 3 where all lines are of it, and this is the first with which no legal journal
+-- agrees, or the one past the last.
 abbrev pub IsRefusal : Plan → List ℕ → ℕ → ℕ → Type 0
 IsRefusal plan text line why =
     (1 ≤ line)

@@ -1,5 +1,5 @@
--- Which lines may follow at a place of a legal run: from the beginning of a tick, from the turn of a node, from what a node's ports
--- have left of their jobs, and from the events of a tick on.
+-- Which lines may follow at a place of a legal run: from the beginning of a tick, from the turn of
+-- a node, from what a node's ports have left of their jobs, and from the events of a tick on.
 use Rattle.std.specs.Prelude.{◌≡◌, ℕ, suc, ◌-◌, List, ◌++◌, length}
 use Rattle.topology_file.specs.Plan.{Plan}
 use Rattle.node_core.specs.declared.{types.NodeStep.NodeStep, types.PortStep.PortStep}

@@ -1,4 +1,5 @@
--- What the ports of a node have left of their jobs in a tick, each with the words by which the lines of its steps begin.
+-- What the ports of a node have left of their jobs in a tick, each with the words by which the
+-- lines of its steps begin.
 use Rattle.std.specs.Prelude.{◌≡◌, ◌≤◌, ◌+◌, ℕ, Bool, nat_lt, List, ◌++◌, length, map, Some, slice_get}
 use Rattle.std.specs.List.{range_with_len, list_any}
 use Rattle.srp_base.specs.declared.numbers.NodeNo.{NodeNo}
@@ -40,7 +41,8 @@ left_at plan t n s at = record { place = place_at plan t n at; jobs = job_list a
 abbrev pub left_of : Plan → ℕ → NodeNo → NodeState → List LeftState
 left_of plan t n s = map (left_at plan t n s) (range_with_len 0 (ports_of s))
 
--- the next line may be of a step of this port: it has a job left, and the line begins with its words
+-- the next line may be of a step of this port: it has a job left, and the line begins with its
+-- words
 pub record MayBeNext (r : Reading) (p : LeftState) : Type 0 where
   pub some : 1 ≤ length p.jobs
   pub rest : List ℕ

@@ -23,8 +23,8 @@ pub record IsStuck (MayFollow : List (List ℕ) → Type 0) (from : Reading) (re
   pub before : Agrees MayFollow (lines_of from.rest) count
   pub here : Agrees MayFollow (lines_of from.rest) (suc count) → ⊥
 
--- These lines have been read. Whatever may follow then, may follow behind them; and where a list that may follow at first begins
--- with them, what stands behind them may follow then.
+-- These lines have been read. Whatever may follow then, may follow behind them; and where a list
+-- that may follow at first begins with them, what stands behind them may follow then.
 pub record HasRead (MayFollow : List (List ℕ) → Type 0) (from : Reading) (front : List (List ℕ)) (MayThen : List (List ℕ) → Type 0) (to : Reading) : Type 0 where
   pub lines : lines_of from.rest ≡ front ++ lines_of to.rest
   pub read : to.read ≡ from.read + length front

@@ -40,7 +40,8 @@ pub record ReplayLaws (plan : Plan) : Type 0 where
 
 -- ---- what has been made, and read
 
--- some of the answers of scripted events have been read, and the next line isn't that of the next one
+-- some of the answers of scripted events have been read, and the next line isn't that of the next
+-- one
 pub record IsOtherAnswer (t : ℕ) (answers : List (ℕ × WorldReply)) (from to : Reading) : Type 0 where
   pub front : List (ℕ × WorldReply)
   pub next : ℕ × WorldReply

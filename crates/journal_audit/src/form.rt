@@ -9,7 +9,8 @@ use crate::texts::{before, behind_word, first_line};
 use itoa::Buffer;
 use srp_base::Seq;
 
-/// What a scenario's journal may name: how many ticks and events there are, and the names of the ports.
+/// What a scenario's journal may name: how many ticks and events there are, and the names of the
+/// ports.
 #[derive(Drop)]
 pub(crate) struct Known {
     pub(crate) ticks: u64,
@@ -183,7 +184,8 @@ fn tick_of(known: &Known, from: u64, line: &[u8]) -> Option<u64>
     None
 }
 
-/// The number, counted from 1, of the first line of a text that isn't of the form, or whose tick is below that of the line before.
+/// The number, counted from 1, of the first line of a text that isn't of the form, or whose tick is
+/// below that of the line before.
 pub(crate) fn first_unformed(known: &Known, text: &[u8]) -> Option<u64>
     ensures none { IfNone result (AreFormed known.now 0 (lines_of text.now)) }
     ensures some { IfSome result (λ line. (1 ≤ line)
@@ -215,7 +217,8 @@ fn number_of(digits: &[u8]) -> Option<u32>
     }
 }
 
-// The number that a text writes: the one that is read of it, where the text is what is written of that number.
+// The number that a text writes: the one that is read of it, where the text is what is written of
+// that number.
 fn number_of_text(text: &str) -> Option<u32>
     ensures some { IfSome result (λ n. text.now ≡ decimal n) }
     ensures none { IfNone result ((n : ℕ) → n < 2 ^ 32 → text.now ≡ decimal n → ⊥) }

@@ -1,5 +1,5 @@
-//! What a text tells of a run: laws over the states that contracts see. Each is a function that does nothing; calling it brings the
-//! law to a proof.
+//! What a text tells of a run: laws over the states that contracts see. Each is a function that
+//! does nothing; calling it brings the law to a proof.
 
 ghost use Rattle.std.specs.Prelude.{◌≡◌, ◌≤◌, ◌↔◌, ℕ, List, length, Err};
 ghost use Rattle.mvrp_codec.specs.Meaning.{mvrp_reading};
@@ -22,8 +22,8 @@ use world_core::tick_laws::{
     a_legal_run_goes_on, a_legal_tick_is_made_one_by_one, a_tick_can_be_made_to_its_end,
 };
 
-/// A text is the journal of one run of a scenario at most: two legal journals with one text are one, and so are the networks at their
-/// ends.
+/// A text is the journal of one run of a scenario at most: two legal journals with one text are
+/// one, and so are the networks at their ends.
 pub fn one_text_has_one_journal()
     ensures ticks { (plan : Plan) (text : List ℕ) (ticks others : List Tick) (end last : WorldState)
         → KeepsRules plan → IsJournalOf plan text ticks end → IsJournalOf plan text others last

@@ -1,4 +1,5 @@
-//! What the ports of a node have left of their jobs in a tick, each with the words by which the lines of its steps begin.
+//! What the ports of a node have left of their jobs in a tick, each with the words by which the
+//! lines of its steps begin.
 
 ghost use Rattle.std.specs.Prelude.{◌≡◌, ◌≤◌, ◌+◌, ◌∷◌, ◌↔◌, ℕ, [], Some, length, slice_get, IfOk, IfSome, IfNone, IsTrue, nat_lt};
 ghost use Rattle.std.specs.List.{AllByRecursion};
@@ -14,7 +15,8 @@ use std::alloc::Global;
 use std::marker::Model;
 use topology_file::Scenario;
 
-/// A port of a node in a tick. Contracts see how the lines of its steps begin, and the jobs that it has left.
+/// A port of a node in a tick. Contracts see how the lines of its steps begin, and the jobs that it
+/// has left.
 #[derive(Drop)]
 pub(crate) struct PortLeft {
     place: Seq<u8>,
@@ -52,7 +54,8 @@ impl PortLeft {
         job
     }
 
-    // Whether the next line may be of a step of this port: it has a job left, and the line begins with its words.
+    // Whether the next line may be of a step of this port: it has a job left, and the line begins
+    // with its words.
     fn may_be_next(&self, lines: &Reader<'_>) -> bool
         ensures { IsTrue result ↔ MayBeNext lines.now self.now }
     {

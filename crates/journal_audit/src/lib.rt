@@ -1,5 +1,6 @@
-//! The audit of a journal: whether a text is the journal of a run of a scenario, by somebody who trusts neither the maker of the
-//! text nor the order in which a schedule makes the steps of a tick.
+//! The audit of a journal: whether a text is the journal of a run of a scenario, by somebody who
+//! trusts neither the maker of the text nor the order in which a schedule makes the steps of a
+//! tick.
 //!
 //! ```text
 //!   text      0 event 1 done               the lines behind the line `journal`, counted from 1
@@ -11,17 +12,19 @@
 //!             No { line, why: 3 }          no legal journal agrees with the line
 //! ```
 //!
-//! Which lines may follow at a place of a run is a set: from the beginning of a tick, from the turn of a node, from what its ports
-//! have left of their jobs (`specs/Follow.antt`). Reading a line leads from one place to another, so that what may follow there is
-//! just what may follow here behind the line (`HasRead` of `specs/Reading.antt`); and where the next line begins no list that may
-//! follow, the reading is stuck (`IsStuck`). No number is read for this: the ports of a node whose turn it is begin their lines
-//! differently, and the network tells the rest of the line.
+//! Which lines may follow at a place of a run is a set: from the beginning of a tick, from the turn
+//! of a node, from what its ports have left of their jobs (`specs/Follow.antt`). Reading a line
+//! leads from one place to another, so that what may follow there is just what may follow here
+//! behind the line (`HasRead` of `specs/Reading.antt`); and where the next line begins no list that
+//! may follow, the reading is stuck (`IsStuck`). No number is read for this: the ports of a node
+//! whose turn it is begin their lines differently, and the network tells the rest of the line.
 //!
-//! The contract of `audit` is `IsVerdict` of `specs/Audit.antt`. A run that is answered is legal by world_core's words alone, its
-//! journal is the text, and its timeline is that of its ticks; and a text that is the journal of legal ticks is never refused. A
-//! journal agrees with a text for so many lines where legal ticks exist whose lines begin with as many of the text's lines: so 'the
-//! first line with which no legal journal agrees' and 'the one past the last' are one case. Law `one_text_has_one_journal`: legal
-//! journals of one scenario with one text are one.
+//! The contract of `audit` is `IsVerdict` of `specs/Audit.antt`. A run that is answered is legal by
+//! world_core's words alone, its journal is the text, and its timeline is that of its ticks; and a
+//! text that is the journal of legal ticks is never refused. A journal agrees with a text for so
+//! many lines where legal ticks exist whose lines begin with as many of the text's lines: so 'the
+//! first line with which no legal journal agrees' and 'the one past the last' are one case. Law
+//! `one_text_has_one_journal`: legal journals of one scenario with one text are one.
 //!
 //! The form of a line (`specs/Form.antt`) is judged only where the replay has stopped, over the
 //! whole text. The lines of a legal journal are of it (law `a_legal_journal_is_of_the_form`), so a

@@ -65,8 +65,8 @@ fn end_tick(scenario: &Scenario, t: u64, world: &mut World, tick: &Tick) -> Resu
     Ok(())
 }
 
-/// Reads a text as the journal of a scenario: the run that has it, where a legal one has; else None, when as many lines are read as
-/// the first of them have that agree with a legal journal.
+/// Reads a text as the journal of a scenario: the run that has it, where a legal one has; else
+/// None, when as many lines are read as the first of them have that agree with a legal journal.
 pub(crate) fn replay(
     alloc: Global,
     scenario: &Scenario,

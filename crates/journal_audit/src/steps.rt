@@ -115,8 +115,8 @@ fn step_reply(reply: WorldReply) -> StepReply
     }
 }
 
-// Lets the port make its next job of whose steps the next line may be, and reads its line; None where the next line isn't of any
-// next job.
+// Lets the port make its next job of whose steps the next line may be, and reads its line; None
+// where the next line isn't of any next job.
 fn read_step(
     alloc: Global,
     scenario: &Scenario,
@@ -151,7 +151,8 @@ fn read_step(
     if taken { Ok(Some(made)) } else { Ok(None) }
 }
 
-// Reads the steps of a node, until its ports have no job left; None where the next line isn't of any next job.
+// Reads the steps of a node, until its ports have no job left; None where the next line isn't of
+// any next job.
 fn read_jobs(
     alloc: Global,
     scenario: &Scenario,
@@ -221,8 +222,8 @@ fn read_node(
 
 // ---- all nodes
 
-/// Reads the steps of all nodes in tick t, nodes ascending; None where the next line isn't of any next job of the lowest node that
-/// has one left.
+/// Reads the steps of all nodes in tick t, nodes ascending; None where the next line isn't of any
+/// next job of the lowest node that has one left.
 pub(crate) fn read_nodes(
     alloc: Global,
     scenario: &Scenario,

@@ -21,16 +21,17 @@ use world_core::Run;
 pub enum Verdict {
     /// The text is the journal of this run, each of whose ticks is legal.
     Legal(Run),
-    /// It is no journal of the scenario. Lines count from 1. With why 2 the line is the first that isn't of the form of a journal's
-    /// lines, with a tick of the scenario that isn't below that of the line before, a port that there is and an event that there is,
-    /// or that lacks its line feed. With why 3 all lines are of the form, and it is the first line with which no legal journal
-    /// agrees, or the one past the last.
+    /// It is no journal of the scenario. Lines count from 1. With why 2 the line is the first that
+    /// isn't of the form of a journal's lines, with a tick of the scenario that isn't below that of
+    /// the line before, a port that there is and an event that there is, or that lacks its line
+    /// feed. With why 3 all lines are of the form, and it is the first line with which no legal
+    /// journal agrees, or the one past the last.
     No { line: u64, why: u8 },
 }
 
-/// Reads a text, which stood behind the line `journal`, as the journal of a scenario, and replays it step by step: nothing that its
-/// maker said is trusted. A run's steps may be in any order in which each port makes its jobs one after the other, and nodes ascend
-/// in a tick.
+/// Reads a text, which stood behind the line `journal`, as the journal of a scenario, and replays
+/// it step by step: nothing that its maker said is trusted. A run's steps may be in any order in
+/// which each port makes its jobs one after the other, and nodes ascend in a tick.
 pub fn audit(alloc: Global, scenario: &Scenario, text: &[u8]) -> Result<Verdict, NoMemory>
     ensures { IfOk result (λ verdict. IsVerdict scenario.now text.now verdict) }
 {
@@ -42,7 +43,8 @@ pub fn audit(alloc: Global, scenario: &Scenario, text: &[u8]) -> Result<Verdict,
     }
 }
 
-// What is wrong with a text whose first so many lines are those of a legal journal, and not one more.
+// What is wrong with a text whose first so many lines are those of a legal journal, and not one
+// more.
 fn refusal(alloc: Global, scenario: &Scenario, text: &[u8], read: u64) -> Result<Verdict, NoMemory>
     requires first { IsFirstIllegal scenario.now text.now read }
     requires none { (ticks : List Tick) (end : WorldState)

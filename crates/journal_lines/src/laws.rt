@@ -1,5 +1,5 @@
-//! What the lines of a journal tell, and how each ends: laws over what is printed. Each is a function that does nothing; calling it
-//! brings the law to a proof.
+//! What the lines of a journal tell, and how each ends: laws over what is printed. Each is a
+//! function that does nothing; calling it brings the law to a proof.
 
 ghost use Rattle.std.specs.Prelude.{◌≡◌, ◌++◌, ℕ, Bool, List};
 ghost use Rattle.srp_base.specs.declared.{numbers.EgressPort.EgressPort, numbers.NodeNo.NodeNo};
@@ -11,8 +11,9 @@ ghost use Rattle.journal_lines.specs.Lines.{event_line, place_text, line_at, IsL
 
 use tree_topology::laws::ports;
 
-/// Two lines that begin with a tick and a port of one node are of one port, whatever follows: no name has a space in it, and the
-/// ports of a node lead to different nodes, which have different names.
+/// Two lines that begin with a tick and a port of one node are of one port, whatever follows: no
+/// name has a space in it, and the ports of a node lead to different nodes, which have different
+/// names.
 pub fn a_line_tells_its_port()
     ensures { (plan : Plan) (t : ℕ) (p q : EgressPort) (a b : List ℕ) → KeepsRules plan
         → HasPort plan.tree p → HasPort plan.tree q → p.node ≡ q.node

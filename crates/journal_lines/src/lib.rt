@@ -8,9 +8,10 @@
 //!   tick
 //! ```
 //!
-//! Each line is a definition (`specs/Lines.antt`) and a function that puts it at the end of a text. A port is printed by the
-//! names of its node and of its peer's, as in every report (`report_words`). Names have neither a space nor `>` in them, and
-//! two nodes have two names, so that a line says at its beginning of which port it is (law `a_line_tells_its_port`): who prints
+//! Each line is a definition (`specs/Lines.antt`) and a function that puts it at the end of a text.
+//! A port is printed by the names of its node and of its peer's, as in every report
+//! (`report_words`). Names have neither a space nor `>` in them, and two nodes have two names, so
+//! that a line says at its beginning of which port it is (law `a_line_tells_its_port`): who prints
 //! a journal and who reads one rest on the same words.
 //!
 //! A further step or answer is a case of `step_name` or `reply_name` with its arm in `lines.rt`.

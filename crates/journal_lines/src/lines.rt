@@ -11,7 +11,8 @@ use srp_base::{App, EgressPort, NodeNo};
 use std::alloc::AllocError;
 use topology_file::Scenario;
 
-/// Puts down the line of a scripted event: its tick, the number of its entry, and `missed` or `done`.
+/// Puts down the line of a scripted event: its tick, the number of its entry, and `missed` or
+/// `done`.
 pub fn put_event(out: &mut Vec<u8>, t: u64, entry: u32, missed: bool) -> Result<(), AllocError>
     ensures { OnOk result (out.new.items ≡ out.old.items ++ event_line t entry missed) }
 {

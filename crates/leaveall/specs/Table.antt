@@ -1,10 +1,11 @@
--- The LeaveAll machine's table, after IEEE Std 802.1Q-2018, 10.7.9 (Table 10-5), and the moments of the
--- periodic machine, after 10.7.10 (Table 10-6).
+-- The LeaveAll machine's table, after IEEE Std 802.1Q-2018, 10.7.9 (Table 10-5), and the moments of
+-- the periodic machine, after 10.7.10 (Table 10-6).
 use Rattle.std.specs.Prelude.{ℕ, ◌+◌, ◌*◌, ◌/◌, Bool, true, false, ◌&&◌, nat_le}
 use Rattle.leaveall.specs.declared.{LeaveAll.LeaveAll, LeaveAll.TheVariants.Active, LeaveAll.TheVariants.Passive, Periodic.Periodic, LaEvent.LaEvent}
 use Rattle.leaveall.specs.declared.LaEvent.TheVariants.{Timer, Rx, Tx}
 
--- the table: the timer of LeaveAll makes the machine Active, what is sent or received makes it Passive
+-- the table: the timer of LeaveAll makes the machine Active, what is sent or received makes it
+-- Passive
 abbrev pub table : LaEvent → LeaveAll → LeaveAll
 table Timer _ = Active
 table Rx _ = Passive

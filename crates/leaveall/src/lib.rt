@@ -1,5 +1,5 @@
-//! The two machines of MRP that each participant has once: LeaveAll (IEEE Std 802.1Q-2018, 10.7.9) and
-//! periodic transmission (10.7.10).
+//! The two machines of MRP that each participant has once: LeaveAll (IEEE Std 802.1Q-2018, 10.7.9)
+//! and periodic transmission (10.7.10).
 //!
 //! ```text
 //!              timer                          on: at 100, 200, 300 .. cs each attribute that is
@@ -9,11 +9,11 @@
 //!       LeaveAll sent or received
 //! ```
 //!
-//! `LeaveAll::step` is the table in `specs/Table.antt`. Its timer restarts at its own expiry and at a
-//! received LeaveAll; it is kept by the participant. `Periodic` keeps its own next moment.
+//! `LeaveAll::step` is the table in `specs/Table.antt`. Its timer restarts at its own expiry and at
+//! a received LeaveAll; it is kept by the participant. `Periodic` keeps its own next moment.
 //!
-//! A new event is a variant, its cells of `specs/Table.antt`, and its arms of `step`; what restarts the timer
-//! stands there too.
+//! A new event is a variant, its cells of `specs/Table.antt`, and its arms of `step`; what restarts
+//! the timer stands there too.
 #![tactic(auto)]
 
 ghost use Rattle.std.specs.Prelude.{◌≡◌, ℕ, ◌%◌, ◌^◌, ◌<◌, ◌≤◌};

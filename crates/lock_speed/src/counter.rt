@@ -16,7 +16,8 @@ impl Sequential for Counter {
 
     type Answer = u64;
 
-    ghost does = { λ counter ask. ((counter.sum + ask) % 2 ^ 64, record { sum = (counter.sum + ask) % 2 ^ 64 }) };
+    ghost does = { λ counter ask.
+        ((counter.sum + ask) % 2 ^ 64, record { sum = (counter.sum + ask) % 2 ^ 64 }) };
 
     fn step(&mut self, ask: u64) -> Result<u64, NoMemory> {
         self.sum = self.sum.wrapping_add(ask);

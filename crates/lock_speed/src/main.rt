@@ -1,5 +1,5 @@
-//! `lock_speed`: how long calls take, through a turn lock (`turn_lock`) and under a `Mutex`, as a program whose time is
-//! taken from outside (`tools/speeds`).
+//! `lock_speed`: how long calls take, through a turn lock (`turn_lock`) and under a `Mutex`, as a
+//! program whose time is taken from outside (`tools/speeds`).
 //!
 //! ```text
 //! words    what the words of the command line ask: a way, a number of threads, calls for each
@@ -8,12 +8,13 @@
 //! guarded  the same calls under a Mutex, with the same step and the same note of it
 //! ```
 //!
-//! `lock_speed lock 2 1000000` has two threads call a lock 1,000,000 times each, `lock_speed mutex 2 1000000` the same
-//! under a `Mutex`. Each call adds 1, and its entry is pushed on the history. What is printed is the sum at the end, the
-//! same whatever the schedule. Without words both ways run, with few calls. There is no clock inside.
+//! `lock_speed lock 2 1000000` has two threads call a lock 1,000,000 times each,
+//! `lock_speed mutex 2 1000000` the same under a `Mutex`. Each call adds 1, and its entry is pushed
+//! on the history. What is printed is the sum at the end, the same whatever the schedule. Without
+//! words both ways run, with few calls. There is no clock inside.
 //!
-//! Status 0: the sum is printed. Status 1: standard output fails. Status 2: the words are none of these. Status 9: memory
-//! runs out.
+//! Status 0: the sum is printed. Status 1: standard output fails. Status 2: the words are none of
+//! these. Status 9: memory runs out.
 #![tactic(auto)]
 
 mod counter;

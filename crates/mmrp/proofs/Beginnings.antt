@@ -67,7 +67,8 @@ NewSideLaw = (leave_time : Cs) (periodic : Bool) (ports : List PortSetup) → Is
 pub new_proper : NewSideLaw → (leave_time : Cs) (periodic : Bool) (ports : List PortSetup) → IsProperNode (new_node leave_time periodic ports)
 new_proper law leave_time periodic ports =
     let none : PortSetup → List (List ℕ) = λ p. [] in
-    let parts : length (map (λ (p : PortSetup). new_state {K = ℕ} {C = Unit {0}} p.period leave_time periodic) ports) ≡ length ports = length-map ports (λ (p : PortSetup). new_state p.period leave_time periodic) in
+    let parts : length (map (λ (p : PortSetup). new_state {K = ℕ} {C = Unit {0}} p.period leave_time periodic) ports) ≡ length ports
+    = length-map ports (λ (p : PortSetup). new_state p.period leave_time periodic) in
     let boxes : length (map none ports) ≡ length ports = length-map ports none in
     let side = law leave_time periodic ports in
     record {

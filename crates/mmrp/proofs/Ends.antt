@@ -60,7 +60,8 @@ module _ (tree : Topology) (laws : HasPortLaws tree) (turns : Turns) (w u : NetG
   at_peer near far a b =
       let back : part_at e u ≡ Some far = ap (λ (r : EgressPort). part_at r u) (sym (laws.peer_twice e has)) ∙ b in
       subst (AreDutiesMet nat_cmp)
-      (ap (λ (r : EgressPort). boxed near far (inbox (peer_of tree.links (peer_of tree.links e)) u) (outbox (peer_of tree.links e) u) (inbox (peer_of tree.links r) u) (outbox r u)) (sym (laws.peer_twice e has)))
+      (ap (λ (r : EgressPort). boxed near far (inbox (peer_of tree.links (peer_of tree.links e)) u) (outbox (peer_of tree.links e) u) (inbox (peer_of tree.links r) u)
+      (outbox r u)) (sym (laws.peer_twice e has)))
       (turns (link_on tree u e far near) (at_end far near back a))
 
   elsewhere : (p : EgressPort) → HasPort tree p → p ≢ e → p ≢ peer_of tree.links e → MetAt tree u p
@@ -119,7 +120,8 @@ duties_changed turns w laws base met e has change others keeps =
         absurd (other_node w.tree laws e has (omega (arith, nodes, some, first))))
 
     here : (near far : Part) → part_at e (with_changed e.node change w) ≡ Some near → part_at (peer_of w.tree.links e) (with_changed e.node change w) ≡ Some far
-        → AreDutiesMet nat_cmp (boxed near far (inbox (peer_of w.tree.links e) (with_changed e.node change w)) (outbox e (with_changed e.node change w)) (inbox e (with_changed e.node change w)) (outbox (peer_of w.tree.links e) (with_changed e.node change w)))
+        → AreDutiesMet nat_cmp (boxed near far (inbox (peer_of w.tree.links e) (with_changed e.node change w)) (outbox e (with_changed e.node change w))
+        (inbox e (with_changed e.node change w)) (outbox (peer_of w.tree.links e) (with_changed e.node change w)))
     here near far a b =
         let u = with_changed e.node change w in
         let q = peer_of w.tree.links e in
@@ -130,7 +132,8 @@ duties_changed turns w laws base met e has change others keeps =
         let old = part_there w base e has s is in
         let before : AreDutiesMet nat_cmp (boxed old.0 far (inbox q w) (box_at (place_of e.port) s.outboxes) (box_at (place_of e.port) s.inboxes) (outbox q w))
         = subst (AreDutiesMet nat_cmp)
-        (boxed_same old.0 far (inbox q w) (inbox q w) (outbox e w) (box_at (place_of e.port) s.outboxes) (inbox (peer_of w.tree.links q) w) (box_at (place_of e.port) s.inboxes) (outbox q w) (outbox q w)
+        (boxed_same old.0 far (inbox q w) (inbox q w) (outbox e w) (box_at (place_of e.port) s.outboxes) (inbox (peer_of w.tree.links q) w)
+        (box_at (place_of e.port) s.inboxes) (outbox q w) (outbox q w)
         refl (outbox_is e w s is) (ap (λ (r : EgressPort). inbox r w) (laws.peer_twice e has) ∙ inbox_is e w s is) refl)
         (met e has old.0 far (part_is e w s is ∙ old.1) (sym far_same.part ∙ b)) in
         subst (AreDutiesMet nat_cmp)

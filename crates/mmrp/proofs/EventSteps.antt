@@ -82,7 +82,8 @@ module _ (links : LinkLaws) (written : WrittenLaw) where
     met_before : AreDutiesMet nat_cmp (boxed old_e.0 old_q.0 (inbox q w) (outbox e w) (inbox e w) (outbox q w))
     met_before =
         subst (AreDutiesMet nat_cmp)
-        (boxed_same old_e.0 old_q.0 (inbox q w) (inbox q w) (outbox e w) (outbox e w) (inbox (peer_of w.tree.links q) w) (inbox e w) (outbox q w) (outbox q w) refl refl (ap (λ (r : EgressPort). inbox r w) (laws.peer_twice e has)) refl)
+        (boxed_same old_e.0 old_q.0 (inbox q w) (inbox q w) (outbox e w) (outbox e w) (inbox (peer_of w.tree.links q) w) (inbox e w) (outbox q w) (outbox q w) refl refl
+        (ap (λ (r : EgressPort). inbox r w) (laws.peer_twice e has)) refl)
         (met e has old_e.0 old_q.0 (part_is e w node_e.0 node_e.1 ∙ old_e.1) (part_is q w node_q.0 node_q.1 ∙ old_q.1))
 
     -- ---- carrying

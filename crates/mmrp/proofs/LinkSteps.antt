@@ -103,7 +103,14 @@ module _ (laws : LinkLaws) where
       let out : Waiting = box_at at s.outboxes in
       let coming : List (Messages ℕ (Unit {0})) = filter_map message_of (box_at at s.inboxes ++ far_out) in
       let became : sent_state base octets nat_cmp now x ≡ y = cc (h.part, new) in
-      let after : AreDutiesMet nat_cmp (record { near = sent_state base octets nat_cmp now x; far = z; sent = filter_map message_of (far_in ++ out) ++ (sent_messages base octets nat_cmp now x ∷ []); coming = coming })
+      let after : AreDutiesMet nat_cmp
+      (record {
+        near = sent_state base octets nat_cmp now x;
+        far = z;
+        sent
+            = filter_map message_of (far_in ++ out) ++ (sent_messages base octets nat_cmp now x ∷ []);
+        coming = coming;
+      })
       = speaks now x z (filter_map message_of (far_in ++ out)) coming h.loud met in
       met_same (sent_state base octets nat_cmp now x) y z z far_in far_in (out ++ (h.pdu ∷ [])) (box_at at t.outboxes) (box_at at s.inboxes) (box_at at t.inboxes) far_out far_out
       became refl refl (sym h.outs) (sym h.ins) refl

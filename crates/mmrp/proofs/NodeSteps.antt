@@ -132,7 +132,8 @@ module _ (laws : SideLaws) where
         ports = many;
         proper = λ h.
             let short = subst AreShort is (short_in at s h) in
-            with_side (with_inbox at pdus s) (worked now at (mmrp_reading pdu) s.side).0 (work_proper now at pdu (mmrp_reading pdu) s.side refl (proper_side s h)) many (other_inbox at pdus s short.1 h);
+            with_side (with_inbox at pdus s) (worked now at (mmrp_reading pdu) s.side).0 (work_proper now at pdu (mmrp_reading pdu) s.side refl (proper_side s h)) many
+            (other_inbox at pdus s short.1 h);
       }
 
   sent_stays : (now : Cs) (at : ℕ) (o : Option Part) (s : NodeGroups) → slice_get s.side.parts at ≡ o

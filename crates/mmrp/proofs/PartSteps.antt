@@ -139,7 +139,8 @@ module _ (links : LinkLaws) (written : WrittenLaw) where
       → message_of (mmrp_spelling (pdu_sent now x)) ≡ Some (sent_messages base octets nat_cmp now x)
   said_is now x rows own speaks =
       ap said_by (written now x rows own speaks).reads
-      ∙ ap (λ (es : List (MrpEvent × ℕ × Unit {0})). let m : Messages ℕ (Unit {0}) = record { leave_all = is_active x.leave_all; events = es } in Some m) (again (sent_events base octets nat_cmp now x))
+      ∙ ap (λ (es : List (MrpEvent × ℕ × Unit {0})). let m : Messages ℕ (Unit {0}) = record { leave_all = is_active x.leave_all; events = es } in Some m)
+      (again (sent_events base octets nat_cmp now x))
 
   spoken_there : (now : Cs) (at : ℕ) (s : NodeGroups) → IsProperNode s → (x : Part) → slice_get s.side.parts at ≡ Some x → is_silent x ≡ false
       → HasSpoken links now at s (sent_octets now at (Some (mmrp_spelling (pdu_sent now x))) s).0 x

@@ -16,7 +16,8 @@ sized (Some s) make v h = h s
 
 pub of_received : (now : Cs) (at : ℕ) (pdu : GroupPdu) (v : Groups) → length (received_flat nat_cmp now at pdu.leave_all pdu.events v).parts ≡ length v.parts
 of_received now at pdu v =
-    sized (slice_get v.parts at) (λ s. with_told_part nat_cmp at (received_part now pdu s) (told_by_receipt nat_cmp now pdu.leave_all pdu.events s) v) v (λ s. length-set v.parts at (received_part now pdu s))
+    sized (slice_get v.parts at) (λ s. with_told_part nat_cmp at (received_part now pdu s) (told_by_receipt nat_cmp now pdu.leave_all pdu.events s) v) v
+    (λ s. length-set v.parts at (received_part now pdu s))
 
 pub of_due : (now : Cs) (at : ℕ) (v : Groups) → length (due_flat nat_cmp now at v).parts ≡ length v.parts
 of_due now at v =

@@ -1,5 +1,5 @@
--- What is on each link, as messages: the octets in flight read as what they say, so that the duty of a link's two ends
--- (mrp_participant) speaks of the network.
+-- What is on each link, as messages: the octets in flight read as what they say, so that the duty
+-- of a link's two ends (mrp_participant) speaks of the network.
 use Rattle.std.specs.Prelude.{◌≡◌, ℕ, List, ◌++◌, filter_map, Option, Some, None, Result, Ok, Err, slice_get}
 use Rattle.std.specs.{Option.option_and_then, Ordering.nat_cmp}
 use Rattle.srp_base.specs.declared.numbers.EgressPort.{EgressPort}

@@ -9,8 +9,9 @@ abbrev pub AreBridgesIdle : NetGroups → Type 0
 AreBridgesIdle w =
     (x : ℕ) (s : NodeGroups) → slice_get w.nodes x ≡ Some s → slice_get w.tree.kinds x ≡ Some Bridge → s.side.own ≡ []
 
--- What every network keeps: a sound tree, a node for each of its nodes, with a port for each of its links and what every node
--- keeps, bridges that have joined nothing, a clock below the end of time, and both duties of each link.
+-- What every network keeps: a sound tree, a node for each of its nodes, with a port for each of its
+-- links and what every node keeps, bridges that have joined nothing, a clock below the end of time,
+-- and both duties of each link.
 pub record IsKeptNet (w : NetGroups) : Type 0 where
   pub tree : IsSound w.tree
   pub many : length w.nodes ≡ length w.tree.kinds

@@ -1,5 +1,5 @@
--- The participant and the side of MMRP at a node, with MAC addresses as keys and no content (IEEE Std 802.1Q-2018, 10.12.1):
--- the words on a flat side, for MAC addresses.
+-- The participant and the side of MMRP at a node, with MAC addresses as keys and no content (IEEE
+-- Std 802.1Q-2018, 10.12.1): the words on a flat side, for MAC addresses.
 use Rattle.std.specs.Prelude.{◌<◌, ◌^◌, ℕ, Bool, List}
 use Rattle.std.specs.Ordering.{nat_cmp}
 use Rattle.srp_base.specs.declared.{numbers.Cs.Cs, mrp.MrpEvent.MrpEvent}
@@ -12,8 +12,8 @@ use Rattle.flat_side.specs.Keys as keys
 use Rattle.flat_side.specs.Part as flat
 use Rattle.flat_side.specs.Side as side
 
--- the stated octets of a PDU without MAC addresses: ProtocolVersion, a Message of each type with the vector of a LeaveAll
--- alone, the EndMarks
+-- the stated octets of a PDU without MAC addresses: ProtocolVersion, a Message of each type with
+-- the vector of a LeaveAll alone, the EndMarks
 abbrev pub base : ℕ
 base = 22
 
@@ -40,8 +40,8 @@ mac_codec =
 abbrev pub Part : Type 0
 Part = flat.Part ℕ
 
--- the participants of the link ports, the MAC addresses that await settling at each, and those that the application has
--- joined
+-- the participants of the link ports, the MAC addresses that await settling at each, and those that
+-- the application has joined
 abbrev pub Groups : Type 0
 Groups = side.FlatState ℕ
 
@@ -53,7 +53,8 @@ messages pdu = flat.said_events pdu.events
 abbrev pub received_part : Cs → GroupPdu → Part → Part
 received_part now pdu s = flat.received_part nat_cmp now pdu.leave_all pdu.events s
 
--- the PDU that is sent: a LeaveAll where the LeaveAll machine is Active, and what those rows say that find room in it
+-- the PDU that is sent: a LeaveAll where the LeaveAll machine is Active, and what those rows say
+-- that find room in it
 abbrev pub pdu_sent : Cs → Part → GroupPdu
 pdu_sent now s = side.pdu_sent nat_cmp mac_codec base octets now s
 

@@ -1,6 +1,6 @@
--- The law of groups: a MAC address is registered at a port exactly where a station behind the port has joined it (IEEE Std
--- 802.1Q-2018, 10.12). Either side by its own definition: one looks at the registrars, the other at the tree and at what the
--- stations' applications have joined.
+-- The law of groups: a MAC address is registered at a port exactly where a station behind the port
+-- has joined it (IEEE Std 802.1Q-2018, 10.12). Either side by its own definition: one looks at the
+-- registrars, the other at the tree and at what the stations' applications have joined.
 use Rattle.std.specs.Prelude.{◌≡◌, ◌↔◌, ◌-◌, ℕ, Bool, true, false, ◌&&◌, if◌then◌else◌, List, [], Option, Some, None, length, slice_get, filter_map}
 use Rattle.std.specs.{Option.option_map_or, List.list_any, List.range_with_len}
 use Rattle.srp_base.specs.declared.numbers.EgressPort.{EgressPort}

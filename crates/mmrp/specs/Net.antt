@@ -135,8 +135,8 @@ IsEventInRange events.Clock = Unit {0}
 
 -- ---- what the readers say
 
--- whether nothing is pending anywhere: no PDU is on its way, every Applicant is VO or QA, every Registrar IN or MT, every
--- LeaveAll machine Passive, and no MAC address awaits
+-- whether nothing is pending anywhere: no PDU is on its way, every Applicant is VO or QA, every
+-- Registrar IN or MT, every LeaveAll machine Passive, and no MAC address awaits
 abbrev pub is_quiet : NetGroups → Bool
 is_quiet w = list_all is_still_node w.nodes
 
@@ -144,6 +144,7 @@ is_quiet w = list_all is_still_node w.nodes
 abbrev pub is_busy_at : NodeNo → NetGroups → Bool
 is_busy_at n w = option_map_or (is_busy_node w.clock) (node_at n w) false
 
--- whether every port is sound: it has sent a LeaveAll since a PDU was last lost on its link, if one was
+-- whether every port is sound: it has sent a LeaveAll since a PDU was last lost on its link, if one
+-- was
 abbrev pub is_in_step : NetGroups → Bool
 is_in_step w = list_all are_all_sound w.nodes

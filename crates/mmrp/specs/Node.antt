@@ -1,4 +1,5 @@
--- A node that runs MMRP, and one step of one of its link ports: the node afterwards, and what it answers.
+-- A node that runs MMRP, and one step of one of its link ports: the node afterwards, and what it
+-- answers.
 use Rattle.std.specs.Prelude.{◌≡◌, ◌≤◌, ℕ, suc, ◌==◌, Bool, not, ◌&&◌, ◌||◌, if◌then◌else◌, List, [], ◌∷◌, ◌++◌, length, map, take, drop, Option, Some, None, slice_get, slice_set, Result, Ok, Err}
 use Rattle.std.specs.{Option.option_map_or, List.list_all, List.AllByRecursion, Ordering.nat_cmp}
 use Rattle.srp_base.specs.declared.{numbers.Cs.Cs, memory.NoMemory.NoMemory, ports.PortSetup.PortSetup}
@@ -16,7 +17,8 @@ use Rattle.mmrp.specs.Macs.{Part, Groups, IsMac, base, octets, pdu_sent}
 abbrev pub Waiting : Type 0
 Waiting = List (List ℕ)
 
--- what MMRP keeps, and the PDUs that wait at each link port: those that came in, and those that are to go out
+-- what MMRP keeps, and the PDUs that wait at each link port: those that came in, and those that are
+-- to go out
 pub record NodeGroups : Type 0 where
   pub side : Groups
   pub inboxes : List Waiting
@@ -49,11 +51,13 @@ of_part f none at side = option_map_or f (slice_get side.parts at) none
 abbrev pub are_empty : List Waiting → Bool
 are_empty boxes = list_all (λ pdus. length pdus == 0) boxes
 
--- whether nothing is pending at a node: no PDU waits, every participant is at rest, and no MAC address awaits
+-- whether nothing is pending at a node: no PDU waits, every participant is at rest, and no MAC
+-- address awaits
 abbrev pub is_still_node : NodeGroups → Bool
 is_still_node s = are_empty s.inboxes && are_empty s.outboxes && are_still s.side
 
--- whether a node is busy at a moment: a PDU came in at some port, a timer is due there, or a MAC address awaits
+-- whether a node is busy at a moment: a PDU came in at some port, a timer is due there, or a MAC
+-- address awaits
 abbrev pub is_busy_node : Cs → NodeGroups → Bool
 is_busy_node now s = not (are_empty s.inboxes) || is_busy now s.side
 

@@ -1,12 +1,14 @@
--- A network at its start: its tree, and each node with its ports, nothing joined and no PDU anywhere.
+-- A network at its start: its tree, and each node with its ports, nothing joined and no PDU
+-- anywhere.
 use Rattle.std.specs.Prelude.{ℕ, ◌+◌, ◌*◌, ◌-◌, ◌%◌, ◌==◌, Bool, if◌then◌else◌, List, [], ◌∷◌, ◌++◌}
 use Rattle.srp_base.specs.declared.{numbers.Cs.Cs, ports.PortSetup.PortSetup}
 use Rattle.topology_file.specs.declared.{entries.LinkEntry.LinkEntry, entries.NodeEntry.NodeEntry}
 use Rattle.tree_topology.specs.Topology.{Topology}
 use Rattle.mmrp.specs.{Node.NodeGroups, Node.new_node, Net.NetGroups}
 
--- the LeaveAll period of the end of a link with this number, in cs: the ends of link l have the numbers 2l - 1 and 2l, so
--- that ends don't all send LeaveAll at once (IEEE Std 802.1Q-2018, 10.7.11: LeaveAllTime)
+-- the LeaveAll period of the end of a link with this number, in cs: the ends of link l have the
+-- numbers 2l - 1 and 2l, so that ends don't all send LeaveAll at once (IEEE Std 802.1Q-2018,
+-- 10.7.11: LeaveAllTime)
 abbrev pub period_of : ℕ → Cs
 period_of n = record { 0 = 1001 + 7 * (n % 64) }
 

@@ -1,4 +1,5 @@
-//! MMRP as an application of MRP (IEEE Std 802.1Q-2018, 10.12.1): its attributes are MAC addresses without content.
+//! MMRP as an application of MRP (IEEE Std 802.1Q-2018, 10.12.1): its attributes are MAC addresses
+//! without content.
 
 ghost use Rattle.std.specs.Prelude.{IfOk};
 ghost use Rattle.flat_side.specs.Codec.{IsFitting};
@@ -10,8 +11,8 @@ use mrp_participant::MrpApp;
 use srp_base::{Mac, MrpEvent, NoMemory, Seq};
 use std::alloc::Global;
 
-/// MMRP as an application of MRP: a key is a MAC address, and there is no content. A PDU takes 22 octets, and each
-/// address 9 more.
+/// MMRP as an application of MRP: a key is a MAC address, and there is no content. A PDU takes 22
+/// octets, and each address 9 more.
 pub struct MmrpApp;
 
 impl MrpApp for MmrpApp {

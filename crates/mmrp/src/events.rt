@@ -34,7 +34,8 @@ pub enum GroupEvent {
     Clock,
 }
 
-/// What a network that runs MMRP answers. A number that would pass the greatest u32 is that greatest number.
+/// What a network that runs MMRP answers. A number that would pass the greatest u32 is that
+/// greatest number.
 #[derive(Clone, Copy, PartialEq, Eq)]
 pub enum GroupReply {
     /// The inbox was empty.

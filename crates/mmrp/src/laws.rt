@@ -1,5 +1,5 @@
-//! What every network that runs MMRP keeps, whatever happens in it, and the law of a network at rest. Each is a function
-//! that does nothing; calling it brings the law to a proof.
+//! What every network that runs MMRP keeps, whatever happens in it, and the law of a network at
+//! rest. Each is a function that does nothing; calling it brings the law to a proof.
 
 ghost use Rattle.std.specs.Prelude.{◌≡◌, ◌≢◌, ◌-◌, ℕ, Bool, false, List};
 ghost use Rattle.std.specs.{List.AllByRecursion, Ordering.nat_cmp};
@@ -27,7 +27,8 @@ use mrp_participant::link_laws::{
 };
 use tree_topology::laws::{ports, the_walk};
 
-/// What a participant sends, where it isn't silent, is written in octets that read as it, at most 1,500.
+/// What a participant sends, where it isn't silent, is written in octets that read as it, at most
+/// 1,500.
 pub fn what_is_sent_is_read()
     ensures { (now : Cs) (s : Part) → AreRows nat_cmp s.rows → HasMacRows s → is_silent s ≡ false
         → IsWritten (pdu_sent now s) (mmrp_spelling (pdu_sent now s)) }
@@ -48,8 +49,9 @@ pub fn a_network_begins_well()
     a_new_link_meets_both_duties::<MmrpApp>();
 }
 
-/// Whatever happens in a network keeps what every network keeps: both duties of each link, and at each port each MAC
-/// address that doesn't await is declared exactly where another port or the application has it registered.
+/// Whatever happens in a network keeps what every network keeps: both duties of each link, and at
+/// each port each MAC address that doesn't await is declared exactly where another port or the
+/// application has it registered.
 pub fn every_event_keeps_it()
     ensures event { (e : GroupEvent) (w : NetGroups) → CanHappen e w → IsEventInRange e
         → IsKeptNet w → IsKeptNet (group_step e w).0 }
@@ -66,7 +68,8 @@ pub fn every_event_keeps_it()
     spoiling_keeps_duties::<MmrpApp>();
 }
 
-/// No event changes the tree, none but the clock's the clock; and a step of a port changes its own node alone.
+/// No event changes the tree, none but the clock's the clock; and a step of a port changes its own
+/// node alone.
 pub fn what_events_leave_alone()
     ensures tree { (e : GroupEvent) (w : NetGroups) → (group_step e w).0.tree ≡ w.tree }
     ensures clock { (e : GroupEvent) (w : NetGroups) → e ≢ GroupEvent.Clock
@@ -76,8 +79,9 @@ pub fn what_events_leave_alone()
         → node_at n (group_step (GroupEvent.Port p step) w).0 ≡ node_at n w }
 {}
 
-/// In every network at rest a MAC address is registered at a port exactly where a station behind the port, in the words
-/// of the tree's walks, has joined it (IEEE Std 802.1Q-2018, 10.12); so both sides that `groups_match` answers are equal.
+/// In every network at rest a MAC address is registered at a port exactly where a station behind
+/// the port, in the words of the tree's walks, has joined it (IEEE Std 802.1Q-2018, 10.12); so both
+/// sides that `groups_match` answers are equal.
 pub fn groups_are_those_joined_behind()
     ensures law { (w : NetGroups) → IsKeptNet w → IsAtRest w → GroupsMatch w }
     ensures sides { (w : NetGroups) (p : EgressPort) (mac : ℕ) → IsKeptNet w → IsAtRest w
@@ -89,10 +93,10 @@ pub fn groups_are_those_joined_behind()
     the_walk();
 }
 
-/// From the start of a file's network on, after every list of events that may happen, whatever is lost or repeated and in
-/// whatever order the ports make their steps, the network keeps both duties of each link and the flat rule at every port;
-/// and where it is then at rest, a MAC address is registered at a port exactly where a station behind the port has joined
-/// it.
+/// From the start of a file's network on, after every list of events that may happen, whatever is
+/// lost or repeated and in whatever order the ports make their steps, the network keeps both duties
+/// of each link and the flat rule at every port; and where it is then at rest, a MAC address is
+/// registered at a port exactly where a station behind the port has joined it.
 pub fn groups_match_after_every_list_of_events()
     ensures kept { (ticks : ℕ) (tree : Topology) (leave_time : Cs) (periodic : Bool)
         (nodes : List NodeEntry) (links : List LinkEntry) (es : List GroupEvent)

@@ -11,7 +11,8 @@ use mrp_participant::Participant;
 use srp_base::{EgressPort, Mac, NoMemory, NodeNo, Seq};
 use std::alloc::Global;
 
-/// The two sides of the law of groups at one port, for one MAC address. They are equal where the network is at rest.
+/// The two sides of the law of groups at one port, for one MAC address. They are equal where the
+/// network is at rest.
 #[derive(Clone, Copy, PartialEq, Eq)]
 pub struct GroupSides {
     /// The MAC address is registered at the port.
@@ -21,8 +22,9 @@ pub struct GroupSides {
 }
 
 impl GroupNet {
-    /// Whether a MAC address is registered at a port, its Registrar IN or LV, and whether a station behind the port has
-    /// joined it (IEEE Std 802.1Q-2018, 10.12), each by its own definition in every network. The port exists.
+    /// Whether a MAC address is registered at a port, its Registrar IN or LV, and whether a station
+    /// behind the port has joined it (IEEE Std 802.1Q-2018, 10.12), each by its own definition in
+    /// every network. The port exists.
     pub fn groups_match(&self, at: EgressPort, mac: Mac) -> GroupSides
         requires { HasPort self.now.tree at }
         ensures found { result.found ≡ is_registered self.now mac at }

@@ -45,7 +45,8 @@ impl Model for GroupNet {
 }
 
 impl GroupNet {
-    /// The network of a group scenario at its start: nothing is joined, no PDU waits, the clock is at 0.
+    /// The network of a group scenario at its start: nothing is joined, no PDU waits, the clock is
+    /// at 0.
     pub fn of(alloc: Global, scenario: &GroupScenario) -> Result<GroupNet, NoMemory>
         ensures { IfOk result (λ net. net ≡ net_of scenario.now.tree scenario.now.leave_time
             scenario.now.periodic scenario.now.nodes scenario.now.links) }
@@ -68,17 +69,18 @@ impl GroupNet {
         })
     }
 
-    /// What every network keeps, whatever has happened in it: a node for each of its tree's, both duties of each link, and
-    /// the flat rule at every port. It is a law, and does nothing.
+    /// What every network keeps, whatever has happened in it: a node for each of its tree's, both
+    /// duties of each link, and the flat rule at every port. It is a law, and does nothing.
     pub fn keeps(&self)
         ensures { IsKeptNet self.now }
     {
         let _ = &self.tree;
     }
 
-    /// Lets one event happen, and answers what came of it: a port's step answers as `GroupStep` says, `Missed` comes
-    /// exactly where no PDU has the index, and `Done` for all else. The nodes and ports that the event names exist, a
-    /// station joins and parts, and the clock goes on from below 2^61. After want of memory the network is as it was.
+    /// Lets one event happen, and answers what came of it: a port's step answers as `GroupStep`
+    /// says, `Missed` comes exactly where no PDU has the index, and `Done` for all else. The nodes
+    /// and ports that the event names exist, a station joins and parts, and the clock goes on from
+    /// below 2^61. After want of memory the network is as it was.
     pub fn step(&mut self, event: GroupEvent) -> Result<GroupReply, NoMemory>
         requires { CanHappen event self.old }
         ensures ok { IfOk result (λ reply. group_step event self.old ≡ (self.new, reply)) }
@@ -187,7 +189,8 @@ impl GroupNet {
         &self.tree
     }
 
-    /// The state of the registrar of a MAC address at a port, MT where there is no row. The port exists.
+    /// The state of the registrar of a MAC address at a port, MT where there is no row. The port
+    /// exists.
     pub fn registrar(&self, at: EgressPort, mac: Mac) -> Registrar
         requires { HasPort self.now.tree at }
         ensures { result ≡ registrar_at self.now mac at }
@@ -203,7 +206,8 @@ impl GroupNet {
         pending(&self.nodes, at)
     }
 
-    /// Whether a node is busy: a PDU came in at some port, a timer is due there, or a MAC address awaits. The node exists.
+    /// Whether a node is busy: a PDU came in at some port, a timer is due there, or a MAC address
+    /// awaits. The node exists.
     pub fn is_busy(&self, node: NodeNo) -> bool
         requires { HasNode self.now.tree node.0 }
         ensures { result ≡ is_busy_at node self.now }
@@ -232,15 +236,16 @@ impl GroupNet {
         *self.nodes.allocator()
     }
 
-    /// Whether nothing is pending: no PDU is on its way, every Applicant is VO or QA, every Registrar IN or MT, every
-    /// LeaveAll machine Passive, and no MAC address awaits.
+    /// Whether nothing is pending: no PDU is on its way, every Applicant is VO or QA, every
+    /// Registrar IN or MT, every LeaveAll machine Passive, and no MAC address awaits.
     pub fn quiet(&self) -> bool
         ensures { result ≡ is_quiet self.now }
     {
         self.nodes.iter().all(|node| node.still())
     }
 
-    /// Whether every port is sound: it has sent a LeaveAll since a PDU was last lost on its link, if one was.
+    /// Whether every port is sound: it has sent a LeaveAll since a PDU was last lost on its link,
+    /// if one was.
     pub fn in_step(&self) -> bool
         ensures { result ≡ is_in_step self.now }
     {

@@ -32,9 +32,11 @@ impl Model for GroupNode {
 
     ghost Value = { NodeGroups };
 
-    ghost view = { λ n. record { side = n.side.state; inboxes = n.inboxes.items; outboxes = n.outboxes.items } };
+    ghost view = { λ n. record
+        { side = n.side.state; inboxes = n.inboxes.items; outboxes = n.outboxes.items } };
 
-    ghost invariant = { λ n. IsKeptNode (record { side = n.side.state; inboxes = n.inboxes.items; outboxes = n.outboxes.items }) };
+    ghost invariant = { λ n. IsKeptNode
+        (record { side = n.side.state; inboxes = n.inboxes.items; outboxes = n.outboxes.items }) };
 }
 
 impl GroupNode {
@@ -115,7 +117,8 @@ impl GroupNode {
         self.side.all_sound()
     }
 
-    // Whether the node is busy at a moment: a PDU came in at some port, a timer is due there, or a MAC address awaits.
+    // Whether the node is busy at a moment: a PDU came in at some port, a timer is due there, or a
+    // MAC address awaits.
     pub(crate) fn is_busy(&self, now: Cs) -> bool
         ensures { result ≡ is_busy_node now self.now }
     {
@@ -206,8 +209,8 @@ impl GroupNode {
         mem::replace(&mut self.outboxes[at], Seq::new(alloc))
     }
 
-    // Puts PDUs of at most 1,500 octets behind those of a port's inbox. After want of memory the node is as it was, and
-    // the PDUs are handed back.
+    // Puts PDUs of at most 1,500 octets behind those of a port's inbox. After want of memory the
+    // node is as it was, and the PDUs are handed back.
     pub(crate) fn put_in(
         &mut self,
         port: PortNo,

@@ -1,4 +1,5 @@
-//! What a step of a node does to its side. Each function says that the side still has what it keeps, and as many ports.
+//! What a step of a node does to its side. Each function says that the side still has what it
+//! keeps, and as many ports.
 
 ghost use Rattle.std.specs.Prelude.{◌≡◌, ◌<◌, ◌≤◌, ◌^◌, ◌++◌, ◌∷◌, [], length, vec_len, vec_capacity, IfOk, OnOk, OnErr};
 ghost use Rattle.std.specs.Ordering.{nat_cmp};
@@ -15,8 +16,8 @@ use flat_side::FlatSide;
 use mmrp_codec::DecodeErr;
 use srp_base::{Cs, Mac, NoMemory, PortNo, Seq};
 
-/// MMRP at a node (IEEE Std 802.1Q-2018, 10.12): a participant at each link port, the MAC addresses that await settling
-/// there, and those that the application has joined.
+/// MMRP at a node (IEEE Std 802.1Q-2018, 10.12): a participant at each link port, the MAC addresses
+/// that await settling there, and those that the application has joined.
 pub(crate) type MmrpSide = FlatSide<MmrpApp>;
 
 // The application joins a MAC address, or parts from it.

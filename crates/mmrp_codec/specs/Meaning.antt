@@ -1,5 +1,5 @@
--- What an MRPDU of MMRP says (IEEE Std 802.1Q-2018, 10.8.1.2, 10.12.1), and where one that `mrpdu_codec` reads is
--- malformed all the same.
+-- What an MRPDU of MMRP says (IEEE Std 802.1Q-2018, 10.8.1.2, 10.12.1), and where one that
+-- `mrpdu_codec` reads is malformed all the same.
 use Rattle.std.specs.Prelude.{◌≡◌, ◌<◌, ℕ, ◌+◌, ◌^◌, Bool, true, false, List, [], ◌∷◌, length, take, slice_get, Option, Some, None, Result, Ok, Err, nat_le, ◌==◌, if◌then◌else◌}
 use Rattle.std.specs.{Option.unwrap_or, List.flat_map, List.list_all, List.AllByRecursion}
 use Rattle.srp_base.specs.Hexadecimal.{number_high_first}
@@ -18,7 +18,8 @@ AreMacs events = AllByRecursion (λ e. e.1 < 2 ^ 48) events
 
 -- ---- What is said
 
--- the vectors of MAC addresses in a Message: all those of the type 2. The type 1, service requirement, has none (10.12.1.7).
+-- the vectors of MAC addresses in a Message: all those of the type 2. The type 1, service
+-- requirement, has none (10.12.1.7).
 abbrev pub mac_vectors : Message → List VectorAttr
 mac_vectors m = if m.kind == 2 then m.vectors else []
 
@@ -53,7 +54,8 @@ is_in_range v = values_fit (number_high_first v.first) (length v.events)
 abbrev pub message_in_range : Message → Bool
 message_in_range m = list_all is_in_range (mac_vectors m)
 
--- the number of the first of these vectors that isn't in range, where the first of them has this number
+-- the number of the first of these vectors that isn't in range, where the first of them has this
+-- number
 abbrev pub first_past_in : ℕ → List VectorAttr → Option ℕ
 first_past_in i [] = None
 first_past_in i (v ∷ vs) = if is_in_range v then first_past_in (i + 1) vs else Some i
@@ -67,8 +69,8 @@ abbrev pub found_in : ℕ → Option ℕ → Option (ℕ × ℕ) → Option (ℕ
 found_in message None later = later
 found_in message (Some vector) later = Some (message, vector)
 
--- the first vector of Messages, the first of which has this number, that isn't in range: by the number of its
--- Message and its own number there
+-- the first vector of Messages, the first of which has this number, that isn't in range: by the
+-- number of its Message and its own number there
 abbrev pub first_past : ℕ → List Message → Option (ℕ × ℕ)
 first_past i [] = None
 first_past i (m ∷ ms) = found_in i (message_past m) (first_past (i + 1) ms)
@@ -119,6 +121,7 @@ abbrev pub read_as : List ℕ → Result Pdu ℕ → Result GroupPdu ℕ
 read_as octets (Ok pdu) = meaning_or_place octets pdu (first_past 0 pdu.messages)
 read_as octets (Err place) = Err place
 
--- The reading of the octets of an MRPDU of MMRP: what they say, or the place where they are malformed.
+-- The reading of the octets of an MRPDU of MMRP: what they say, or the place where they are
+-- malformed.
 abbrev pub mmrp_reading : List ℕ → Result GroupPdu ℕ
 mmrp_reading octets = read_as octets (reading Mmrp octets)

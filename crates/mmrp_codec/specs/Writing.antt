@@ -1,5 +1,6 @@
--- The one spelling in which the events of MAC addresses are written (IEEE Std 802.1Q-2018, 10.8.1.2): with a LeaveAll
--- a Message of the service requirement type with it alone, and then a vector for each event, in the order given.
+-- The one spelling in which the events of MAC addresses are written (IEEE Std 802.1Q-2018,
+-- 10.8.1.2): with a LeaveAll a Message of the service requirement type with it alone, and then a
+-- vector for each event, in the order given.
 use Rattle.std.specs.Prelude.{◌≡◌, ℕ, ◌≤◌, Bool, true, false, ◌||◌, List, [], ◌∷◌, ◌++◌, length, map, nat_lt}
 use Rattle.std.specs.Int.{bytes_high_first}
 use Rattle.mrpdu_codec.specs.declared.{form.AppForm.TheVariants.Mmrp, pdu.VectorAttr.VectorAttr, pdu.Message.Message, pdu.Pdu.Pdu}
@@ -11,7 +12,8 @@ use Rattle.mmrp_codec.specs.Meaning.{MacEvent}
 abbrev pub leave_vector : List ℕ → VectorAttr
 leave_vector zeros = record { leave_all = true; first = zeros; events = []; params = [] }
 
--- the Messages of service requirements: a LeaveAll, where there is one, since it counts for both types
+-- the Messages of service requirements: a LeaveAll, where there is one, since it counts for both
+-- types
 abbrev pub service_messages : Bool → List Message
 service_messages false = []
 service_messages true = record { kind = 1; vectors = leave_vector (0 ∷ []) ∷ [] } ∷ []

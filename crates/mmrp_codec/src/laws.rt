@@ -1,13 +1,15 @@
-//! Laws of what octets of MMRP say. A crate above that needs one calls it, and its proof has the clauses.
+//! Laws of what octets of MMRP say. A crate above that needs one calls it, and its proof has the
+//! clauses.
 
 ghost use Rattle.std.specs.Prelude.{◌≡◌, ◌≤◌, ◌↔◌, List, ℕ, length, Ok, Err};
 ghost use Rattle.mmrp_codec.specs.declared.pdu.GroupPdu.{GroupPdu};
 ghost use Rattle.mmrp_codec.specs.Meaning.{AreMacs, SaysMmrp, MmrpBreaks, mmrp_reading};
 ghost use Rattle.mmrp_codec.specs.Writing.{IsWritable, mmrp_spelling};
 
-/// The reading as a function is the grammar with the meaning of a PDU: octets read as exactly what the PDU that they
-/// spell says, where its MAC addresses stay within 48 bits, or as exactly the place where they are malformed: where
-/// the grammar breaks, or else the first FirstValue whose values pass 48 bits.
+/// The reading as a function is the grammar with the meaning of a PDU: octets read as exactly what
+/// the PDU that they spell says, where its MAC addresses stay within 48 bits, or as exactly the
+/// place where they are malformed: where the grammar breaks, or else the first FirstValue whose
+/// values pass 48 bits.
 pub fn reading_is_the_grammar()
     ensures reads { (octets : List ℕ) (read : GroupPdu) → (mmrp_reading octets
         ≡ Ok read) ↔ SaysMmrp octets read }

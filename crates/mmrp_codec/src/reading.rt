@@ -71,7 +71,8 @@ fn push_values(
     Ok(())
 }
 
-/// Puts the events of a vector at the end, where its values stay within 48 bits. What is answered is whether they do.
+/// Puts the events of a vector at the end, where its values stay within 48 bits. What is answered
+/// is whether they do.
 fn push_vector(out: &mut Vec<(MrpEvent, Mac)>, raw: &RawVector<'_>) -> Result<bool, AllocError>
     requires { IsTrue (fits_in_place raw.now) }
     ensures fits { IfOk result (λ fits. fits ≡ is_in_range_in_place raw.now) }
@@ -87,7 +88,8 @@ fn push_vector(out: &mut Vec<(MrpEvent, Mac)>, raw: &RawVector<'_>) -> Result<bo
     Ok(true)
 }
 
-/// Puts the events of vectors at the end, up to the first whose values pass 48 bits. What is answered is its number.
+/// Puts the events of vectors at the end, up to the first whose values pass 48 bits. What is
+/// answered is its number.
 fn push_vectors(
     out: &mut Vec<(MrpEvent, Mac)>,
     raws: &[RawVector<'_>],
@@ -105,8 +107,8 @@ fn push_vectors(
     Ok(None)
 }
 
-/// Puts the events of a Message at the end, up to the first vector whose values pass 48 bits. What is answered is its
-/// number. A Message of service requirements has none.
+/// Puts the events of a Message at the end, up to the first vector whose values pass 48 bits. What
+/// is answered is its number. A Message of service requirements has none.
 #[tactic(auto, using(crate::proofs::ReadingLemmas::macs_in_place, crate::proofs::ReadingLemmas::events_meant))]
 fn push_message(
     out: &mut Vec<(MrpEvent, Mac)>,
@@ -124,8 +126,9 @@ fn push_message(
     }
 }
 
-/// Puts the events of Messages at the end, in the order of their octets, up to the first vector whose values pass 48
-/// bits. What is answered is the number of its Message and its own number there.
+/// Puts the events of Messages at the end, in the order of their octets, up to the first vector
+/// whose values pass 48 bits. What is answered is the number of its Message and its own number
+/// there.
 fn push_messages(
     out: &mut Vec<(MrpEvent, Mac)>,
     raws: &[RawMessage<'_>],
@@ -143,8 +146,8 @@ fn push_messages(
     Ok(None)
 }
 
-/// How many vectors Messages have: room for as many events spares most moves of what is read. No clause speaks of
-/// room.
+/// How many vectors Messages have: room for as many events spares most moves of what is read. No
+/// clause speaks of room.
 fn room_for(raws: &[RawMessage<'_>]) -> usize {
     let mut room: usize = 0;
     for raw in raws {
@@ -153,7 +156,8 @@ fn room_for(raws: &[RawMessage<'_>]) -> usize {
     room
 }
 
-/// The events of a PDU. Where the values of a vector pass 48 bits, the first such vector comes with those before it.
+/// The events of a PDU. Where the values of a vector pass 48 bits, the first such vector comes with
+/// those before it.
 #[tactic(auto, using(crate::proofs::ReadingLemmas::forms_in_place, crate::proofs::ReadingLemmas::messages_meant))]
 fn events_of(
     alloc: Global,
@@ -188,16 +192,16 @@ fn place_in(octets: &[u8], vector: (usize, usize)) -> u32
     mrpdu_codec::first_value_at(AppForm::Mmrp, octets, vector.0, vector.1).unwrap_or(0)
 }
 
-/// What the octets of an MRPDU of MMRP say: whether any vector of either type has a LeaveAll, and the events of MAC
-/// addresses in the order of the octets. The i-th value of a vector is the FirstValue with i added, as one number of
-/// 48 bits. Values of the service requirement type are read, and give no event (IEEE Std 802.1Q-2018, 10.12.1). There
-/// are fewer than 2^32 octets.
+/// What the octets of an MRPDU of MMRP say: whether any vector of either type has a LeaveAll, and
+/// the events of MAC addresses in the order of the octets. The i-th value of a vector is the
+/// FirstValue with i added, as one number of 48 bits. Values of the service requirement type are
+/// read, and give no event (IEEE Std 802.1Q-2018, 10.12.1). There are fewer than 2^32 octets.
 ///
 /// # Errors
 ///
-/// `Malformed` carries the offset, in octets from 0, of the first field that breaks its rule or that the octets are
-/// too short for; where there is none, that of the first FirstValue whose values pass 2^48 - 1. `NoMemory` comes where
-/// memory for the events runs out.
+/// `Malformed` carries the offset, in octets from 0, of the first field that breaks its rule or
+/// that the octets are too short for; where there is none, that of the first FirstValue whose
+/// values pass 2^48 - 1. `NoMemory` comes where memory for the events runs out.
 pub fn decode(alloc: Global, octets: &[u8]) -> Result<GroupPdu, DecodeErr>
     requires { length octets.now < 2 ^ 32 }
 
@@ -206,8 +210,9 @@ pub fn decode(alloc: Global, octets: &[u8]) -> Result<GroupPdu, DecodeErr>
     ensures broken { (place : ℕ) → result ≡ Err (errors.Malformed place)
         → MmrpBreaks octets.now place }
 
-    // Want of memory alone is free: else the answer is the reading, which the law `reading_is_the_grammar` says is
-    // all that the octets read as and each place where they are malformed.
+    // Want of memory alone is free: else the answer is the reading, which the law
+    // `reading_is_the_grammar` says is all that the octets read as and each place where they are
+    // malformed.
     ensures exact { Answers result (mmrp_reading octets.now) }
 {
     mrpdu_codec::first_values_have_places();

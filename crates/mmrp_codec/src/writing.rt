@@ -68,10 +68,11 @@ fn written(alloc: Global, leave_all: bool, events: &[(MrpEvent, Mac)]) -> Result
     Ok(out)
 }
 
-/// The octets that say a LeaveAll and the events of MAC addresses (IEEE Std 802.1Q-2018, 10.8.1.2, 10.12.1), in the
-/// order given: each address is a vector of one. With a LeaveAll both types have a Message, whose first vector has it;
-/// a type without a value has a vector without values. Where the addresses ascend this is the canonical encoding. There
-/// has to be a LeaveAll or an event, and there have to be at most 164 events, so that the octets are at most 1,500.
+/// The octets that say a LeaveAll and the events of MAC addresses (IEEE Std 802.1Q-2018, 10.8.1.2,
+/// 10.12.1), in the order given: each address is a vector of one. With a LeaveAll both types have a
+/// Message, whose first vector has it; a type without a value has a vector without values. Where
+/// the addresses ascend this is the canonical encoding. There has to be a LeaveAll or an event, and
+/// there have to be at most 164 events, so that the octets are at most 1,500.
 ///
 /// # Errors
 ///

@@ -1,6 +1,6 @@
--- What two neighbours owe one another over a link (IEEE Std 802.1Q-2018, 10.7): what each one's registrars will
--- hold once all that is in flight has been received is what the other declares. The statement is this
--- project's; the standard says what each machine does, and not what it comes to.
+-- What two neighbours owe one another over a link (IEEE Std 802.1Q-2018, 10.7): what each one's
+-- registrars will hold once all that is in flight has been received is what the other declares. The
+-- statement is this project's; the standard says what each machine does, and not what it comes to.
 use Rattle.std.specs.Prelude.{◌≡◌, ◌⊎◌, Bool, true, if◌then◌else◌, List, fold}
 use Rattle.std.specs.{declared.option.Option.Option, declared.option.Option.TheVariants.None, declared.option.Option.TheVariants.Some, declared.cmp.Ordering.Ordering, List.list_any}
 use Rattle.srp_base.specs.declared.mrp.MrpEvent.{MrpEvent}
@@ -11,13 +11,14 @@ use Rattle.mrp_participant.specs.declared.row.Row.{Row}
 use Rattle.mrp_participant.specs.{Lookup.same, Lookup.find, State.State, State.Messages}
 use Rattle.registrar.specs.Table.{is_in}
 
--- what a registrar holds of its key: the content that it heard last where it is IN, and else nothing
+-- what a registrar holds of its key: the content that it heard last where it is IN, and else
+-- nothing
 abbrev pub held_in : {K C : Type 0} → Option (Row K C) → Option C
 held_in None = None
 held_in (Some r) = if is_in r.registrar then Some r.heard else None
 
--- what it holds after an event of its key: New and the two Joins give their content, Lv nothing, and In and
--- Mt change nothing
+-- what it holds after an event of its key: New and the two Joins give their content, Lv nothing,
+-- and In and Mt change nothing
 abbrev pub held_after_event : {C : Type 0} → MrpEvent → C → Option C → Option C
 held_after_event New c held = Some c
 held_after_event JoinIn c held = Some c
@@ -31,7 +32,8 @@ module _ {K C : Type 0} where
   abbrev pub held_hearing : (K → K → Ordering) → K → Option C → MrpEvent × K × C → Option C
   held_hearing cmp k held e = if same cmp e.1 k then held_after_event e.0 e.2 held else held
 
-  -- what it holds after a list of messages: LeaveAll leaves nothing, and then the events count in order
+  -- what it holds after a list of messages: LeaveAll leaves nothing, and then the events count in
+  -- order
   abbrev pub held_after : (K → K → Ordering) → K → Option C → Messages K C → Option C
   held_after cmp k held m = fold (held_hearing cmp k) (if m.leave_all then None else held) m.events
 
@@ -43,9 +45,10 @@ module _ {K C : Type 0} where
   abbrev pub has_leave_all : List (Messages K C) → Bool
   has_leave_all flying = list_any (λ m. m.leave_all) flying
 
--- what an applicant with a declared content owes, where the neighbour's registrar will hold so much of the key
--- and a LeaveAll of the neighbour's may be in flight: VO that nothing will be held; AN, AA and QA that the
--- content will, or that such a LeaveAll comes, at which they say it again. VP, VN and LA have yet to speak.
+-- what an applicant with a declared content owes, where the neighbour's registrar will hold so much
+-- of the key and a LeaveAll of the neighbour's may be in flight: VO that nothing will be held; AN,
+-- AA and QA that the content will, or that such a LeaveAll comes, at which they say it again. VP,
+-- VN and LA have yet to speak.
 abbrev pub Owes : {C : Type 0} → Applicant → C → Option C → Bool → Type 0
 Owes Vo c held asked = held ≡ None
 Owes Vp c held asked = Unit {0}
@@ -60,9 +63,10 @@ abbrev pub OwesOf : {K C : Type 0} → Option (Row K C) → Option C → Bool �
 OwesOf None held asked = held ≡ None
 OwesOf (Some r) held asked = Owes r.applicant r.content held asked
 
--- the duty of a participant `near` to its neighbour `far` is met on their link, with the lists of messages in
--- flight to the neighbour and from it: where the participant is sound, it owes of each key what its row says.
--- Where it isn't sound, as after a loss and until its next LeaveAll, it owes nothing.
+-- the duty of a participant `near` to its neighbour `far` is met on their link, with the lists of
+-- messages in flight to the neighbour and from it: where the participant is sound, it owes of each
+-- key what its row says. Where it isn't sound, as after a loss and until its next LeaveAll, it owes
+-- nothing.
 pub record IsDutyMet {K C : Type 0} (cmp : K → K → Ordering) (near far : State K C) (sent coming : List (Messages K C)) : Type 0 where
   pub of_key :
       near.sound ≡ true

@@ -1,5 +1,6 @@
--- How the code receives: the rows of the keys that are heard of are found beside the rows of the participant,
--- and then put over them. That this is the fold of `State` is proved, and no public contract names this file.
+-- How the code receives: the rows of the keys that are heard of are found beside the rows of the
+-- participant, and then put over them. That this is the fold of `State` is proved, and no public
+-- contract names this file.
 use Rattle.std.specs.Prelude.{Bool, true, if◌then◌else◌, List, [], fold, option_map}
 use Rattle.std.specs.{declared.option.Option.Option, declared.option.Option.TheVariants.None, declared.option.Option.TheVariants.Some, declared.cmp.Ordering.Ordering, Set.sorted_merge}
 use Rattle.srp_base.specs.declared.{numbers.Cs.Cs, mrp.MrpEvent.MrpEvent}

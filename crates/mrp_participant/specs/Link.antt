@@ -1,11 +1,13 @@
--- A link between two participants as contracts see it, and everything that can happen on it, so that the duty
--- stands for every history of a link (IEEE Std 802.1Q-2018, 10.7). The list of events is this project's.
+-- A link between two participants as contracts see it, and everything that can happen on it, so
+-- that the duty stands for every history of a link (IEEE Std 802.1Q-2018, 10.7). The list of events
+-- is this project's.
 use Rattle.std.specs.Prelude.{ℕ, zero, suc, Bool, true, false, if◌then◌else◌, List, [], ◌∷◌, ◌++◌, take, drop, fold}
 use Rattle.std.specs.declared.cmp.Ordering.{Ordering}
 use Rattle.srp_base.specs.declared.numbers.Cs.{Cs}
 use Rattle.mrp_participant.specs.{Duty.IsDutyMet, State.State, State.Messages, State.AreRows, State.is_silent, State.new_state, State.declared_state, State.withdrawn_state, State.left_state, State.received_state, State.leave_all_state, State.periodic_state, State.due_state, State.sent_state, State.sent_messages}
 
--- the participants at the two ends of a link, and what each has sent that the other has yet to receive, in order
+-- the participants at the two ends of a link, and what each has sent that the other has yet to
+-- receive, in order
 pub record Link (K C : Type 0) : Type 0 where
   pub near : State K C
   pub far : State K C
@@ -17,7 +19,8 @@ pub data EndEvent (K C : Type 0) : Type 0 where
   -- the user declares a key with a content, or withdraws one
   Declares : K → C → EndEvent K C
   Withdraws : K → EndEvent K C
-  -- the leave timer of a key ends; all timers that are due at a moment fire; LeaveAll's does; periodic does
+  -- the leave timer of a key ends; all timers that are due at a moment fire; LeaveAll's does;
+  -- periodic does
   Leaves : K → EndEvent K C
   Fires : Cs → EndEvent K C
   FiresLeaveAll : Cs → EndEvent K C

@@ -21,8 +21,8 @@ abbrev pub find : {K C : Type 0} → (K → K → Ordering) → K → List (Row 
 find cmp k [] = None
 find cmp k (r ∷ rows) = if same cmp r.key k then Some r else find cmp k rows
 
--- at the first of some rows: another row for a key that comes after it, is its key, or comes before it;
--- `later` is the rest with that row
+-- at the first of some rows: another row for a key that comes after it, is its key, or comes before
+-- it; `later` is the rest with that row
 abbrev pub put_at : {K C : Type 0} → Ordering → Option (Row K C) → Row K C → List (Row K C) → List (Row K C) → List (Row K C)
 put_at Less new r rows later = r ∷ later
 put_at Equal new r rows later = cons_option new rows

@@ -1,14 +1,15 @@
--- A link beside which marks say where a neighbour's LeaveAll has cleared the way. A LeaveAll that an end sends while nothing is on
--- its way from the other end leaves nothing held of what that other end declares; and where the other end takes the LeaveAll
--- before it says anything, it has yet to say all that it declares. So it is sound from then on, as after a LeaveAll of its own
+-- A link beside which marks say where a neighbour's LeaveAll has cleared the way. A LeaveAll that
+-- an end sends while nothing is on its way from the other end leaves nothing held of what that
+-- other end declares; and where the other end takes the LeaveAll before it says anything, it has
+-- yet to say all that it declares. So it is sound from then on, as after a LeaveAll of its own
 -- (IEEE Std 802.1Q-2018, 10.7.5.20 and 10.7.6.6: LeaveAll). The marks are this project's.
 use Rattle.std.specs.Prelude.{◌≡◌, ℕ, Bool, true, false, ◌||◌, ◌&&◌, if◌then◌else◌, List, [], ◌∷◌, fold}
 use Rattle.std.specs.{declared.option.Option.TheVariants.None, declared.cmp.Ordering.Ordering}
 use Rattle.srp_base.specs.declared.numbers.Cs.{Cs}
 use Rattle.mrp_participant.specs.{Lookup.find, Duty.held_in, Duty.hears, Link.Link, Link.EndEvent, Link.LinkEvent, Link.AreDutiesMet, Link.new_link, Link.other_view, Link.after_end_event, Link.EndEvent.Declares, Link.EndEvent.Withdraws, Link.EndEvent.Leaves, Link.EndEvent.Fires, Link.EndEvent.FiresLeaveAll, Link.EndEvent.FiresPeriodic, Link.EndEvent.Sends, Link.EndEvent.Receives, Link.EndEvent.Loses, Link.EndEvent.Repeats, Link.LinkEvent.AtNear, Link.LinkEvent.AtFar, State.State, State.Messages, State.is_active, State.is_silent}
 
--- the marks of an end: the neighbour's LeaveAll has cleared its way, and it hasn't said anything since; it took that LeaveAll
--- while its way was clear, so that it is sound
+-- the marks of an end: the neighbour's LeaveAll has cleared its way, and it hasn't said anything
+-- since; it took that LeaveAll while its way was clear, so that it is sound
 pub record Mark : Type 0 where
   pub clear : Bool
   pub assured : Bool
@@ -56,7 +57,8 @@ module _ {K C : Type 0} where
 
   -- ---- the marks after an event
 
-  -- of an end that receives the front of what is coming: a LeaveAll that finds its way clear assures it
+  -- of an end that receives the front of what is coming: a LeaveAll that finds its way clear
+  -- assures it
   abbrev pub mark_receiving : List (Messages K C) → Mark → Mark
   mark_receiving [] mark = mark
   mark_receiving (m ∷ coming) mark = record mark { assured = mark.assured || (m.leave_all && mark.clear) }
@@ -112,12 +114,14 @@ module _ {K C : Type 0} where
   abbrev pub after_marked_events : ℕ → (C → ℕ) → (K → K → Ordering) → (C → C → Bool) → MarkedLink K C → List (LinkEvent K C) → MarkedLink K C
   after_marked_events base octets cmp eq l events = fold (after_marked_event base octets cmp eq) l events
 
--- what a clear way says of an end: nothing is on its way from it, and its neighbour will hold nothing of any key
+-- what a clear way says of an end: nothing is on its way from it, and its neighbour will hold
+-- nothing of any key
 pub record IsClear {K C : Type 0} (cmp : K → K → Ordering) (mark : Mark) (sent : List (Messages K C)) (far : State K C) : Type 0 where
   pub nothing_sent : mark.clear ≡ true → sent ≡ []
   pub nothing_held : mark.clear ≡ true → (k : K) → hears cmp k (held_in (find cmp k far.rows)) sent ≡ None
 
--- what a link with marks keeps: both duties of the link as seen, and what a clear way says of each end
+-- what a link with marks keeps: both duties of the link as seen, and what a clear way says of each
+-- end
 pub record AreMarkedDutiesMet {K C : Type 0} (cmp : K → K → Ordering) (l : MarkedLink K C) : Type 0 where
   pub duties : AreDutiesMet cmp (seen_link l)
   pub near_clear : IsClear cmp l.near l.link.sent l.link.far

@@ -1,6 +1,7 @@
--- What is known of all rows without a look at them: when the first leave timer ends and how many end then, and how
--- many rows are tried. It is exact, so no walk is needed to see whether a timer is due, whether anything is to be
--- said, or whether all is at rest. No public contract names this file.
+-- What is known of all rows without a look at them: when the first leave timer ends and how many
+-- end then, and how many rows are tried. It is exact, so no walk is needed to see whether a timer
+-- is due, whether anything is to be said, or whether all is at rest. No public contract names this
+-- file.
 use Rattle.std.specs.Prelude.{◌≡◌, ℕ, ◌+◌, ◌-◌, ◌^◌, ◌<◌, ◌≤◌, Bool, true, false, ◌&&◌, cond, if◌then◌else◌, nat_lt, nat_le, ◌==◌, List, count_by, is_none}
 use Rattle.std.specs.{List.AllByRecursion, declared.option.Option.Option, declared.option.Option.TheVariants.None, declared.option.Option.TheVariants.Some}
 use Rattle.srp_base.specs.declared.numbers.Cs.{Cs}

@@ -1,5 +1,5 @@
--- What happens to the row of one key, by each call of a participant: the machines of the key, and the
--- contents and the leave moment that stand beside them (IEEE Std 802.1Q-2018, 10.7).
+-- What happens to the row of one key, by each call of a participant: the machines of the key, and
+-- the contents and the leave moment that stand beside them (IEEE Std 802.1Q-2018, 10.7).
 use Rattle.std.specs.Prelude.{ℕ, Bool, true, false, ◌&&◌, ◌||◌, not, if◌then◌else◌, nat_le, List, fold, option_map}
 use Rattle.std.specs.{declared.cmp.Ordering.Ordering, declared.option.Option.Option, declared.option.Option.TheVariants.None, declared.option.Option.TheVariants.Some}
 use Rattle.srp_base.specs.declared.{numbers.Cs.Cs, mrp.MrpEvent.MrpEvent}
@@ -31,7 +31,8 @@ with_applicant a r = record r { applicant = a }
 abbrev pub applicant_takes : {K C : Type 0} → AppEvent → Row K C → Row K C
 applicant_takes event r = with_applicant (applicant.next event (is_in r.registrar) r.applicant) r
 
--- the registrar of a row takes an event; where that starts the leave timer, it ends at the moment `leave`
+-- the registrar of a row takes an event; where that starts the leave timer, it ends at the moment
+-- `leave`
 abbrev pub registrar_takes : {K C : Type 0} → RegEvent → Cs → Row K C → Row K C
 registrar_takes event leave r =
     record r {

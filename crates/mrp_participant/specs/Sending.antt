@@ -1,5 +1,6 @@
--- What a participant says when it may send (IEEE Std 802.1Q-2018, 10.7.6 and 10.8): which rows are taken
--- into the PDU, what they say, and what becomes of them. The order and the limit are this project's.
+-- What a participant says when it may send (IEEE Std 802.1Q-2018, 10.7.6 and 10.8): which rows are
+-- taken into the PDU, what they say, and what becomes of them. The order and the limit are this
+-- project's.
 use Rattle.std.specs.Prelude.{◌≡◌, ℕ, ◌+◌, ◌<◌, ◌≤◌, Bool, true, false, ◌&&◌, not, if◌then◌else◌, nat_le, ◌==◌, List, [], ◌∷◌, ◌++◌, filter, sum_by}
 use Rattle.std.specs.{declared.option.Option.Option, declared.option.Option.TheVariants.None, declared.option.Option.TheVariants.Some, declared.cmp.Ordering.Ordering}
 use Rattle.srp_base.specs.declared.{numbers.Cs.Cs, mrp.MrpEvent.MrpEvent}
@@ -14,8 +15,8 @@ use Rattle.mrp_participant.specs.declared.row.Row.{Row}
 use Rattle.mrp_participant.specs.{Lookup.same, Row.kept_row, Row.applicant_takes, Row.registrar_takes}
 use Rattle.registrar.specs.Table.{is_in}
 
--- the round in which an applicant's row is tried, or 0: without LeaveAll those in VP, VN and LA first,
--- then those in AN and AA
+-- the round in which an applicant's row is tried, or 0: without LeaveAll those in VP, VN and LA
+-- first, then those in AN and AA
 abbrev pub plain_round : Applicant → ℕ
 plain_round Vo = 0
 plain_round Vp = 1
@@ -60,20 +61,20 @@ up_to cmp k (r ∷ rows) = r ∷ (if same cmp r.key k then [] else up_to cmp k r
 abbrev pub is_tried : {K C : Type 0} → Bool → Row K C → Bool
 is_tried leave_all r = not (round leave_all r.applicant == 0)
 
--- whether a row is taken: it is tried, and the base with the octets of all rows that are tried up to it,
--- its own included, is at most 1,500
+-- whether a row is taken: it is tried, and the base with the octets of all rows that are tried up
+-- to it, its own included, is at most 1,500
 abbrev pub is_taken : {K C : Type 0} → ℕ → (C → ℕ) → (K → K → Ordering) → Bool → List (Row K C) → Row K C → Bool
 is_taken base octets cmp leave_all rows r =
     is_tried leave_all r && nat_le (base + octets_of octets (up_to cmp r.key (order leave_all rows))) 1500
 
--- the transmission opportunity that a row's applicant gets: without LeaveAll only a taken row gets one; with
--- LeaveAll a row that is tried and not taken finds no room
+-- the transmission opportunity that a row's applicant gets: without LeaveAll only a taken row gets
+-- one; with LeaveAll a row that is tried and not taken finds no room
 abbrev pub opportunity : {K C : Type 0} → Bool → Bool → Row K C → Option AppEvent
 opportunity true taken r = Some (if is_tried true r && not taken then TxLeaveAllFull else TxLeaveAll)
 opportunity false taken r = if taken then Some Tx else None
 
--- the row as it stands when its applicant gets its opportunity: with LeaveAll, TxLeaveAll goes to every
--- registrar first
+-- the row as it stands when its applicant gets its opportunity: with LeaveAll, TxLeaveAll goes to
+-- every registrar first
 abbrev pub before_opportunity : {K C : Type 0} → Bool → Cs → Row K C → Row K C
 before_opportunity true leave r = registrar_takes RegTxLeaveAll leave r
 before_opportunity false leave r = r
@@ -94,8 +95,8 @@ event_for SayNew held = Some New
 event_for SayJoin held = Some (if held then JoinIn else JoinMt)
 event_for SayLv held = Some Lv
 
--- what a taken row says, by its applicant: VN and AN say New, LA says Lv, and each other says Join, which is
--- JoinIn where the row's own registrar is IN and there is no LeaveAll
+-- what a taken row says, by its applicant: VN and AN say New, LA says Lv, and each other says Join,
+-- which is JoinIn where the row's own registrar is IN and there is no LeaveAll
 abbrev pub word_of : Bool → Applicant → Bool → MrpEvent
 word_of leave_all Vn held = New
 word_of leave_all An held = New

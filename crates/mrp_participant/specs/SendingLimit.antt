@@ -1,5 +1,5 @@
--- How the code finds which rows are taken: as those before the first row for which there is no room. That
--- it is the test of `Sending` is proved, and no public contract names this file.
+-- How the code finds which rows are taken: as those before the first row for which there is no
+-- room. That it is the test of `Sending` is proved, and no public contract names this file.
 use Rattle.std.specs.Prelude.{ℕ, ◌+◌, Bool, true, ◌&&◌, ◌||◌, if◌then◌else◌, nat_le, nat_lt, ◌==◌, List, [], ◌∷◌}
 use Rattle.std.specs.{declared.option.Option.Option, declared.option.Option.TheVariants.None, declared.option.Option.TheVariants.Some, declared.cmp.Ordering.Ordering, Ordering.is_lt}
 use Rattle.mrp_participant.specs.declared.{row.Row.Row, sending_limit.SendingLimit.SendingLimit}
@@ -23,7 +23,8 @@ is_before cmp leave_all (Some limit) r = is_ahead cmp leave_all limit r
 abbrev pub is_in_room : {K C : Type 0} → (K → K → Ordering) → Bool → Option (SendingLimit K) → Row K C → Bool
 is_in_room cmp leave_all limit r = is_tried leave_all r && is_before cmp leave_all limit r
 
--- the place of the first row of an order that finds no room, where so many octets are used before it
+-- the place of the first row of an order that finds no room, where so many octets are used before
+-- it
 abbrev pub first_limit : {K C : Type 0} → Bool → (C → ℕ) → ℕ → List (Row K C) → Option (SendingLimit K)
 first_limit leave_all octets used [] = None
 first_limit leave_all octets used (r ∷ rows) =

@@ -1,4 +1,5 @@
--- A participant as contracts see it, and the participant after each call (IEEE Std 802.1Q-2018, 10.7).
+-- A participant as contracts see it, and the participant after each call (IEEE Std 802.1Q-2018,
+-- 10.7).
 use Rattle.std.specs.Prelude.{◌≡◌, ℕ, ◌+◌, ◌≤◌, Bool, true, false, ◌&&◌, ◌||◌, not, if◌then◌else◌, nat_le, List, [], map, filter, length, fold}
 use Rattle.std.specs.{declared.option.Option.Option, declared.option.Option.TheVariants.Some, declared.cmp.Ordering.Ordering, List.filter_map, List.list_any, List.list_all, List.AllByRecursion, Option.option_eq}
 use Rattle.srp_base.specs.declared.{numbers.Cs.Cs, mrp.MrpEvent.MrpEvent}
@@ -8,8 +9,8 @@ use Rattle.leaveall.specs.Table as leaveall
 use Rattle.mrp_participant.specs.declared.row.Row.{Row}
 use Rattle.mrp_participant.specs.{Lookup.Ascends, Lookup.key_of, Lookup.find, Lookup.put, Row.is_live, Row.after_declare, Row.after_withdraw, Row.after_leave, Row.after_hear, Row.leave_all_row, Row.declared_in, Row.registered_in, Row.leave_is_due, Row.after_leave_due, Row.periodic_row, Row.is_settled, Sending.is_taken, Sending.is_tried, Sending.sent_row, Sending.sent_event}
 
--- the rows ascending by key, the LeaveAll machine with the moment of its timer and its period, the time
--- of a leave timer, the periodic machine, and the mark of soundness
+-- the rows ascending by key, the LeaveAll machine with the moment of its timer and its period, the
+-- time of a leave timer, the periodic machine, and the mark of soundness
 pub record State (K C : Type 0) : Type 0 where
   pub rows : List (Row K C)
   pub leave_all : LeaveAll
@@ -19,16 +20,16 @@ pub record State (K C : Type 0) : Type 0 where
   pub periodic : Periodic
   pub sound : Bool
 
--- what a participant holds, as contracts see it: its state; its spare, so many rows more find room without memory
--- being taken; and whether it is ready, so that its timers fire without memory being taken. What a participant does
--- is said of its state alone.
+-- what a participant holds, as contracts see it: its state; its spare, so many rows more find room
+-- without memory being taken; and whether it is ready, so that its timers fire without memory being
+-- taken. What a participant does is said of its state alone.
 pub record Holding (K C : Type 0) : Type 0 where
   pub state : State K C
   pub spare : ℕ
   pub ready : Bool
 
--- a list of messages of an application: whether it has LeaveAll, and the attribute events with their keys and
--- contents, in order (10.8)
+-- a list of messages of an application: whether it has LeaveAll, and the attribute events with
+-- their keys and contents, in order (10.8)
 pub record Messages (K C : Type 0) : Type 0 where
   pub leave_all : Bool
   pub events : List (MrpEvent × K × C)
@@ -114,8 +115,8 @@ module _ {K C : Type 0} where
         next_leave_all = if leave_all then timer_after Rx now s else s.next_leave_all;
       }
 
-  -- the keys whose registration or registered content differs between two lists of rows, ascending; a
-  -- received PDU takes no row away, so all of them have a row afterwards
+  -- the keys whose registration or registered content differs between two lists of rows, ascending;
+  -- a received PDU takes no row away, so all of them have a row afterwards
   abbrev pub changed_keys : (K → K → Ordering) → (C → C → Bool) → List (Row K C) → List (Row K C) → List K
   changed_keys cmp eq old new =
       map key_of (filter (λ r. not (option_eq eq (registered_in (find cmp r.key old)) (registered_in (Some r)))) new)
@@ -215,7 +216,7 @@ module _ {K C : Type 0} where
   abbrev pub all_settled : List (Row K C) → Bool
   all_settled rows = list_all is_settled rows
 
-  -- whether nothing is pending: every applicant is VO or QA, every registrar IN or MT, and LeaveAll is
-  -- Passive
+  -- whether nothing is pending: every applicant is VO or QA, every registrar IN or MT, and LeaveAll
+  -- is Passive
   abbrev pub is_still : State K C → Bool
   is_still s = not (is_active s.leave_all) && all_settled s.rows

@@ -27,8 +27,8 @@ pub(crate) fn push_within<T: Copy>(items: &mut Vec<T>, item: Option<T>)
     }
 }
 
-/// Puts an element, if there is one, at the end of the first `kept`, and answers how many those are then. The elements
-/// after that place stay.
+/// Puts an element, if there is one, at the end of the first `kept`, and answers how many those are
+/// then. The elements after that place stay.
 pub(crate) fn keep_at<T: Copy>(items: &mut Vec<T>, kept: usize, item: Option<T>) -> usize
     requires { kept < length items.old.items }
     ensures kept { take result items.new.items ≡ take kept items.old.items ++ cons_option item [] }

@@ -5,8 +5,8 @@ ghost use Rattle.std.specs.declared.cmp.Ordering.TheVariants.{Equal};
 
 use srp_base::{MrpEvent, Seq};
 
-/// An application of MRP (IEEE Std 802.1Q-2018, 10.2): its attributes' keys and contents, and how many
-/// octets they take in a PDU.
+/// An application of MRP (IEEE Std 802.1Q-2018, 10.2): its attributes' keys and contents, and how
+/// many octets they take in a PDU.
 pub trait MrpApp {
     /// What tells two attributes apart.
     type Key: Copy + Ord;
@@ -37,8 +37,8 @@ pub trait MrpApp {
     ghost row_fits: { (c : Self.Content) → base + octets c ≤ 1500 };
 }
 
-/// A list of messages of an application: whether it has LeaveAll, and the attribute events with their
-/// keys and contents, in order (IEEE Std 802.1Q-2018, 10.8).
+/// A list of messages of an application: whether it has LeaveAll, and the attribute events with
+/// their keys and contents, in order (IEEE Std 802.1Q-2018, 10.8).
 #[derive(Drop)]
 pub struct Msgs<A: MrpApp> {
     pub leave_all: bool,

@@ -15,10 +15,10 @@ use registrar::Registrar;
 use srp_base::NoMemory;
 
 impl<A: MrpApp> Participant<A> {
-    /// Declares a key with a content: Join! in VO, New! in LA (IEEE Std 802.1Q-2018, 10.7.7). The same content
-    /// again changes nothing, another content is declared anew, by New!. A key without a row uses one of the spare.
-    /// It ends readiness. After want of memory, which comes only for a key without a row and without spare, the
-    /// participant is as it was.
+    /// Declares a key with a content: Join! in VO, New! in LA (IEEE Std 802.1Q-2018, 10.7.7). The
+    /// same content again changes nothing, another content is declared anew, by New!. A key without
+    /// a row uses one of the spare. It ends readiness. After want of memory, which comes only for a
+    /// key without a row and without spare, the participant is as it was.
     pub fn declare(&mut self, key: A::Key, content: A::Content) -> Result<(), NoMemory>
         ensures ok { OnOk result (self.new.state
             ≡ declared_state A.Key.cmp A.Content.eq key content self.old.state) }
@@ -42,9 +42,9 @@ impl<A: MrpApp> Participant<A> {
         done
     }
 
-    /// Withdraws a key: New! and then Lv! in VP, nothing in VO and LA, Lv! in the others
-    /// (IEEE Std 802.1Q-2018, 10.7.7). So each withdrawal says Lv, or rides on a LeaveAll. What isn't declared
-    /// stays as it is. It lowers no spare, and ends readiness.
+    /// Withdraws a key: New! and then Lv! in VP, nothing in VO and LA, Lv! in the others (IEEE Std
+    /// 802.1Q-2018, 10.7.7). So each withdrawal says Lv, or rides on a LeaveAll. What isn't
+    /// declared stays as it is. It lowers no spare, and ends readiness.
     pub fn withdraw(&mut self, key: A::Key)
         ensures after { self.new.state ≡ withdrawn_state A.Key.cmp key self.old.state }
         ensures undeclared { declared_in (find A.Key.cmp key self.old.state.rows) ≡ None
@@ -59,8 +59,9 @@ impl<A: MrpApp> Participant<A> {
         self.ready = false;
     }
 
-    /// Ends a key's leave timer: LV becomes MT (IEEE Std 802.1Q-2018, 10.7.8). True exactly where the Registrar
-    /// was LV; where it wasn't, nothing changes, readiness either. It lowers no spare, and ends readiness where it was.
+    /// Ends a key's leave timer: LV becomes MT (IEEE Std 802.1Q-2018, 10.7.8). True exactly where
+    /// the Registrar was LV; where it wasn't, nothing changes, readiness either. It lowers no
+    /// spare, and ends readiness where it was.
     pub fn leave_due(&mut self, key: A::Key) -> bool
         ensures was { result ≡ is_leaving_in (find A.Key.cmp key self.old.state.rows) }
         ensures after { self.new.state ≡ left_state A.Key.cmp key self.old.state }
@@ -84,8 +85,8 @@ fn stays_ready(ready: bool, changed: bool) -> bool
     if changed { false } else { ready }
 }
 
-/// Declares a key. After want of memory, which comes only for a key without a row where there is no spare capacity,
-/// the rows are as they were.
+/// Declares a key. After want of memory, which comes only for a key without a row where there is no
+/// spare capacity, the rows are as they were.
 pub(crate) fn declare_in<K: Copy + Ord, C: Copy + Eq>(
     rows: &mut Vec<Row<K, C>>,
     outlook: &mut Outlook,

@@ -1,5 +1,6 @@
-//! The duty of a participant to its neighbour over their link, and that every call keeps it: laws over the
-//! states that contracts see. Each is a function that does nothing; calling it brings the law to a proof.
+//! The duty of a participant to its neighbour over their link, and that every call keeps it: laws
+//! over the states that contracts see. Each is a function that does nothing; calling it brings the
+//! law to a proof.
 //!
 //! ```text
 //!              sent, in order: what `near` has sent and `far` has not yet received
@@ -8,15 +9,16 @@
 //!              coming: what `far` has sent and `near` has not yet received
 //! ```
 //!
-//! The duty of `near` (`IsDutyMet` in `specs/Duty.antt`), where it is sound: of each key the registrar of `far`
-//! will hold, once all that is sent has been received, what the applicant of `near` declares, or a LeaveAll is
-//! coming at which it will say it again. A link has two duties, one of each end. Each law says of one call, or
-//! of what happens in flight, that `own` duty stays met, and the neighbour's, `far`.
+//! The duty of `near` (`IsDutyMet` in `specs/Duty.antt`), where it is sound: of each key the
+//! registrar of `far` will hold, once all that is sent has been received, what the applicant of
+//! `near` declares, or a LeaveAll is coming at which it will say it again. A link has two duties,
+//! one of each end. Each law says of one call, or of what happens in flight, that `own` duty stays
+//! met, and the neighbour's, `far`.
 //!
-//! A world with links keeps both duties of each link, for whatever order of events: a call of a participant at
-//! an end, a list of messages put at the end of those in flight or taken from their front, and a repeat right
-//! behind its original. A list that is lost ends soundness at both ends; a LeaveAll that an end sends makes it
-//! sound again, with its duty met.
+//! A world with links keeps both duties of each link, for whatever order of events: a call of a
+//! participant at an end, a list of messages put at the end of those in flight or taken from their
+//! front, and a repeat right behind its original. A list that is lost ends soundness at both ends;
+//! a LeaveAll that an end sends makes it sound again, with its duty met.
 
 ghost use Rattle.std.specs.Prelude.{◌≡◌, ◌↔◌, Bool, true, false, List, [], ◌∷◌, ◌++◌};
 ghost use Rattle.srp_base.specs.declared.numbers.Cs.{Cs};
@@ -47,8 +49,8 @@ pub fn declaring_keeps_duties<A: MrpApp>()
         → IsDutyMet A.Key.cmp far (declared_state A.Key.cmp A.Content.eq key c near) coming sent }
 {}
 
-/// `withdraw` keeps both duties: an attribute that was declared goes to LA, and so is left only where Lv is said
-/// or a LeaveAll is sent.
+/// `withdraw` keeps both duties: an attribute that was declared goes to LA, and so is left only
+/// where Lv is said or a LeaveAll is sent.
 pub fn withdrawing_keeps_duties<A: MrpApp>()
     ensures own { (near far : State A.Key A.Content) (sent coming : List (Messages A.Key A.Content))
         (key : A.Key)
@@ -112,8 +114,8 @@ pub fn periodic_transmission_keeps_duties<A: MrpApp>()
         → IsDutyMet A.Key.cmp far (periodic_state near) coming sent }
 {}
 
-/// `receive` keeps both duties, where it takes the front of what is coming: what it makes of each registrar is
-/// what was to be held, and after a LeaveAll the applicants have yet to speak.
+/// `receive` keeps both duties, where it takes the front of what is coming: what it makes of each
+/// registrar is what was to be held, and after a LeaveAll the applicants have yet to speak.
 pub fn receiving_keeps_duties<A: MrpApp>()
     ensures own { (near far : State A.Key A.Content) (sent coming : List (Messages A.Key A.Content))
         (now : Cs) (m : Messages A.Key A.Content)
@@ -129,8 +131,8 @@ pub fn receiving_keeps_duties<A: MrpApp>()
         sent }
 {}
 
-/// `send` keeps both duties, where what it sends is put at the end of what is in flight. A participant that has
-/// sent a LeaveAll meets its duty, whatever was before.
+/// `send` keeps both duties, where what it sends is put at the end of what is in flight. A
+/// participant that has sent a LeaveAll meets its duty, whatever was before.
 pub fn sending_keeps_duties<A: MrpApp>()
     ensures own { (near far : State A.Key A.Content) (sent coming : List (Messages A.Key A.Content))
         (now : Cs)
@@ -164,8 +166,8 @@ pub fn repeating_in_place_keeps_duties<A: MrpApp>()
         → IsDutyMet A.Key.cmp far near coming (front ++ (m ∷ (m ∷ back))) }
 {}
 
-/// A participant that isn't sound owes nothing, whatever is in flight; and spoiling one leaves its neighbour's
-/// duty met. So a loss, after which neither end is sound, keeps both.
+/// A participant that isn't sound owes nothing, whatever is in flight; and spoiling one leaves its
+/// neighbour's duty met. So a loss, after which neither end is sound, keeps both.
 pub fn spoiling_keeps_duties<A: MrpApp>()
     ensures own { (near far : State A.Key A.Content) (sent coming : List (Messages A.Key A.Content))
         → near.sound ≡ false
@@ -175,7 +177,8 @@ pub fn spoiling_keeps_duties<A: MrpApp>()
         → IsDutyMet A.Key.cmp far (record near { sound = false }) coming sent }
 {}
 
-/// A list of messages in flight that says nothing counts for nothing, and receiving it changes nothing.
+/// A list of messages in flight that says nothing counts for nothing, and receiving it changes
+/// nothing.
 pub fn saying_nothing_changes_nothing<A: MrpApp>()
     ensures own { (near far : State A.Key A.Content)
         (front back coming : List (Messages A.Key A.Content))
@@ -191,8 +194,8 @@ pub fn saying_nothing_changes_nothing<A: MrpApp>()
         → received_state A.Key.cmp now false [] s ≡ s }
 {}
 
-/// Where a sound participant and its neighbour are still, and nothing is in flight, each key is registered at
-/// the neighbour exactly where the participant declares it, with its content.
+/// Where a sound participant and its neighbour are still, and nothing is in flight, each key is
+/// registered at the neighbour exactly where the participant declares it, with its content.
 pub fn stillness_registers_what_is_declared<A: MrpApp>()
     ensures { (near far : State A.Key A.Content)
         → near.sound ≡ true

@@ -1,5 +1,5 @@
-//! Events in the order of their keys. Each key hears its own events alone, so what a list of messages makes of the
-//! rows is the same in each order that keeps those of one key as they came.
+//! Events in the order of their keys. Each key hears its own events alone, so what a list of
+//! messages makes of the rows is the same in each order that keeps those of one key as they came.
 
 ghost use Rattle.std.specs.Prelude.{◌≡◌, Bool, Option, IfOk};
 ghost use Rattle.srp_base.specs.declared.numbers.Cs.{Cs as Moment};
@@ -14,8 +14,8 @@ pub(crate) fn keys_ascend<K: Copy + Ord, C: Copy>(events: &[(MrpEvent, K, C)]) -
     events.is_sorted_by_key(|event| event.1)
 }
 
-/// The events in the order of their keys, those of one key as they came. That their keys ascend is for the sake of
-/// speed alone, and no clause says it.
+/// The events in the order of their keys, those of one key as they came. That their keys ascend is
+/// for the sake of speed alone, and no clause says it.
 pub(crate) fn by_key<K: Copy + Ord, C: Copy>(
     alloc: Global,
     events: &[(MrpEvent, K, C)],

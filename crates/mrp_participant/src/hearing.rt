@@ -1,7 +1,7 @@
-//! What a list of messages makes of the rows, in the time of what it speaks of: the rows of its keys are found
-//! beside the participant's rows, which are then changed in place. Where a key had no row the rows are merged with
-//! them, in place too and from the back, which takes the time of all rows, as a LeaveAll does. What wants memory
-//! comes first.
+//! What a list of messages makes of the rows, in the time of what it speaks of: the rows of its
+//! keys are found beside the participant's rows, which are then changed in place. Where a key had
+//! no row the rows are merged with them, in place too and from the back, which takes the time of
+//! all rows, as a LeaveAll does. What wants memory comes first.
 
 ghost use Rattle.std.specs.Prelude.{◌≡◌, ◌<◌, ◌≤◌, ◌+◌, [], ◌∷◌, ◌++◌, ◌⊎◌, map, length, take, drop, true, Some, IsSome, option_map, OnOk, OnErr, IfOk};
 ghost use Rattle.std.specs.{Option.is_some, List.AllByRecursion, List.list_all};
@@ -95,8 +95,8 @@ fn first_heard<K: Copy + Ord, C: Copy>(
     }
 }
 
-/// Puts the rows of the keys that were heard of over the rows, after LeaveAll where there is one. After want of
-/// memory the rows are as they were.
+/// Puts the rows of the keys that were heard of over the rows, after LeaveAll where there is one.
+/// After want of memory the rows are as they were.
 pub(crate) fn put_heard<K: Copy + Ord, C: Copy>(
     rows: &mut Vec<Row<K, C>>,
     outlook: &mut Outlook,
@@ -119,7 +119,8 @@ pub(crate) fn put_heard<K: Copy + Ord, C: Copy>(
     Ok(())
 }
 
-/// Puts the rows of keys that have none in, in place. After want of memory the rows are as they were.
+/// Puts the rows of keys that have none in, in place. After want of memory the rows are as they
+/// were.
 fn add_unknown<K: Copy + Ord, C: Copy>(
     rows: &mut Vec<Row<K, C>>,
     outlook: &mut Outlook,
@@ -159,8 +160,8 @@ fn are_known<K: Copy + Ord, C: Copy>(rows: &[Row<K, C>], heard: &[Row<K, C>]) ->
     true
 }
 
-/// Two lists of rows as one, in the place of the first; of two rows of one key that of `heard` stays. Room is taken
-/// before a row moves: after want of memory the rows are as they were.
+/// Two lists of rows as one, in the place of the first; of two rows of one key that of `heard`
+/// stays. Room is taken before a row moves: after want of memory the rows are as they were.
 fn merge<K: Copy + Ord, C: Copy>(
     rows: &mut Vec<Row<K, C>>,
     heard: &[Row<K, C>],
@@ -228,8 +229,8 @@ fn next_row<K: Copy + Ord, C: Copy>(
     }
 }
 
-/// The first `count` rows and those of `heard` as one, where there are as many rows as that has: from the back, so
-/// that no row is overwritten before it has moved.
+/// The first `count` rows and those of `heard` as one, where there are as many rows as that has:
+/// from the back, so that no row is overwritten before it has moved.
 fn merge_back<K: Copy + Ord, C: Copy>(rows: &mut Vec<Row<K, C>>, count: usize, heard: &[Row<K, C>])
     requires rows { Ascends K.cmp key_of (take count rows.old.items) }
     requires heard { Ascends K.cmp key_of heard.now }
@@ -250,7 +251,8 @@ fn merge_back<K: Copy + Ord, C: Copy>(rows: &mut Vec<Row<K, C>>, count: usize, h
     }
 }
 
-/// The last row of the first `i` rows and the first `j` of `heard` as one, and how many of each are before it.
+/// The last row of the first `i` rows and the first `j` of `heard` as one, and how many of each are
+/// before it.
 fn last_row<K: Copy + Ord, C: Copy>(
     rows: &[Row<K, C>],
     i: usize,
@@ -304,8 +306,8 @@ fn leave_all_in<K: Copy, C: Copy>(rows: &mut Vec<Row<K, C>>, leave: Cs)
     }
 }
 
-/// Puts rows in the places of those of their keys. The next moment at which a leave timer ends is looked for once, at
-/// the end.
+/// Puts rows in the places of those of their keys. The next moment at which a leave timer ends is
+/// looked for once, at the end.
 fn put_known<K: Copy + Ord, C: Copy>(
     rows: &mut Vec<Row<K, C>>,
     outlook: &mut Outlook,
@@ -324,7 +326,8 @@ fn put_known<K: Copy + Ord, C: Copy>(
     *outlook = outlook.or_anew(rows.as_slice());
 }
 
-/// Puts a row in the place of that of its key, which may stand at `near`, and answers the place behind it.
+/// Puts a row in the place of that of its key, which may stand at `near`, and answers the place
+/// behind it.
 fn put_in<K: Copy + Ord, C: Copy>(
     rows: &mut Vec<Row<K, C>>,
     outlook: &mut Outlook,

@@ -1,5 +1,5 @@
-//! What each key has after each call that touches every row: laws over the states that contracts see.
-//! Each is a function that does nothing; calling it brings the law to a proof.
+//! What each key has after each call that touches every row: laws over the states that contracts
+//! see. Each is a function that does nothing; calling it brings the law to a proof.
 
 ghost use Rattle.std.specs.Prelude.{◌≡◌, ◌≢◌, ◌⊎◌, ◌↔◌, ℕ, ◌+◌, ◌≤◌, Bool, true, false, not, ◌&&◌, if◌then◌else◌, List, [], length, map, filter, sum_by, slice_get, Contains, IsSome, None, Some, option_map, option_and_then, option_to_list};
 ghost use Rattle.srp_base.specs.declared.{numbers.Cs.Cs, mrp.MrpEvent.MrpEvent};
@@ -17,8 +17,8 @@ ghost use Rattle.mrp_participant.specs.State.{State, AreRows, after, is_active, 
 use crate::application::MrpApp;
 use applicant::laws::{events_keep_declarations, uses};
 
-/// `declare`, `withdraw` and `leave_due` give their own key what they make of its row; each other key has what it
-/// had.
+/// `declare`, `withdraw` and `leave_due` give their own key what they make of its row; each other
+/// key has what it had.
 pub fn one_key_changes<A: MrpApp>()
     ensures declare { (s : State A.Key A.Content) (key : A.Key) (c : A.Content)
         → AreRows A.Key.cmp s.rows
@@ -34,7 +34,8 @@ pub fn one_key_changes<A: MrpApp>()
         (left_state A.Key.cmp key s).rows }
 {}
 
-/// The rows of a participant stay such rows at each call: they ascend strictly by key, and each keeps something.
+/// The rows of a participant stay such rows at each call: they ascend strictly by key, and each
+/// keeps something.
 pub fn rows_stay_rows<A: MrpApp>()
     ensures declare { (s : State A.Key A.Content) (key : A.Key) (c : A.Content)
         → AreRows A.Key.cmp s.rows
@@ -63,7 +64,8 @@ pub fn rows_stay_rows<A: MrpApp>()
         → AreRows A.Key.cmp (sent_state A.base A.octets A.Key.cmp now s).rows }
 {}
 
-/// After `receive` each key has what LeaveAll, and then the events of this key in order, made of its row.
+/// After `receive` each key has what LeaveAll, and then the events of this key in order, made of
+/// its row.
 pub fn each_key_after_receive<A: MrpApp>()
     ensures { (s : State A.Key A.Content) (now : Cs) (leave_all : Bool)
         (events : List (MrpEvent × A.Key × A.Content))
@@ -84,8 +86,8 @@ pub fn each_key_after_send<A: MrpApp>()
         (find A.Key.cmp k s.rows) }
 {}
 
-/// After `due` each key has what its own leave timer, and then the periodic event where that is due, left of its
-/// row.
+/// After `due` each key has what its own leave timer, and then the periodic event where that is
+/// due, left of its row.
 pub fn each_key_after_due<A: MrpApp>()
     ensures { (s : State A.Key A.Content) (now : Cs)
         → AreRows A.Key.cmp s.rows
@@ -122,9 +124,9 @@ pub fn each_key_in_what_is_sent<A: MrpApp>()
         (find A.Key.cmp k s.rows)) }
 {}
 
-/// A row that is taken says one event with its key and its content: VN and AN say New, LA says Lv, each other
-/// says Join, which is JoinIn exactly where the row's own Registrar is IN and there is no LeaveAll. A row that
-/// isn't taken says nothing.
+/// A row that is taken says one event with its key and its content: VN and AN say New, LA says Lv,
+/// each other says Join, which is JoinIn exactly where the row's own Registrar is IN and there is
+/// no LeaveAll. A row that isn't taken says nothing.
 pub fn what_a_row_says<A: MrpApp>()
     ensures taken { (s : State A.Key A.Content) (now : Cs) (r : Row A.Key A.Content)
         → takes A.base A.octets A.Key.cmp s r ≡ true
@@ -135,8 +137,8 @@ pub fn what_a_row_says<A: MrpApp>()
         → event_sent A.base A.octets A.Key.cmp now s r ≡ None }
 {}
 
-/// What `send` says is a PDU: the events ascend strictly by key and fit into 1,500 octets with the base, and
-/// there is an event where something is to be said and there is no LeaveAll.
+/// What `send` says is a PDU: the events ascend strictly by key and fit into 1,500 octets with the
+/// base, and there is an event where something is to be said and there is no LeaveAll.
 pub fn what_is_sent_is_a_pdu<A: MrpApp>()
     ensures ascending { (s : State A.Key A.Content) (now : Cs)
         → AreRows A.Key.cmp s.rows
@@ -151,8 +153,8 @@ pub fn what_is_sent_is_a_pdu<A: MrpApp>()
         → sent_events A.base A.octets A.Key.cmp now s ≢ [] }
 {}
 
-/// Each event that `send` says is the one of its key's row, and has the content that is declared of the key; Lv
-/// is said of a key that isn't declared any more, with the content that was.
+/// Each event that `send` says is the one of its key's row, and has the content that is declared of
+/// the key; Lv is said of a key that isn't declared any more, with the content that was.
 pub fn what_is_sent_is_declared<A: MrpApp>()
     ensures event { (s : State A.Key A.Content) (now : Cs) (e : MrpEvent × A.Key × A.Content)
         → AreRows A.Key.cmp s.rows
@@ -176,8 +178,8 @@ pub fn each_key_after_periodic<A: MrpApp>()
         ≡ option_map periodic_row (find A.Key.cmp k s.rows) }
 {}
 
-/// The rows that `send` takes are the front, of the rows in the order in which they are tried, that fits
-/// into a PDU with the base: with the row after them it wouldn't.
+/// The rows that `send` takes are the front, of the rows in the order in which they are tried, that
+/// fits into a PDU with the base: with the row after them it wouldn't.
 pub fn taken_rows_are_a_split<A: MrpApp>()
     ensures { (rows : List (Row A.Key A.Content)) (leave_all : Bool)
         → AreRows A.Key.cmp rows
@@ -207,8 +209,8 @@ pub fn receive_tells_each_change<A: MrpApp>()
         ≢ registered_at A.Key.cmp k s }
 {}
 
-/// `due` tells each key that left: it was registered, and isn't any more. What is registered of each other
-/// key stays.
+/// `due` tells each key that left: it was registered, and isn't any more. What is registered of
+/// each other key stays.
 pub fn due_tells_each_change<A: MrpApp>()
     ensures told { (s : State A.Key A.Content) (now : Cs)
         → AreRows A.Key.cmp s.rows
@@ -238,7 +240,8 @@ pub fn told_keys_are_few<A: MrpApp>()
         → length (left_keys now s) ≤ length s.rows }
 {}
 
-/// The keys that `receive` and `due` tell ascend strictly, and each has a row: after `receive`, and before `due`.
+/// The keys that `receive` and `due` tell ascend strictly, and each has a row: after `receive`, and
+/// before `due`.
 pub fn told_keys_ascend<A: MrpApp>()
     ensures receive { (old new : List (Row A.Key A.Content))
         → AreRows A.Key.cmp new
@@ -302,8 +305,8 @@ pub fn registrations_stay<A: MrpApp>()
         ≡ registered_at A.Key.cmp k s }
 {}
 
-/// What is declared is declared with its content, what is withdrawn isn't declared, and what was LV when its
-/// leave timer ended isn't registered; of each other key everything stays.
+/// What is declared is declared with its content, what is withdrawn isn't declared, and what was LV
+/// when its leave timer ended isn't registered; of each other key everything stays.
 pub fn what_is_asked_holds<A: MrpApp>()
     ensures declare { (s : State A.Key A.Content) (key : A.Key) (c : A.Content)
         → AreRows A.Key.cmp s.rows
@@ -325,8 +328,8 @@ pub fn what_is_asked_holds<A: MrpApp>()
     uses();
 }
 
-/// A participant is still exactly where LeaveAll is Passive, each key's Applicant is VO or QA and no key's
-/// Registrar is LV.
+/// A participant is still exactly where LeaveAll is Passive, each key's Applicant is VO or QA and
+/// no key's Registrar is LV.
 pub fn still_at_each_key<A: MrpApp>()
     ensures passive { (s : State A.Key A.Content) → is_still s ≡ true → s.leave_all ≡ Passive }
     ensures quiet { (s : State A.Key A.Content)
@@ -364,7 +367,8 @@ pub fn a_row_where_something_is_kept<A: MrpApp>()
         → IsSome (find A.Key.cmp k s.rows) ↔ Contains (map key_of s.rows) k }
 {}
 
-/// The row at each place is the one of its key, and each key that is declared or registered has a place.
+/// The row at each place is the one of its key, and each key that is declared or registered has a
+/// place.
 pub fn a_place_for_each_key<A: MrpApp>()
     ensures found { (s : State A.Key A.Content) (i : ℕ) (r : Row A.Key A.Content)
         → AreRows A.Key.cmp s.rows

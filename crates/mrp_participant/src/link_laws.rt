@@ -1,13 +1,14 @@
-//! What a link comes to after every history: laws over a link between two participants as contracts see it. Each is
-//! a function that does nothing; calling it brings the law to a proof.
+//! What a link comes to after every history: laws over a link between two participants as contracts
+//! see it. Each is a function that does nothing; calling it brings the law to a proof.
 //!
-//! A `Link` (`specs/Link.antt`) is the two participants and the lists of messages in flight each way. Its events are
-//! the calls at either end, a loss, and a repeat right behind its original. Both duties are met on a new link, and
-//! stay met at each event. So after every list of events, whatever was lost: where an end is sound, both ends are
-//! still and nothing is in flight, each key is registered at the other end exactly where this one declares it, with
-//! its content.
+//! A `Link` (`specs/Link.antt`) is the two participants and the lists of messages in flight each
+//! way. Its events are the calls at either end, a loss, and a repeat right behind its original.
+//! Both duties are met on a new link, and stay met at each event. So after every list of events,
+//! whatever was lost: where an end is sound, both ends are still and nothing is in flight, each key
+//! is registered at the other end exactly where this one declares it, with its content.
 //!
-//! A network keeps `AreDutiesMet` of each link: an event of the network is some events of each link, or none.
+//! A network keeps `AreDutiesMet` of each link: an event of the network is some events of each
+//! link, or none.
 
 ghost use Rattle.std.specs.Prelude.{◌≡◌, Bool, true, false, List, []};
 ghost use Rattle.srp_base.specs.declared.numbers.Cs.{Cs};
@@ -60,8 +61,9 @@ pub fn a_leave_all_makes_sound<A: MrpApp>()
         ≡ true }
 {}
 
-/// After every history of a link: where its near end is sound, both ends are still and nothing is in flight, each key
-/// is registered at the far end exactly where the near end declares it, with its content; and the other way round.
+/// After every history of a link: where its near end is sound, both ends are still and nothing is
+/// in flight, each key is registered at the far end exactly where the near end declares it, with
+/// its content; and the other way round.
 pub fn a_still_link_registers_what_is_declared<A: MrpApp>()
     ensures far { (l : Link A.Key A.Content)
         → AreDutiesMet A.Key.cmp l

@@ -59,8 +59,8 @@ fn stands_at<K: Copy + Ord, C: Copy>(rows: &[Row<K, C>], key: &K, at: usize) -> 
     }
 }
 
-/// The row of a key that may stand at `near`, which is afterwards the place behind the key's: where keys come in
-/// order, most aren't searched for.
+/// The row of a key that may stand at `near`, which is afterwards the place behind the key's: where
+/// keys come in order, most aren't searched for.
 pub(crate) fn find_near<K: Copy + Ord, C: Copy>(
     rows: &[Row<K, C>],
     key: &K,

@@ -1,5 +1,6 @@
-//! What a link comes to after every history where a neighbour's LeaveAll makes an end sound too: laws over a link with
-//! marks, beside those of links. Each is a function that does nothing; calling it brings the law to a proof.
+//! What a link comes to after every history where a neighbour's LeaveAll makes an end sound too:
+//! laws over a link with marks, beside those of links. Each is a function that does nothing;
+//! calling it brings the law to a proof.
 //!
 //! ```text
 //!   far sends LeaveAll, nothing on its way from near      near: clear      what far holds of near's keys is gone
@@ -8,9 +9,10 @@
 //!   one of the link's PDUs is lost                        no mark at either end
 //! ```
 //!
-//! A `MarkedLink` (`specs/MarkedLink.antt`) is a link with such marks beside it. The duties are asked of the link as
-//! seen, whose ends are sound by a LeaveAll of their own or by a mark. A network keeps `AreMarkedDutiesMet` of each
-//! link, also with fewer marks than a link's history would give it.
+//! A `MarkedLink` (`specs/MarkedLink.antt`) is a link with such marks beside it. The duties are
+//! asked of the link as seen, whose ends are sound by a LeaveAll of their own or by a mark. A
+//! network keeps `AreMarkedDutiesMet` of each link, also with fewer marks than a link's history
+//! would give it.
 
 ghost use Rattle.std.specs.Prelude.{◌≡◌, Bool, true, List, [], ◌∷◌};
 ghost use Rattle.srp_base.specs.declared.numbers.Cs.{Cs};
@@ -52,8 +54,8 @@ pub fn fewer_marks_keep_marked_duties<A: MrpApp>()
         → AreMarkedDutiesMet A.Key.cmp (record l { near = near; far = far }) }
 {}
 
-/// A LeaveAll that the far end sends, while nothing is on its way from the near end, clears the near end's way; and one
-/// that the near end takes while its way is clear assures it.
+/// A LeaveAll that the far end sends, while nothing is on its way from the near end, clears the
+/// near end's way; and one that the near end takes while its way is clear assures it.
 pub fn a_neighbours_leave_all_assures<A: MrpApp>()
     ensures clears { (l : MarkedLink A.Key A.Content) (now : Cs)
         → is_active l.link.far.leave_all ≡ true
@@ -69,9 +71,9 @@ pub fn a_neighbours_leave_all_assures<A: MrpApp>()
         (AtNear (Receives now))).near.assured ≡ true }
 {}
 
-/// After every history of a link with marks: where its near end is sound, by its own LeaveAll or by a mark, both ends are
-/// still and nothing is in flight, each key is registered at the far end exactly where the near end declares it, with its
-/// content; and the other way round.
+/// After every history of a link with marks: where its near end is sound, by its own LeaveAll or by
+/// a mark, both ends are still and nothing is in flight, each key is registered at the far end
+/// exactly where the near end declares it, with its content; and the other way round.
 pub fn a_still_marked_link_registers_what_is_declared<A: MrpApp>()
     ensures far { (l : MarkedLink A.Key A.Content)
         → AreMarkedDutiesMet A.Key.cmp l

@@ -1,6 +1,7 @@
-//! What is known of all rows without a look at them: when the first leave timer ends and how many end then, and how
-//! many rows are tried. So a participant at which nothing happens costs the same however many rows it has, and a row
-//! that changes costs no walk over the others, but where it was the last one whose leave timer ends first.
+//! What is known of all rows without a look at them: when the first leave timer ends and how many
+//! end then, and how many rows are tried. So a participant at which nothing happens costs the same
+//! however many rows it has, and a row that changes costs no walk over the others, but where it was
+//! the last one whose leave timer ends first.
 
 ghost use Rattle.std.specs.Prelude.{◌≡◌, ◌<◌, ◌≤◌, ◌+◌, ◌^◌, ◌++◌, suc, take, drop, length, Some, vec_capacity, vec_len, OnOk, OnErr};
 ghost use Rattle.std.specs.List.{cons_option, list_any};
@@ -16,7 +17,8 @@ use srp_base::{Cs, NoMemory};
 /// What is known of all rows.
 #[derive(Clone, Copy)]
 pub(crate) struct Outlook {
-    /// The moment at which the first leave timer ends, in cs, and how many end then; None where none runs.
+    /// The moment at which the first leave timer ends, in cs, and how many end then; None where
+    /// none runs.
     pub first_leave: Option<(Cs, usize)>,
     /// How many rows are tried without LeaveAll.
     pub tried: usize,
@@ -148,8 +150,8 @@ pub(crate) fn outlook_of<K: Copy, C: Copy>(rows: &[Row<K, C>]) -> Outlook
     outlook
 }
 
-/// Puts another row, or none, in the place of the row at `at`. Of the moment that the outlook knows no leave timer
-/// may be left.
+/// Puts another row, or none, in the place of the row at `at`. Of the moment that the outlook knows
+/// no leave timer may be left.
 pub(crate) fn exchange_row<K: Copy, C: Copy>(
     rows: &mut Vec<Row<K, C>>,
     outlook: &mut Outlook,
@@ -172,8 +174,8 @@ pub(crate) fn exchange_row<K: Copy, C: Copy>(
     };
 }
 
-/// Puts another row, or none, in the place of the row at `at`. Where no leave timer is left of the first moment, the
-/// next is looked for.
+/// Puts another row, or none, in the place of the row at `at`. Where no leave timer is left of the
+/// first moment, the next is looked for.
 pub(crate) fn replace_row<K: Copy, C: Copy>(
     rows: &mut Vec<Row<K, C>>,
     outlook: &mut Outlook,

@@ -16,10 +16,11 @@ use srp_base::{Cs, NoMemory};
 use std::alloc::Global;
 use std::marker::Model;
 
-/// The participant of one application at one port (IEEE Std 802.1Q-2018, 10.7): a row for each key of
-/// which anything is kept, the LeaveAll machine, the timers, and the mark of soundness. Contracts see
-/// a `Holding`: the `State`, which is the rows as a list ascending by key, and the rest; the spare, the number of
-/// new rows for which there is room; and whether the participant is ready, so that `due` takes no memory.
+/// The participant of one application at one port (IEEE Std 802.1Q-2018, 10.7): a row for each key
+/// of which anything is kept, the LeaveAll machine, the timers, and the mark of soundness.
+/// Contracts see a `Holding`: the `State`, which is the rows as a list ascending by key, and the
+/// rest; the spare, the number of new rows for which there is room; and whether the participant is
+/// ready, so that `due` takes no memory.
 #[derive(Drop)]
 pub struct Participant<A: MrpApp> {
     pub(crate) rows: Vec<Row<A::Key, A::Content>>,
@@ -31,7 +32,8 @@ pub struct Participant<A: MrpApp> {
     pub(crate) leave_time: Cs,
     pub(crate) periodic: Periodic,
     pub(crate) sound: bool,
-    // Empty between calls: the keys that leave go here, so that its room can be taken before the timers fire.
+    // Empty between calls: the keys that leave go here, so that its room can be taken before the
+    // timers fire.
     pub(crate) left: Vec<A::Key>,
     // Whether `left` has room for the keys of all rows.
     pub(crate) ready: bool,
@@ -67,9 +69,9 @@ impl<A: MrpApp> Model for Participant<A> {
 }
 
 impl<A: MrpApp> Participant<A> {
-    /// A participant without rows, LeaveAll Passive and sound. The first LeaveAll is due at `period`,
-    /// and then each `period` after the last; a leave timer lasts `leave_time`. Both are 1 to 10,000 cs.
-    /// `periodic` is whether periodic transmission is on. It takes no memory.
+    /// A participant without rows, LeaveAll Passive and sound. The first LeaveAll is due at
+    /// `period`, and then each `period` after the last; a leave timer lasts `leave_time`. Both are
+    /// 1 to 10,000 cs. `periodic` is whether periodic transmission is on. It takes no memory.
     pub fn new(alloc: Global, period: Cs, leave_time: Cs, periodic: bool) -> Participant<A>
         requires is_period { IsTime period }
         requires is_leave_time { IsTime leave_time }
@@ -104,9 +106,9 @@ impl<A: MrpApp> Participant<A> {
         let _ = &self.rows;
     }
 
-    /// Makes room for rows: afterwards the spare is at least `rows`, and all else is as before. `declare` of a key
-    /// without a row uses one of the spare, and takes no memory where the spare is at least 1. After want of memory
-    /// the participant is as it was.
+    /// Makes room for rows: afterwards the spare is at least `rows`, and all else is as before.
+    /// `declare` of a key without a row uses one of the spare, and takes no memory where the spare
+    /// is at least 1. After want of memory the participant is as it was.
     pub fn room(&mut self, rows: usize) -> Result<(), NoMemory>
         ensures state { self.new.state ≡ self.old.state }
         ensures ok { OnOk result (rows ≤ self.new.spare) }
@@ -117,9 +119,9 @@ impl<A: MrpApp> Participant<A> {
         Ok(())
     }
 
-    /// Makes the participant ready: `due` takes no memory then. All else is as before. Each call that changes the
-    /// participant ends its readiness. After want of memory, which comes only where it isn't ready, the participant
-    /// is as it was.
+    /// Makes the participant ready: `due` takes no memory then. All else is as before. Each call
+    /// that changes the participant ends its readiness. After want of memory, which comes only
+    /// where it isn't ready, the participant is as it was.
     pub fn due_room(&mut self) -> Result<(), NoMemory>
         ensures state { self.new.state ≡ self.old.state }
         ensures ready { OnOk result (self.new.ready ≡ true) }
@@ -185,7 +187,8 @@ impl<A: MrpApp> Participant<A> {
         self.sound
     }
 
-    /// The state of the LeaveAll machine: where it is Active, the next list of messages that is sent has LeaveAll.
+    /// The state of the LeaveAll machine: where it is Active, the next list of messages that is
+    /// sent has LeaveAll.
     pub fn leave_all(&self) -> LeaveAll
         ensures { result ≡ self.now.state.leave_all }
     {
@@ -202,8 +205,8 @@ impl<A: MrpApp> Participant<A> {
         self.ready = false;
     }
 
-    /// Whether nothing is pending: every Applicant is VO or QA, every Registrar IN or MT, and LeaveAll
-    /// is Passive.
+    /// Whether nothing is pending: every Applicant is VO or QA, every Registrar IN or MT, and
+    /// LeaveAll is Passive.
     pub fn still(&self) -> bool
         ensures { result ≡ is_still self.now.state }
     {
@@ -217,17 +220,17 @@ impl<A: MrpApp> Participant<A> {
         self.rows.len()
     }
 
-    /// The key of the row at a place, counted from 0 and ascending; None exactly where the index isn't
-    /// below the number of rows.
+    /// The key of the row at a place, counted from 0 and ascending; None exactly where the index
+    /// isn't below the number of rows.
     pub fn key_at(&self, index: usize) -> Option<A::Key>
         ensures { result ≡ slice_get (map key_of self.now.state.rows) index }
     {
         row_key(self.rows.as_slice(), index)
     }
 
-    /// The key of the row at a place, counted as for `key_at`, with the content that is registered of it, which is None
-    /// where its Registrar is MT, without a search for the key; None exactly where the index isn't below the number of
-    /// rows.
+    /// The key of the row at a place, counted as for `key_at`, with the content that is registered
+    /// of it, which is None where its Registrar is MT, without a search for the key; None exactly
+    /// where the index isn't below the number of rows.
     pub fn registration_at(&self, index: usize) -> Option<(A::Key, Option<A::Content>)>
         ensures key { option_map (λ r. r.0) result ≡ slice_get (map key_of self.now.state.rows) index }
         ensures content { IfSome result (λ r. r.1
@@ -236,8 +239,8 @@ impl<A: MrpApp> Participant<A> {
         row_registration(self.rows.as_slice(), index)
     }
 
-    /// The state of the Registrar of the row at a place, counted as for `key_at`, without a search for its
-    /// key; None exactly where the index isn't below the number of rows.
+    /// The state of the Registrar of the row at a place, counted as for `key_at`, without a search
+    /// for its key; None exactly where the index isn't below the number of rows.
     pub fn registrar_at(&self, index: usize) -> Option<Registrar>
         ensures { result ≡ slice_get (map (λ r. r.registrar) self.now.state.rows) index }
     {

@@ -22,11 +22,11 @@ use srp_base::{Cs, MrpEvent, NoMemory, Seq};
 use std::alloc::Global;
 
 impl<A: MrpApp> Participant<A> {
-    /// Takes what the neighbour sent at the moment `now`, in cs and below 2^62: LeaveAll first, then the events
-    /// in order (IEEE Std 802.1Q-2018, 10.7.5). Answers, ascending, the keys whose registration or registered
-    /// content differs from before. It goes over all rows with LeaveAll, for a key that has no row yet, and once
-    /// where the events end the last of the leave timers that would end first. It ends readiness. After want of
-    /// memory the participant is as it was.
+    /// Takes what the neighbour sent at the moment `now`, in cs and below 2^62: LeaveAll first,
+    /// then the events in order (IEEE Std 802.1Q-2018, 10.7.5). Answers, ascending, the keys whose
+    /// registration or registered content differs from before. It goes over all rows with LeaveAll,
+    /// for a key that has no row yet, and once where the events end the last of the leave timers
+    /// that would end first. It ends readiness. After want of memory the participant is as it was.
     pub fn receive(&mut self, now: Cs, msgs: &Msgs<A>) -> Result<Seq<A::Key>, NoMemory>
         requires { now.0 < 2 ^ 62 }
 
@@ -71,9 +71,9 @@ fn moment_after(next: Cs, leave_all: bool, restart: Cs) -> Cs
     if leave_all { restart } else { next }
 }
 
-/// Lets the rows hear a list of messages: LeaveAll first, then the events in order. Answers the keys whose
-/// registration or registered content changes, which are among those of the events. After want of memory the rows
-/// are as they were.
+/// Lets the rows hear a list of messages: LeaveAll first, then the events in order. Answers the
+/// keys whose registration or registered content changes, which are among those of the events.
+/// After want of memory the rows are as they were.
 fn receive_in<K: Copy + Ord, C: Copy + Eq>(
     rows: &mut Vec<Row<K, C>>,
     outlook: &mut Outlook,
@@ -100,8 +100,9 @@ fn receive_in<K: Copy + Ord, C: Copy + Eq>(
     Ok(Seq::from_vec(keys))
 }
 
-/// The rows of the keys that events speak of, after LeaveAll and then the events. Where the keys don't ascend, the
-/// events are put in the order of their keys first, so that no row is put between others.
+/// The rows of the keys that events speak of, after LeaveAll and then the events. Where the keys
+/// don't ascend, the events are put in the order of their keys first, so that no row is put between
+/// others.
 fn hear<K: Copy + Ord, C: Copy>(
     alloc: Global,
     rows: &[Row<K, C>],
@@ -142,8 +143,8 @@ fn changed<K: Copy + Ord, C: Copy + Eq>(
     Ok(keys)
 }
 
-/// Whether what is registered in a row differs from what was registered of its key, whose row may have stood at
-/// `near`.
+/// Whether what is registered in a row differs from what was registered of its key, whose row may
+/// have stood at `near`.
 fn differs<K: Copy + Ord, C: Copy + Eq>(
     old: &[Row<K, C>],
     near: &mut usize,

@@ -10,10 +10,10 @@ use applicant::{AppEvent, Applicant, Say};
 use registrar::{RegEvent, Registrar};
 use srp_base::{Cs, MrpEvent};
 
-/// What is kept of one key: its Applicant with the content declared last, and its Registrar with the
-/// content heard last and the moment at which its leave timer ends, in cs. The declared content means
-/// nothing where the Applicant is `Vo`, the heard one nothing where the Registrar is `Empty`, the moment
-/// nothing where it isn't `Leaving`.
+/// What is kept of one key: its Applicant with the content declared last, and its Registrar with
+/// the content heard last and the moment at which its leave timer ends, in cs. The declared content
+/// means nothing where the Applicant is `Vo`, the heard one nothing where the Registrar is `Empty`,
+/// the moment nothing where it isn't `Leaving`.
 #[derive(Clone, Copy)]
 pub struct Row<K, C> {
     pub key: K,
@@ -62,8 +62,8 @@ impl<K: Copy, C: Copy> Row<K, C> {
         Row { applicant, ..self }
     }
 
-    /// The row after its Registrar took an event; where that takes it from IN to LV, the leave timer
-    /// starts and ends at `leave`.
+    /// The row after its Registrar took an event; where that takes it from IN to LV, the leave
+    /// timer starts and ends at `leave`.
     pub(crate) fn registrar_takes(self, event: RegEvent, leave: Cs) -> Row<K, C>
         ensures { result ≡ registrar_takes event leave self }
     {
@@ -77,8 +77,8 @@ impl<K: Copy, C: Copy> Row<K, C> {
         }
     }
 
-    /// The row after the user declared a content: the same again changes nothing, another is declared
-    /// anew.
+    /// The row after the user declared a content: the same again changes nothing, another is
+    /// declared anew.
     pub(crate) fn declared(self, content: C) -> Row<K, C>
     where
         C: Eq,

@@ -19,14 +19,16 @@ use srp_base::{Cs, MrpEvent, NoMemory, Seq};
 use std::alloc::Global;
 
 impl<A: MrpApp> Participant<A> {
-    /// What `send` answers at the moment `now`, in cs and below 2^62; nothing changes (IEEE Std 802.1Q-2018, 10.7.6).
+    /// What `send` answers at the moment `now`, in cs and below 2^62; nothing changes (IEEE Std
+    /// 802.1Q-2018, 10.7.6).
     ///
-    /// The rows in VP, VN and LA, then those in AN and AA, each ascending by key, while the PDU stays within
-    /// 1,500 octets. With LeaveAll those in VP and VN, in AN and AA, then also those in QA; LA then says nothing.
-    /// A Join is JoinIn where the row's own Registrar is IN, else JoinMt; LeaveAll takes each Registrar out of
-    /// IN first. The events stand ascending by key.
+    /// The rows in VP, VN and LA, then those in AN and AA, each ascending by key, while the PDU
+    /// stays within 1,500 octets. With LeaveAll those in VP and VN, in AN and AA, then also those
+    /// in QA; LA then says nothing. A Join is JoinIn where the row's own Registrar is IN, else
+    /// JoinMt; LeaveAll takes each Registrar out of IN first. The events stand ascending by key.
     ///
-    /// None exactly where no row is VP, VN, AN, AA or LA and LeaveAll is Passive; that takes no memory.
+    /// None exactly where no row is VP, VN, AN, AA or LA and LeaveAll is Passive; that takes no
+    /// memory.
     pub fn plan(&self, now: Cs) -> Result<Option<Msgs<A>>, NoMemory>
         requires { now.0 < 2 ^ 62 }
 
@@ -54,10 +56,10 @@ impl<A: MrpApp> Participant<A> {
         Ok(Some(Msgs { leave_all, events }))
     }
 
-    /// The change that `send` makes at the moment `now`, in cs and below 2^62, once what `plan` answers goes out
-    /// (IEEE Std 802.1Q-2018, 10.7.6): each row gets its transmission opportunity, LeaveAll is Passive, and a
-    /// LeaveAll makes the participant sound, and readiness ends. Where nothing is to be said nothing changes. It
-    /// takes no memory.
+    /// The change that `send` makes at the moment `now`, in cs and below 2^62, once what `plan`
+    /// answers goes out (IEEE Std 802.1Q-2018, 10.7.6): each row gets its transmission opportunity,
+    /// LeaveAll is Passive, and a LeaveAll makes the participant sound, and readiness ends. Where
+    /// nothing is to be said nothing changes. It takes no memory.
     pub fn sent(&mut self, now: Cs)
         requires { now.0 < 2 ^ 62 }
         ensures after { self.new.state ≡ sent_state A.base A.octets A.Key.cmp now self.old.state }
@@ -75,12 +77,12 @@ impl<A: MrpApp> Participant<A> {
         self.ready = false;
     }
 
-    /// What the participant sends at the moment `now`, in cs and below 2^62 (IEEE Std 802.1Q-2018, 10.7.6): what
-    /// `plan` answers, with the change of `sent`.
+    /// What the participant sends at the moment `now`, in cs and below 2^62 (IEEE Std 802.1Q-2018,
+    /// 10.7.6): what `plan` answers, with the change of `sent`.
     ///
-    /// None exactly where no row is VP, VN, AN, AA or LA and LeaveAll is Passive; nothing changes then, and no memory
-    /// is taken. A LeaveAll makes the participant sound. What is sent ends readiness. After want of memory the
-    /// participant is as it was.
+    /// None exactly where no row is VP, VN, AN, AA or LA and LeaveAll is Passive; nothing changes
+    /// then, and no memory is taken. A LeaveAll makes the participant sound. What is sent ends
+    /// readiness. After want of memory the participant is as it was.
     pub fn send(&mut self, now: Cs) -> Result<Option<Msgs<A>>, NoMemory>
         requires { now.0 < 2 ^ 62 }
 

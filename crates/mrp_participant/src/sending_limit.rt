@@ -37,8 +37,8 @@ pub(crate) fn find_limit<A: MrpApp>(
     }
 }
 
-/// Tries the rows of one round where so many octets are used: how many are used afterwards, or the place
-/// of the first row that finds no room.
+/// Tries the rows of one round where so many octets are used: how many are used afterwards, or the
+/// place of the first row that finds no room.
 fn fill<A: MrpApp>(
     rows: &[Row<A::Key, A::Content>],
     leave_all: bool,

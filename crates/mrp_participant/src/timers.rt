@@ -1,5 +1,5 @@
-//! The timers of a participant (IEEE Std 802.1Q-2018, 10.7.4): the leave timers of its rows, the LeaveAll
-//! timer, and periodic transmission.
+//! The timers of a participant (IEEE Std 802.1Q-2018, 10.7.4): the leave timers of its rows, the
+//! LeaveAll timer, and periodic transmission.
 
 ghost use Rattle.std.specs.Prelude.{◌≡◌, ◌<◌, ◌≤◌, ◌+◌, ◌^◌, ◌++◌, [], true, false, length, map, filter, min, if◌then◌else◌, vec_capacity, vec_len, IsOk, OnOk, OnErr, IfOk};
 ghost use Rattle.std.specs.List.{filter_map, list_any};
@@ -19,8 +19,8 @@ use srp_base::{Cs, NoMemory, Seq};
 use std::mem::replace;
 
 impl<A: MrpApp> Participant<A> {
-    /// Fires the LeaveAll timer at the moment `now`, in cs and below 2^62: the machine is Active, and the timer
-    /// ends again a period later (IEEE Std 802.1Q-2018, 10.7.9). It ends readiness.
+    /// Fires the LeaveAll timer at the moment `now`, in cs and below 2^62: the machine is Active,
+    /// and the timer ends again a period later (IEEE Std 802.1Q-2018, 10.7.9). It ends readiness.
     pub fn leaveall_due(&mut self, now: Cs)
         requires { now.0 < 2 ^ 62 }
         ensures after { self.new.state ≡ leave_all_state now self.old.state }
@@ -32,8 +32,8 @@ impl<A: MrpApp> Participant<A> {
         self.ready = false;
     }
 
-    /// The event periodic! to each row (IEEE Std 802.1Q-2018, 10.7.10). The periodic machine's next moment stays.
-    /// It ends readiness.
+    /// The event periodic! to each row (IEEE Std 802.1Q-2018, 10.7.10). The periodic machine's next
+    /// moment stays. It ends readiness.
     pub fn periodic_due(&mut self)
         ensures after { self.new.state ≡ periodic_state self.old.state }
         ensures ready { self.new.ready ≡ false }
@@ -50,10 +50,11 @@ impl<A: MrpApp> Participant<A> {
             || (self.next_leave_all.0 <= now.0 || self.periodic.due(now))
     }
 
-    /// Fires all timers that are due at the moment `now`, in cs and below 2^62: the leave timers ascending, then
-    /// LeaveAll, then periodic. Answers how many fired, a number that stops at 4,294,967,295, and the keys that
-    /// left, ascending. What fires ends readiness; where no timer is due nothing changes. After want of memory, which
-    /// comes only where the participant isn't ready and some leave timer is due, it is as it was.
+    /// Fires all timers that are due at the moment `now`, in cs and below 2^62: the leave timers
+    /// ascending, then LeaveAll, then periodic. Answers how many fired, a number that stops at
+    /// 4,294,967,295, and the keys that left, ascending. What fires ends readiness; where no timer
+    /// is due nothing changes. After want of memory, which comes only where the participant isn't
+    /// ready and some leave timer is due, it is as it was.
     pub fn due(&mut self, now: Cs) -> Result<(u32, Seq<A::Key>), NoMemory>
         requires { now.0 < 2 ^ 62 }
 
@@ -135,9 +136,9 @@ fn all_periodic<K: Copy, C: Copy>(rows: &mut Vec<Row<K, C>>, outlook: &mut Outlo
     *outlook = outlook_of(rows.as_slice());
 }
 
-/// Fires the leave timers that are due, and puts their keys into an empty list. Where none is due no row is looked
-/// at, and where the list has room for the keys of all rows no memory is taken. After want of memory the rows are as
-/// they were.
+/// Fires the leave timers that are due, and puts their keys into an empty list. Where none is due
+/// no row is looked at, and where the list has room for the keys of all rows no memory is taken.
+/// After want of memory the rows are as they were.
 fn fire_leaves<K: Copy, C: Copy>(
     rows: &mut Vec<Row<K, C>>,
     outlook: &mut Outlook,
@@ -167,7 +168,8 @@ fn fire_leaves<K: Copy, C: Copy>(
     Ok(())
 }
 
-/// Puts the keys of the leave timers that are due at the end of a list that has room for the keys of all rows.
+/// Puts the keys of the leave timers that are due at the end of a list that has room for the keys
+/// of all rows.
 fn keys_that_leave<K: Copy, C: Copy>(rows: &[Row<K, C>], keys: &mut Vec<K>, now: Cs)
     requires { vec_len keys.old + length rows.now ≤ vec_capacity keys.old }
     ensures { keys.new.items
@@ -178,8 +180,8 @@ fn keys_that_leave<K: Copy, C: Copy>(rows: &[Row<K, C>], keys: &mut Vec<K>, now:
     }
 }
 
-/// Puts each row after the leave timers that are due in its place, and closes the gaps of those of which nothing is
-/// kept.
+/// Puts each row after the leave timers that are due in its place, and closes the gaps of those of
+/// which nothing is kept.
 fn thin<K: Copy, C: Copy>(rows: &mut Vec<Row<K, C>>, now: Cs)
     ensures { rows.new.items ≡ filter_map (after_leave_due now.0) rows.old.items }
 {

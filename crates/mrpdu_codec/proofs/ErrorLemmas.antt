@@ -21,7 +21,8 @@ pdu_within (errors.Left left) form octets h = (MatchResult-at_err _ (λ n. (n �
 pub pdu_spelled : (form : AppForm) (octets : List ℕ) (pdu : Pdu) → pdu_at form octets ≡ Ok pdu → Spells form octets pdu
 pdu_spelled form octets pdu h = MatchResult-at_ok (λ p. Spells form octets p) _ pdu h (reading_holds form octets)
 
-pub pdu_broken : (e : ReadErr) (form : AppForm) (octets : List ℕ) (place : ℕ) → Fails e (pdu_at form octets) → decode_err_of e (length octets) ≡ decode_errors.Malformed place → Breaks form octets place
+pub pdu_broken : (e : ReadErr) (form : AppForm) (octets : List ℕ) (place : ℕ) → Fails e (pdu_at form octets)
+    → decode_err_of e (length octets) ≡ decode_errors.Malformed place → Breaks form octets place
 pdu_broken errors.NoMemory form octets place h k = absurd cc
 pdu_broken (errors.Left left) form octets place h k =
     let b = MatchResult-at_err _ (λ n. (n ≤ length octets) × Breaks form octets (length octets - n)) left h (reading_holds form octets) in
@@ -67,6 +68,7 @@ breaks_reading form octets place b =
 
 -- ---- what `decode_in_place` answers
 
-pub answers_err : (e : ReadErr) (form : AppForm) (octets : List ℕ) (answer : DecodeErr) → Fails e (pdu_at form octets) → answer ≡ decode_err_of e (length octets) → Gives pdu_in place_told (Err answer) (reading form octets)
+pub answers_err : (e : ReadErr) (form : AppForm) (octets : List ℕ) (answer : DecodeErr) → Fails e (pdu_at form octets) → answer ≡ decode_err_of e (length octets)
+    → Gives pdu_in place_told (Err answer) (reading form octets)
 answers_err errors.NoMemory form octets answer h k = rw k tt
 answers_err (errors.Left left) form octets answer h k = rw k (reading_err form octets left h)

@@ -30,7 +30,8 @@ small_each : (octets : List ℕ) → AllUpTo 255 octets → list_all (λ p. leb 
 small_each [] h = refl
 small_each (o ∷ octets) h =
     all_append (λ p. leb p 3) (four_params o) (flat_map four_params octets)
-    (and_from _ _ (le-leb (o / 64) 3 (omega (arith, h.0))) (and_from _ _ (le-leb (o / 16 % 4) 3 (omega arith)) (and_from _ _ (le-leb (o / 4 % 4) 3 (omega arith)) (and_from _ _ (le-leb (o % 4) 3 (omega arith)) refl))))
+    (and_from _ _ (le-leb (o / 64) 3 (omega (arith, h.0)))
+    (and_from _ _ (le-leb (o / 16 % 4) 3 (omega arith)) (and_from _ _ (le-leb (o / 4 % 4) 3 (omega arith)) (and_from _ _ (le-leb (o % 4) 3 (omega arith)) refl))))
     (small_each octets h.1)
 
 params_formed : (b : Bool) (n events : ℕ) (fours : List ℕ) → length fours ≡ cond b (quarters n) 0 → AllUpTo 255 fours → events ≡ n

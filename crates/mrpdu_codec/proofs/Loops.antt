@@ -48,20 +48,23 @@ take_behind zero k (x ∷ xs) more e le = absurd (omega (arith, le))
 take_behind {A = A} (suc n) k (x ∷ xs) more e le = ap (λ (zs : List A). x ∷ zs) (take_behind n k xs more (omega (arith, e)) (omega (arith, le)))
 
 -- one octet more is unpacked
-pub unpacked_more : {A : Type 0} (f : ℕ → List A) (n i : ℕ) (octets : List ℕ) (items more : List A) → i < length octets → items ≡ take n (flat_map f (take i octets)) → more ≡ take n (items ++ f (get_or octets i 0))
+pub unpacked_more : {A : Type 0} (f : ℕ → List A) (n i : ℕ) (octets : List ℕ) (items more : List A) → i < length octets → items ≡ take n (flat_map f (take i octets))
+    → more ≡ take n (items ++ f (get_or octets i 0))
     → more ≡ take n (flat_map f (take (i + 1) octets))
 unpacked_more {A = A} f n i octets items more lt e g =
     g ∙ ap (λ (zs : List A). take n (zs ++ f (get_or octets i 0))) e ∙ take-take-append n (flat_map f (take i octets)) (f (get_or octets i 0))
     ∙ ap (λ (zs : List A). take n zs) (flat_map_more f [] (take i octets) (get_or octets i 0) ∙ ap (λ (os : List ℕ). flat_map f os) (sym (take_more octets i 0 lt)))
 
 -- one item more is spelled
-pub spelled_more : {X Y : Type 0} (f : Y → List ℕ) (g : X → Y) (front : List ℕ) (xs : List X) (i : ℕ) (x : X) (out new : List ℕ) → i < length xs → x ≡ get_or xs i x → out ≡ front ++ flat_map f (map g (take i xs)) → new ≡ out ++ f (g x) → new ≡ front ++ flat_map f (map g (take (i + 1) xs))
+pub spelled_more : {X Y : Type 0} (f : Y → List ℕ) (g : X → Y) (front : List ℕ) (xs : List X) (i : ℕ) (x : X) (out new : List ℕ) → i < length xs → x ≡ get_or xs i x
+    → out ≡ front ++ flat_map f (map g (take i xs)) → new ≡ out ++ f (g x) → new ≡ front ++ flat_map f (map g (take (i + 1) xs))
 spelled_more f g front xs i x out new below is so_far more =
     more ∙ ap (λ o. o ++ f (g x)) so_far ∙ flat_map_more f front (map g (take i xs)) (g x)
     ∙ ap (λ l. front ++ flat_map f l) (sym (ap (map g) (take_more xs i x below ∙ ap (λ y. take i xs ++ y ∷ []) (sym is)) ∙ map_push g (take i xs) x))
 
 -- one item more is mapped
-pub mapped_more : {X Y : Type 0} (f : X → Y) (xs : List X) (i : ℕ) (d : X) (done new : List Y) (y : Y) → i < length xs → done ≡ map f (take i xs) → y ≡ f (get_or xs i d) → new ≡ done ++ y ∷ [] → new ≡ map f (take (i + 1) xs)
+pub mapped_more : {X Y : Type 0} (f : X → Y) (xs : List X) (i : ℕ) (d : X) (done new : List Y) (y : Y) → i < length xs → done ≡ map f (take i xs) → y ≡ f (get_or xs i d)
+    → new ≡ done ++ y ∷ [] → new ≡ map f (take (i + 1) xs)
 mapped_more f xs i d done new y below so_far one pushed =
     pushed ∙ ap (λ l. l ++ y ∷ []) so_far ∙ ap (λ z. map f (take i xs) ++ z ∷ []) one
     ∙ sym (ap (map f) (take_more xs i d below) ∙ map_push f (take i xs) (get_or xs i d))

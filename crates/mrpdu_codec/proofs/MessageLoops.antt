@@ -78,7 +78,8 @@ fuel_free (suc f) (suc g) form (kind ∷ octets) p q =
     let less = falls form kind octets x nonzero e in
     ap (λ (r : Result (List Message) ℕ). r >>= λ ms. let y : Result (List Message) ℕ = Ok (x.0 ++ ms) in y) (fuel_free f g form x.1 (omega arith) (omega arith))))
 
-messages_step : (form : AppForm) (octets : List ℕ) (kind : ℕ) (after : List ℕ) (ms : List Message) (rest : List ℕ) → type_at octets ≡ Ok (Some (kind, after)) → message_at form kind after ≡ Ok (ms, rest)
+messages_step : (form : AppForm) (octets : List ℕ) (kind : ℕ) (after : List ℕ) (ms : List Message) (rest : List ℕ) → type_at octets ≡ Ok (Some (kind, after))
+    → message_at form kind after ≡ Ok (ms, rest)
     → messages_of form octets ≡ (messages_of form rest >>= λ others. Ok (ms ++ others))
 unfolding messages_of messages_at
 messages_step form octets kind after ms rest t e =
@@ -87,7 +88,8 @@ messages_step form octets kind after ms rest t e =
     ap (λ (o : List ℕ). messages_at (length o) form o) s.0
     ∙ rw (s.1, e) (ap (λ (r : Result (List Message) ℕ). r >>= λ others. let y : Result (List Message) ℕ = Ok (ms ++ others) in y) (fuel_free (length after) (length rest) form rest less (omega arith)))
 
-message_fails : (form : AppForm) (octets : List ℕ) (kind : ℕ) (after : List ℕ) (left : ℕ) → type_at octets ≡ Ok (Some (kind, after)) → message_at form kind after ≡ Err left → messages_of form octets ≡ Err left
+message_fails : (form : AppForm) (octets : List ℕ) (kind : ℕ) (after : List ℕ) (left : ℕ) → type_at octets ≡ Ok (Some (kind, after))
+    → message_at form kind after ≡ Err left → messages_of form octets ≡ Err left
 unfolding messages_of messages_at
 message_fails form octets kind after left t e =
     let s = type_some octets kind after t in
@@ -103,7 +105,8 @@ with_more front ms (Ok others) = ap (λ (x : List Message). let y : Result (List
 with_more front ms (Err left) = refl
 
 module _ (form : AppForm) (total : Result (List Message) ℕ) (front : List Message) (octets : List ℕ) (so_far : with_messages front (messages_of form octets) ≡ total) where
-  pub goes_on : (kind : ℕ) (after : List ℕ) (ms : List Message) (rest : List ℕ) → type_at octets ≡ Ok (Some (kind, after)) → message_at form kind after ≡ Ok (ms, rest) → with_messages (front ++ ms) (messages_of form rest) ≡ total
+  pub goes_on : (kind : ℕ) (after : List ℕ) (ms : List Message) (rest : List ℕ) → type_at octets ≡ Ok (Some (kind, after)) → message_at form kind after ≡ Ok (ms, rest)
+      → with_messages (front ++ ms) (messages_of form rest) ≡ total
   goes_on kind after ms rest t e = sym (ap (with_messages front) (messages_step form octets kind after ms rest t e) ∙ with_more front ms (messages_of form rest)) ∙ so_far
 
   pub fails_at_type : (e : ReadErr) → Fails e (type_at octets) → Fails e total
@@ -117,7 +120,8 @@ module _ (form : AppForm) (total : Result (List Message) ℕ) (front : List Mess
   pub ends : type_at octets ≡ Ok None → total ≡ Ok front
   ends t = sym so_far ∙ ap (with_messages front) (messages_end form octets t) ∙ ap (λ (x : List Message). let y : Result (List Message) ℕ = Ok x in y) (append-nil front)
 
-pub step_falls : (form : AppForm) (octets : List ℕ) (kind : ℕ) (after : List ℕ) (x : List Message × List ℕ) → type_at octets ≡ Ok (Some (kind, after)) → message_at form kind after ≡ Ok x → length x.1 < length octets
+pub step_falls : (form : AppForm) (octets : List ℕ) (kind : ℕ) (after : List ℕ) (x : List Message × List ℕ) → type_at octets ≡ Ok (Some (kind, after))
+    → message_at form kind after ≡ Ok x → length x.1 < length octets
 step_falls form octets kind after x t e =
     let s = type_some octets kind after t in
     omega (arith, falls form kind after x s.1 e, ap length s.0)

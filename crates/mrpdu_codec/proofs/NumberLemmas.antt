@@ -9,7 +9,8 @@ use Rattle.mrpdu_codec.specs.{two_octets}
 -- ---- reading
 
 -- one octet more
-pub number_more : (octets : List ℕ) (i number octet : ℕ) → i < length octets → number ≡ number_high_first (take i octets) → octet ≡ get_or octets i 0 → number * 256 + octet ≡ number_high_first (take (i + 1) octets)
+pub number_more : (octets : List ℕ) (i number octet : ℕ) → i < length octets → number ≡ number_high_first (take i octets) → octet ≡ get_or octets i 0
+    → number * 256 + octet ≡ number_high_first (take (i + 1) octets)
 number_more octets i number octet lt e is =
     ap (λ (n : ℕ). n * 256 + octet) e ∙ ap (λ (o : ℕ). number_high_first (take i octets) * 256 + o) is
     ∙ sym (fold_more (λ (n o : ℕ). n * 256 + o) 0 octets i 0 lt)

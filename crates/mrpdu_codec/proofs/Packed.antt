@@ -95,7 +95,8 @@ params_of a b c d p q r s =
     ∙ ap (λ (x : ℕ). a ∷ b ∷ x ∷ four a b c d % 4 ∷ []) e3
     ∙ ap (λ (x : ℕ). a ∷ b ∷ c ∷ x ∷ []) e4
 
-params_on : (n a b c d : ℕ) (octets : List ℕ) → a ≤ 3 → b ≤ 3 → c ≤ 3 → d ≤ 3 → take n (four_params (four a b c d) ++ flat_map four_params octets) ≡ take n (a ∷ b ∷ c ∷ d ∷ flat_map four_params octets)
+params_on : (n a b c d : ℕ) (octets : List ℕ) → a ≤ 3 → b ≤ 3 → c ≤ 3 → d ≤ 3
+    → take n (four_params (four a b c d) ++ flat_map four_params octets) ≡ take n (a ∷ b ∷ c ∷ d ∷ flat_map four_params octets)
 params_on n a b c d octets p q r s = ap (λ (xs : List ℕ). take n (xs ++ flat_map four_params octets)) (params_of a b c d p q r s)
 
 pub params_again : (params : List ℕ) → Small params → take (length params) (flat_map four_params (pack_params params)) ≡ params
@@ -148,7 +149,8 @@ fours_limit (a ∷ b ∷ c ∷ d ∷ params) h =
 pub rest-after : {X : Type 0} (xs : List X) (k n : ℕ) → n ≡ min (length xs) k → take (length xs - n) (drop n xs) ≡ drop (min (length xs) k) xs
 rest-after xs k n is = take_all (length xs - n) (drop n xs) (omega (arith, length-drop n xs)) ∙ ap (λ m. drop m xs) is
 
-packed-events : (events : List MrpEvent) → 0 < length events → pack_events events ≡ three (get_or events 0 New) (get_or events 1 New) (get_or events 2 New) ∷ pack_events (drop (min (length events) 3) events)
+packed-events : (events : List MrpEvent) → 0 < length events
+    → pack_events events ≡ three (get_or events 0 New) (get_or events 1 New) (get_or events 2 New) ∷ pack_events (drop (min (length events) 3) events)
 packed-events [] some = absurd (omega arith)
 packed-events (a ∷ []) some = refl
 packed-events (a ∷ b ∷ []) some = refl
@@ -156,10 +158,12 @@ packed-events (a ∷ b ∷ c ∷ events) some =
     let all : 3 ≡ min (length (a ∷ b ∷ c ∷ events)) 3 = omega arith in
     ap (λ n. three a b c ∷ pack_events (drop n (a ∷ b ∷ c ∷ events))) all
 
-pub first-events : (events : List MrpEvent) (a b c : MrpEvent) (n octet : ℕ) → 0 < length events → a ≡ get_or events 0 New → b ≡ get_or events 1 New → c ≡ get_or events 2 New → octet ≡ three a b c → n ≡ min (length events) 3 → pack_events events ≡ octet ∷ pack_events (take (length events - n) (drop n events))
+pub first-events : (events : List MrpEvent) (a b c : MrpEvent) (n octet : ℕ) → 0 < length events → a ≡ get_or events 0 New → b ≡ get_or events 1 New
+    → c ≡ get_or events 2 New → octet ≡ three a b c → n ≡ min (length events) 3 → pack_events events ≡ octet ∷ pack_events (take (length events - n) (drop n events))
 first-events events a b c n octet some p q r packed is = let whole = packed-events events some in let rest = rest-after events 3 n is in cc
 
-packed-params : (params : List ℕ) → 0 < length params → pack_params params ≡ four (get_or params 0 0) (get_or params 1 0) (get_or params 2 0) (get_or params 3 0) ∷ pack_params (drop (min (length params) 4) params)
+packed-params : (params : List ℕ) → 0 < length params
+    → pack_params params ≡ four (get_or params 0 0) (get_or params 1 0) (get_or params 2 0) (get_or params 3 0) ∷ pack_params (drop (min (length params) 4) params)
 packed-params [] some = absurd (omega arith)
 packed-params (a ∷ []) some = refl
 packed-params (a ∷ b ∷ []) some = refl
@@ -168,7 +172,8 @@ packed-params (a ∷ b ∷ c ∷ d ∷ params) some =
     let all : 4 ≡ min (length (a ∷ b ∷ c ∷ d ∷ params)) 4 = omega arith in
     ap (λ n. four a b c d ∷ pack_params (drop n (a ∷ b ∷ c ∷ d ∷ params))) all
 
-pub first-params : (params : List ℕ) (a b c d n octet : ℕ) → 0 < length params → a ≡ get_or params 0 0 → b ≡ get_or params 1 0 → c ≡ get_or params 2 0 → d ≡ get_or params 3 0 → octet ≡ four a b c d → n ≡ min (length params) 4 → pack_params params ≡ octet ∷ pack_params (take (length params - n) (drop n params))
+pub first-params : (params : List ℕ) (a b c d n octet : ℕ) → 0 < length params → a ≡ get_or params 0 0 → b ≡ get_or params 1 0 → c ≡ get_or params 2 0
+    → d ≡ get_or params 3 0 → octet ≡ four a b c d → n ≡ min (length params) 4 → pack_params params ≡ octet ∷ pack_params (take (length params - n) (drop n params))
 first-params params a b c d n octet some p q r s packed is = let whole = packed-params params some in let rest = rest-after params 4 n is in cc
 
 pub small-at : (params : List ℕ) (i : ℕ) → Small params → get_or params i 0 ≤ 3

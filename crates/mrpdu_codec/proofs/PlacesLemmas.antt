@@ -90,7 +90,8 @@ pub drop_falls : (n : ℕ) (octets : List ℕ) → length (drop n octets) ≤ le
 drop_falls n octets = omega (arith, length-drop n octets)
 
 -- one vector passed, of the vectors that are counted down
-pub place_here : (row : Option TypeForm) (len end header : ℕ) (octets after : List ℕ) → header_in octets ≡ Some (header, after) → slice_get (places_in row len end 0 octets) 0 ≡ Some (end - length after)
+pub place_here : (row : Option TypeForm) (len end header : ℕ) (octets after : List ℕ) → header_in octets ≡ Some (header, after)
+    → slice_get (places_in row len end 0 octets) 0 ≡ Some (end - length after)
 place_here row len end header octets after h = ap (λ (ps : List ℕ). slice_get ps 0) (places_step row len end header octets after h)
 
 pub place_later : (row : Option TypeForm) (len end header : ℕ) (octets after : List ℕ) (before : ℕ) → header_in octets ≡ Some (header, after) → 0 < before
@@ -148,7 +149,8 @@ fuel_free (suc f) (suc g) form end (kind ∷ octets) p q =
     let falls = behind_body_falls form (row_of form kind) octets in
     elim (cases_Bool (eqb kind 0)) [
       | inl none ↦ rw none refl
-      | inr some ↦ rw some (ap (λ (pss : List (List ℕ)). known_places (row_of form kind) (body_places form (row_of form kind) end octets) ++ pss) (fuel_free f g form end (behind_body form (row_of form kind) octets) (omega (arith, falls)) (omega (arith, falls))))
+      | inr some ↦ rw some (ap (λ (pss : List (List ℕ)). known_places (row_of form kind) (body_places form (row_of form kind) end octets) ++ pss)
+          (fuel_free f g form end (behind_body form (row_of form kind) octets) (omega (arith, falls)) (omega (arith, falls))))
     ]
 
 pub from_step : (form : AppForm) (end kind : ℕ) (octets after : List ℕ) → kind_in octets ≡ Some (kind, after)
@@ -160,7 +162,8 @@ from_step form end kind [] after h = absurd cc
 from_step form end kind (k ∷ octets) after h =
     let p = kind_parts kind k octets after h in
     rw (p.0, p.1, p.2) (ap (λ (pss : List (List ℕ)). known_places (row_of form kind) (body_places form (row_of form kind) end after) ++ pss)
-    (fuel_free (length after) (length (behind_body form (row_of form kind) after)) form end (behind_body form (row_of form kind) after) (behind_body_falls form (row_of form kind) after) (omega arith)))
+    (fuel_free (length after) (length (behind_body form (row_of form kind) after)) form end (behind_body form (row_of form kind) after)
+    (behind_body_falls form (row_of form kind) after) (omega arith)))
 
 pub from_end : (form : AppForm) (end : ℕ) (octets : List ℕ) → kind_in octets ≡ None → places_from (length octets) form end octets ≡ []
 unfolding places_from

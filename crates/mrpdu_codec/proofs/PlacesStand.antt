@@ -7,7 +7,8 @@ use Rattle.mrpdu_codec.specs.Tree.AttributeList.{Vectors, Skipped}
 use Rattle.mrpdu_codec.proofs.PlacesOfTree.{tree_walked}
 
 -- vectors stand behind some octets, and before others
-vectors_stand : (octets front : List ℕ) (vs : List Vector) (more : List ℕ) (at : ℕ) → octets ≡ front ++ (vectors_octets vs ++ more) → at ≡ length front → StandAt octets (vector_places at vs) (map attr_of vs)
+vectors_stand : (octets front : List ℕ) (vs : List Vector) (more : List ℕ) (at : ℕ) → octets ≡ front ++ (vectors_octets vs ++ more) → at ≡ length front
+    → StandAt octets (vector_places at vs) (map attr_of vs)
 vectors_stand octets front [] more at e f = tt
 vectors_stand octets front (v ∷ vs) more at e f =
     let within = v.three_packed ++ v.four_packed in
@@ -24,11 +25,13 @@ vectors_stand octets front (v ∷ vs) more at e f =
       vectors_stand octets (front ++ vector_octets v) vs more (at + length (vector_octets v)) behind (omega (arith, f, length-append front (vector_octets v))),
     )
 
-list_stands : (octets front : List ℕ) (list : AttributeList) (more : List ℕ) (at : ℕ) → octets ≡ front ++ (list_octets list ++ more) → at ≡ length front → StandAt octets (list_places at list) (list_attrs list)
+list_stands : (octets front : List ℕ) (list : AttributeList) (more : List ℕ) (at : ℕ) → octets ≡ front ++ (list_octets list ++ more) → at ≡ length front
+    → StandAt octets (list_places at list) (list_attrs list)
 list_stands octets front (Vectors vs) more at e f = vectors_stand octets front vs more at e f
 list_stands octets front (Skipped skipped) more at e f = tt
 
-with_known : (octets : List ℕ) (row : Option TypeForm) (kind at : ℕ) (list : AttributeList) (pss : List (List ℕ)) (ms : List Message) → StandAt octets (list_places at list) (list_attrs list) → AllStandAt octets pss ms
+with_known : (octets : List ℕ) (row : Option TypeForm) (kind at : ℕ) (list : AttributeList) (pss : List (List ℕ)) (ms : List Message)
+    → StandAt octets (list_places at list) (list_attrs list) → AllStandAt octets pss ms
     → AllStandAt octets (known_places row (list_places at list) ++ pss) (messages_from row kind (list_attrs list) ++ ms)
 with_known octets None kind at list pss ms h k = k
 with_known octets (Some t) kind at list pss ms h k = (h, k)

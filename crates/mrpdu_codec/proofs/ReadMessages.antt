@@ -9,7 +9,8 @@ use Rattle.mrpdu_codec.proofs.{Longer.message_longer, Steps.then_match, Steps.te
 
 -- ---- a Message
 
-length_match : (row : Option TypeForm) (octets : List ℕ) → MatchResult (length_at row octets) (λ x. (octets ≡ x.0 ∷ x.1) × (length_fits row x.0 ≡ true)) (λ left. (left ≡ length octets) × LengthBreaks row octets)
+length_match : (row : Option TypeForm) (octets : List ℕ)
+    → MatchResult (length_at row octets) (λ x. (octets ≡ x.0 ∷ x.1) × (length_fits row x.0 ≡ true)) (λ left. (left ≡ length octets) × LengthBreaks row octets)
 unfolding length_at
 length_match row [] = (refl, tt)
 length_match row (len ∷ rest) = test_match (length_fits row len) _ _ _ _ (λ good. (refl, good)) (λ bad. (refl, bad))
@@ -120,7 +121,8 @@ then_message form octets messages after t left b = go b.breaks where
     rest = b.rest;
     whole = text;
     left_is = b.left_is;
-    breaks = in_message (t.tree ∷ bs) part ((t.rules, closed), rules) (ap (λ (o : List ℕ). message_octets t.tree ++ o) front-is ∙ sym (append_assoc (message_octets t.tree) (messages_octets bs) part)) h;
+    breaks = in_message (t.tree ∷ bs) part ((t.rules, closed), rules)
+        (ap (λ (o : List ℕ). message_octets t.tree ++ o) front-is ∙ sym (append_assoc (message_octets t.tree) (messages_octets bs) part)) h;
   }
 
 messages_match : (fuel : ℕ) (form : AppForm) (octets : List ℕ) → length octets ≤ fuel
@@ -131,7 +133,8 @@ messages_match zero form (o ∷ octets) enough = absurd (omega arith)
 messages_match (suc fuel) form [] enough = record { trees = []; after = None; rules = tt; whole = refl; meaning = refl }
 messages_match (suc fuel) form (kind ∷ rest) enough =
     test_match (eqb kind 0) _ _ _ _
-    (λ good. subst (λ (k : ℕ). MatchResult (end_at rest) (λ messages. TookMessages form (k ∷ rest) messages) (λ left. Broken (LaterBreaks form) (k ∷ rest) left)) (sym (eqb-true kind 0 good)) (end_match form rest))
+    (λ good. subst (λ (k : ℕ). MatchResult (end_at rest) (λ messages. TookMessages form (k ∷ rest) messages) (λ left. Broken (LaterBreaks form) (k ∷ rest) left))
+    (sym (eqb-true kind 0 good)) (end_match form rest))
     (λ bad. let n : kind ≡ 0 → ⊥ = eqb-false kind 0 bad in
     let some : 0 < kind = omega arith in
     then_match (message_at form kind rest) _ _ _ _ _ (message_match form kind rest some)

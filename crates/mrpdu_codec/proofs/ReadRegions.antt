@@ -73,7 +73,16 @@ unfolding list_at
 list_match row len octets =
     then_match (vectors_of row len octets) _ _ _ _ _ (of_match row len octets)
     (λ x t. then_match (mark_at x.1) _ _ _ _ _ (mark_match x.1)
-    (λ rest m. record { vs = t.vs; rules = t.rules; end_mark = m.end_mark; is_mark = m.is_mark; whole = t.whole ∙ ap (λ (o : List ℕ). vectors_octets t.vs ++ o) m.whole; meaning = t.meaning; last = m.last })
+    (λ rest m. record {
+      vs = t.vs;
+      rules = t.rules;
+      end_mark = m.end_mark;
+      is_mark = m.is_mark;
+      whole = t.whole
+          ∙ ap (λ (o : List ℕ). vectors_octets t.vs ++ o) m.whole;
+      meaning = t.meaning;
+      last = m.last;
+    })
     (λ left h. absurd (ended_marks x.1 t.ended h.1)))
     (λ left b. b)
 
@@ -111,7 +120,8 @@ region_match row len size octets at_most =
 -- a region isn't left with more octets than it has
 pub region_left : (row : Option TypeForm) (len size : ℕ) (octets : List ℕ) (left : ℕ) → region_at row len size (take size octets) ≡ Err left → left ≤ length (take size octets)
 region_left row len size octets left e =
-    let b = MatchResult-at_err (λ attrs. TookRegion row len size (take size octets) attrs) (λ n. Broken (RegionBreaks row len size) (take size octets) n) left e (region_match row len size (take size octets) (omega (arith, length-take size octets))) in
+    let b = MatchResult-at_err (λ attrs. TookRegion row len size (take size octets) attrs) (λ n. Broken (RegionBreaks row len size) (take size octets) n) left e
+    (region_match row len size (take size octets) (omega (arith, length-take size octets))) in
     omega (arith, b.left_is, ap length b.whole, length-append b.front b.rest)
 
 before_match : {A : Type 0} (beyond : ℕ) (r : Result A ℕ) (P : A → Type 0) (Q Q' : ℕ → Type 0) → MatchResult r P Q → ((left : ℕ) → Q left → Q' (left + beyond)) → MatchResult (before beyond r) P Q'
@@ -189,7 +199,8 @@ record TookSkipped (size : ℕ) (octets rest : List ℕ) : Type 0 where
 two_of : (octets : List ℕ) → 2 ≤ length octets → take 2 octets ≡ [] → ⊥
 two_of octets h e = let l = ap length e in absurd (omega (arith, length-take 2 octets))
 
-unknown_match : (size : ℕ) (octets : List ℕ) → MatchResult (unknown_at size octets) (λ rest. TookSkipped size octets rest) (λ left. (left ≡ length octets) × ((length octets < size) ⊎ (length octets ≡ size + 1)))
+unknown_match : (size : ℕ) (octets : List ℕ)
+    → MatchResult (unknown_at size octets) (λ rest. TookSkipped size octets rest) (λ left. (left ≡ length octets) × ((length octets < size) ⊎ (length octets ≡ size + 1)))
 unfolding unknown_at
 unknown_match size octets =
     test_match (leb (size + 2) (length octets)) _ _ _ _
@@ -200,7 +211,9 @@ unknown_match size octets =
       full = length-take-le size octets (omega arith);
       end_mark = take 2 (drop size octets);
       is_mark = inr (length-take-le 2 (drop size octets) here);
-      whole = sym (take-append-drop size octets) ∙ ap (λ (o : List ℕ). take size octets ++ o) (sym (take-append-drop 2 (drop size octets)) ∙ ap (λ (o : List ℕ). take 2 (drop size octets) ++ o) (drop-drop 2 size octets));
+      whole = sym (take-append-drop size octets)
+          ∙ ap (λ (o : List ℕ). take size octets ++ o)
+          (sym (take-append-drop 2 (drop size octets)) ∙ ap (λ (o : List ℕ). take 2 (drop size octets) ++ o) (drop-drop 2 size octets));
       last = λ e. absurd (two_of (drop size octets) here e);
     })
     (λ bad. let lt = leb-false (size + 2) (length octets) bad in
@@ -226,7 +239,8 @@ size_match (high ∷ low ∷ rest) =
     (λ good. (refl, ltb-true (number high low) 2 good))
     (λ bad. let le = ltb-false (number high low) 2 bad in record { high = high; low = low; counts = omega arith; whole = refl })
 
-known_breaks : (t : TypeForm) (len : ℕ) (octets : List ℕ) (size : ℕ) (after : List ℕ) → TookSize octets size after → (left : ℕ) → Broken (KnownBreaks t len size) after left → Broken (CountedBreaks (Some t) len) octets left
+known_breaks : (t : TypeForm) (len : ℕ) (octets : List ℕ) (size : ℕ) (after : List ℕ) → TookSize octets size after → (left : ℕ)
+    → Broken (KnownBreaks t len size) after left → Broken (CountedBreaks (Some t) len) octets left
 known_breaks t len octets size after s left b = go b.breaks where
   go : KnownBreaks t len size b.front b.rest → Broken (CountedBreaks (Some t) len) octets left
   go (in_region within beyond is_region rest-is breaks) = record {

@@ -45,7 +45,8 @@ packed_match limit (suc n) (o ∷ rest) =
     }))
     (λ bad. record { front = []; rest = o ∷ rest; whole = refl; left_is = refl; breaks = record { short = omega arith; each = tt; breaks = leb-false o limit bad } })
 
-pub header_match : (row : Option TypeForm) (octets : List ℕ) → MatchResult (header_at row octets) (λ x. (octets ≡ x.0 ∷ x.1 ∷ x.2) × (header_fits row x.0 x.1 ≡ true)) (λ left. (left ≡ length octets) × (octets ≡ [] ⊎ HeaderBreaks row octets))
+pub header_match : (row : Option TypeForm) (octets : List ℕ)
+    → MatchResult (header_at row octets) (λ x. (octets ≡ x.0 ∷ x.1 ∷ x.2) × (header_fits row x.0 x.1 ≡ true)) (λ left. (left ≡ length octets) × (octets ≡ [] ⊎ HeaderBreaks row octets))
 unfolding header_at
 header_match row [] = (refl, inl refl)
 header_match row (high ∷ []) = (refl, inr tt)
@@ -91,7 +92,8 @@ vector_match row len octets going =
       rest = q.rest;
       left_is = q.left_is;
       whole = whole4 octets head.0 head.1 head.2 first.0 first.1 packed.0 packed.1 q.front q.rest h.0 f.0 p.whole q.whole;
-      breaks = four_packed (record { high = head.0; low = head.1; first = first.0; three_packed = packed.0; four_packed = q.front }) h.1 some f.1 p.each p.count q.breaks.each q.breaks.short refl q.breaks.breaks;
+      breaks = four_packed (record { high = head.0; low = head.1; first = first.0; three_packed = packed.0; four_packed = q.front }) h.1 some f.1 p.each p.count
+          q.breaks.each q.breaks.short refl q.breaks.breaks;
     }))
     (λ left p. record {
       front = head.0 ∷ head.1 ∷ (first.0 ++ p.front);

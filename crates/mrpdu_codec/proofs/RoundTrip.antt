@@ -92,7 +92,12 @@ record BodyAgain (form : AppForm) (row : Option TypeForm) (m : Message) : Type 0
 
 body_again : (form : AppForm) (row : Option TypeForm) (m : Message) → vectors_fit row m.vectors ≡ true → BodyAgain form row m
 body_again form None m fits = absurd (false≢true fits)
-body_again form (Some t) m fits = record { len = eq-eqb t.length t.length refl; body = rules form; meaning = ap (λ (vs : List VectorAttr). let x : Message = record { kind = m.kind; vectors = vs } in x ∷ []) vectors.1 } where
+body_again form (Some t) m fits = record {
+  len = eq-eqb t.length t.length refl;
+  body = rules form;
+  meaning = ap
+      (λ (vs : List VectorAttr). let x : Message = record { kind = m.kind; vectors = vs } in x ∷ []) vectors.1;
+} where
   vectors : AreVectors (Some t) t.length (vectors_for m.vectors) × (map attr_of (vectors_for m.vectors) ≡ m.vectors)
   vectors = vectors_again t m.vectors fits
 

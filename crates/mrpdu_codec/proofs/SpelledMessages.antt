@@ -64,10 +64,12 @@ unfolding region_at
 region_breaks row len size front rest (region_vector h) = rw (of_breaks row len front rest h) refl
 region_breaks row len size front rest (region_mark vs all front-is more rest-is) =
     ap (λ (o : List ℕ). region_at row len size (o ++ rest)) front-is ∙ ap (λ (o : List ℕ). region_at row len size (vectors_octets vs ++ o)) rest-is
-    ∙ rw (of_reads row len vs (0 ∷ 0 ∷ more) all (ends_zero more), nonzero (suc (suc (length more))) (omega arith)) (ap (λ (n : ℕ). let e : Result (List VectorAttr) ℕ = Err n in e) (sym (ap length rest-is)))
+    ∙ rw (of_reads row len vs (0 ∷ 0 ∷ more) all (ends_zero more), nonzero (suc (suc (length more))) (omega arith))
+    (ap (λ (n : ℕ). let e : Result (List VectorAttr) ℕ = Err n in e) (sym (ap length rest-is)))
 region_breaks row len size front rest (region_short vs all front-is rest-is lt) =
     ap (λ (o : List ℕ). region_at row len size (front ++ o)) rest-is ∙ ap (λ (o : List ℕ). region_at row len size o) (append-nil front) ∙ ap (λ (o : List ℕ). region_at row len size o) front-is
-    ∙ rw (all_reads row len vs all, lt-ltb (length (vectors_octets vs)) size (omega (arith, ap length front-is))) (ap (λ (n : ℕ). let e : Result (List VectorAttr) ℕ = Err n in e) (sym (ap length rest-is)))
+    ∙ rw (all_reads row len vs all, lt-ltb (length (vectors_octets vs)) size (omega (arith, ap length front-is)))
+    (ap (λ (n : ℕ). let e : Result (List VectorAttr) ℕ = Err n in e) (sym (ap length rest-is)))
 
 known_reads : (t : TypeForm) (len size : ℕ) (vs : List Vector) (mark rest : List ℕ) → AreVectors (Some t) len vs → length (vectors_octets vs) ≡ size → IsEndMark mark → (mark ≡ [] → rest ≡ [])
     → known_at t len size (vectors_octets vs ++ (mark ++ rest)) ≡ Ok (map attr_of vs, rest)
@@ -134,7 +136,9 @@ counted_breaks : (row : Option TypeForm) (len : ℕ) (front rest : List ℕ) →
 unfolding counted_at
 counted_breaks row len front rest (counted_length front-is h) = ap (λ (o : List ℕ). counted_at row len (o ++ rest)) front-is ∙ rw (size_breaks rest h) refl
 counted_breaks row len front rest (counted_region t row-is high low size counts part within beyond is front-is rest-is h) =
-    let text : front ++ rest ≡ high ∷ low ∷ ((part ++ within) ++ beyond) = ap (λ (o : List ℕ). o ++ rest) front-is ∙ ap (λ (o : List ℕ). high ∷ low ∷ (part ++ o)) rest-is ∙ ap (λ (o : List ℕ). high ∷ low ∷ o) (sym (append_assoc part within beyond)) in
+    let text : front ++ rest ≡ high ∷ low ∷ ((part ++ within) ++ beyond)
+    = ap (λ (o : List ℕ). o ++ rest) front-is ∙ ap (λ (o : List ℕ). high ∷ low ∷ (part ++ o)) rest-is
+    ∙ ap (λ (o : List ℕ). high ∷ low ∷ o) (sym (append_assoc part within beyond)) in
     let left : length within + length beyond ≡ length rest = sym (ap length rest-is ∙ length-append within beyond) in
     ap (λ (o : List ℕ). counted_at row len o) text ∙ counted_reads row len high low size ((part ++ within) ++ beyond) counts
     ∙ ap (λ (r : Option TypeForm). sized_at r len size ((part ++ within) ++ beyond)) row-is
@@ -150,7 +154,8 @@ counted_breaks row len front rest (counted_skipped row-is high low size counts f
 
 -- ---- the body of a Message
 
-body_reads : (form : AppForm) (row : Option TypeForm) (len : ℕ) (list_length : List ℕ) (region : AttributeList) (mark rest : List ℕ) → IsBody form row len list_length region mark → (mark ≡ [] → rest ≡ [])
+body_reads : (form : AppForm) (row : Option TypeForm) (len : ℕ) (list_length : List ℕ) (region : AttributeList) (mark rest : List ℕ)
+    → IsBody form row len list_length region mark → (mark ≡ [] → rest ≡ [])
     → body_at form row len (list_length ++ (list_octets region ++ (mark ++ rest))) ≡ Ok (list_attrs region, rest)
 body_reads Mvrp row len list_length (Vectors vs) mark rest is last =
     ap (λ (o : List ℕ). list_at row len (o ++ (vectors_octets vs ++ (mark ++ rest)))) is.0 ∙ list_reads row len vs mark rest is.1 is.2 last
@@ -181,10 +186,13 @@ body_breaks Mmrp row len front rest h = list_breaks row len front rest h
 message_tail : MessageTree → List ℕ → List ℕ
 message_tail b rest = (b.list_length ++ (list_octets b.list ++ b.end_mark)) ++ rest
 
-message_reads : (form : AppForm) (b : MessageTree) (rest : List ℕ) → IsMessage form b → (b.end_mark ≡ [] → rest ≡ []) → message_at form b.kind (b.len ∷ message_tail b rest) ≡ Ok (messages_meant form b, rest)
+message_reads : (form : AppForm) (b : MessageTree) (rest : List ℕ) → IsMessage form b → (b.end_mark ≡ [] → rest ≡ [])
+    → message_at form b.kind (b.len ∷ message_tail b rest) ≡ Ok (messages_meant form b, rest)
 unfolding message_at length_at message_tail
 message_reads form b rest is last =
-    let text : message_tail b rest ≡ b.list_length ++ (list_octets b.list ++ (b.end_mark ++ rest)) = append_assoc b.list_length (list_octets b.list ++ b.end_mark) rest ∙ ap (λ (o : List ℕ). b.list_length ++ o) (append_assoc (list_octets b.list) b.end_mark rest) in
+    let text : message_tail b rest ≡ b.list_length ++ (list_octets b.list ++ (b.end_mark ++ rest))
+    = append_assoc b.list_length (list_octets b.list ++ b.end_mark) rest
+    ∙ ap (λ (o : List ℕ). b.list_length ++ o) (append_assoc (list_octets b.list) b.end_mark rest) in
     ap (λ (o : List ℕ). message_at form b.kind (b.len ∷ o)) text
     ∙ rw (is.len, body_reads form (row_of form b.kind) b.len b.list_length b.list b.end_mark rest is.body last) refl
 
@@ -279,9 +287,11 @@ pdu_from : (form : AppForm) (version kind : ℕ) (octets tail : List ℕ) → oc
     → pdu_at form (version ∷ octets) ≡ (messages_of form octets >>= λ ms. let pdu : Pdu = record { version = version; messages = ms } in Ok pdu)
 unfolding pdu_at version_at first_type_at
 pdu_from form version kind octets tail e some =
-    ap (λ (o : List ℕ). pdu_at form (version ∷ o)) e ∙ rw (nonzero kind some) (ap (λ (o : List ℕ). messages_of form o >>= λ ms. let pdu : Pdu = record { version = version; messages = ms } in Ok pdu) (sym e))
+    ap (λ (o : List ℕ). pdu_at form (version ∷ o)) e
+    ∙ rw (nonzero kind some) (ap (λ (o : List ℕ). messages_of form o >>= λ ms. let pdu : Pdu = record { version = version; messages = ms } in Ok pdu) (sym e))
 
-all_read : (form : AppForm) (bs : List MessageTree) (after : Option (List ℕ)) → AreMessages form bs after → messages_of form (messages_octets bs ++ after_octets after) ≡ Ok (flat_map (messages_meant form) bs)
+all_read : (form : AppForm) (bs : List MessageTree) (after : Option (List ℕ)) → AreMessages form bs after
+    → messages_of form (messages_octets bs ++ after_octets after) ≡ Ok (flat_map (messages_meant form) bs)
 unfolding messages_of
 all_read form bs after all = messages_read (length (messages_octets bs ++ after_octets after)) form bs after all (omega arith)
 
@@ -297,7 +307,8 @@ first_fails form version (kind ∷ rest) h = rw h refl
 
 tree_reads : (form : AppForm) (tree : MrpduTree) → IsPduTree form tree → pdu_at form (tree_octets tree) ≡ Ok (pdu_of form tree)
 tree_reads form tree is = go tree.messages is.some is.messages where
-  go : (bs : List MessageTree) → 0 < length bs → AreMessages form bs tree.after → pdu_at form (tree.version ∷ (messages_octets bs ++ after_octets tree.after)) ≡ Ok (pdu_of form (record { version = tree.version; messages = bs; after = tree.after }))
+  go : (bs : List MessageTree) → 0 < length bs → AreMessages form bs tree.after
+      → pdu_at form (tree.version ∷ (messages_octets bs ++ after_octets tree.after)) ≡ Ok (pdu_of form (record { version = tree.version; messages = bs; after = tree.after }))
   go [] some all = absurd (omega arith)
   go (b ∷ bs) some all =
       pdu_from form tree.version b.kind (messages_octets (b ∷ bs) ++ after_octets tree.after) _ refl all.0.kind

@@ -45,7 +45,8 @@ head_breaks row (high ∷ low ∷ rest) h = rw h refl
 pub vector_reads : (row : Option TypeForm) (len : ℕ) (v : Vector) (rest : List ℕ) → IsVector row len v → vector_at row len (vector_octets v ++ rest) ≡ Ok (v, rest)
 unfolding vector_at
 vector_reads row len v rest is =
-    let regrouped : (v.first ++ (v.three_packed ++ v.four_packed)) ++ rest ≡ v.first ++ (v.three_packed ++ (v.four_packed ++ rest)) = append_assoc v.first (v.three_packed ++ v.four_packed) rest ∙ ap (λ (o : List ℕ). v.first ++ o) (append_assoc v.three_packed v.four_packed rest) in
+    let regrouped : (v.first ++ (v.three_packed ++ v.four_packed)) ++ rest ≡ v.first ++ (v.three_packed ++ (v.four_packed ++ rest))
+    = append_assoc v.first (v.three_packed ++ v.four_packed) rest ∙ ap (λ (o : List ℕ). v.first ++ o) (append_assoc v.three_packed v.four_packed rest) in
     ap (λ (o : List ℕ). vector_at row len (v.high ∷ v.low ∷ o)) regrouped
     ∙ rw (
       head_reads row v.high v.low (v.first ++ (v.three_packed ++ (v.four_packed ++ rest))) is.leave_all,
@@ -70,7 +71,8 @@ vector_breaks row len front rest (packed_breaks v fits some first all short fron
     ) refl
 vector_breaks row len front rest (four_packed v fits some first all full all4 short front-is h) =
     ap (λ (o : List ℕ). vector_at row len (o ++ rest)) front-is
-    ∙ ap (λ (o : List ℕ). vector_at row len (v.high ∷ v.low ∷ o)) (append_assoc v.first (v.three_packed ++ v.four_packed) rest ∙ ap (λ (o : List ℕ). v.first ++ o) (append_assoc v.three_packed v.four_packed rest))
+    ∙ ap (λ (o : List ℕ). vector_at row len (v.high ∷ v.low ∷ o))
+    (append_assoc v.first (v.three_packed ++ v.four_packed) rest ∙ ap (λ (o : List ℕ). v.first ++ o) (append_assoc v.three_packed v.four_packed rest))
     ∙ rw (
       head_reads row v.high v.low (v.first ++ (v.three_packed ++ (v.four_packed ++ rest))) fits,
       first_reads len v.first (v.three_packed ++ (v.four_packed ++ rest)) first,
@@ -95,8 +97,10 @@ header_on row (a ∷ c ∷ octets) b =
 pub breaks_on : (row : Option TypeForm) (len : ℕ) (front rest : List ℕ) → VectorBreaks row len front rest → ends_list (front ++ rest) ≡ false
 breaks_on row len front rest (header_breaks front-is h) = ap (λ (o : List ℕ). ends_list (o ++ rest)) front-is ∙ header_on row rest h
 breaks_on row len front rest (first_value v fits some front-is h) = ap (λ (o : List ℕ). ends_list (o ++ rest)) front-is ∙ going_on v.high v.low rest some
-breaks_on row len front rest (packed_breaks v fits some first all short front-is h) = ap (λ (o : List ℕ). ends_list (o ++ rest)) front-is ∙ going_on v.high v.low ((v.first ++ v.three_packed) ++ rest) some
-breaks_on row len front rest (four_packed v fits some first all full all4 short front-is h) = ap (λ (o : List ℕ). ends_list (o ++ rest)) front-is ∙ going_on v.high v.low ((v.first ++ (v.three_packed ++ v.four_packed)) ++ rest) some
+breaks_on row len front rest (packed_breaks v fits some first all short front-is h) = ap (λ (o : List ℕ). ends_list (o ++ rest)) front-is
+    ∙ going_on v.high v.low ((v.first ++ v.three_packed) ++ rest) some
+breaks_on row len front rest (four_packed v fits some first all full all4 short front-is h) = ap (λ (o : List ℕ). ends_list (o ++ rest)) front-is
+    ∙ going_on v.high v.low ((v.first ++ (v.three_packed ++ v.four_packed)) ++ rest) some
 
 -- one vector, and what is read after it
 one_more : (fuel : ℕ) (row : Option TypeForm) (len : ℕ) (v : Vector) (rest : List ℕ) → IsVector row len v
@@ -123,7 +127,8 @@ unfolding ends_list
 no_end [] e b = false≢true (sym b)
 no_end (o ∷ octets) e b = absurd (omega arith)
 
-list_breaks_at : (fuel : ℕ) (row : Option TypeForm) (len : ℕ) (vs : List Vector) (part rest : List ℕ) → AreVectors row len vs → VectorBreaks row len part rest → length (vectors_octets vs ++ (part ++ rest)) ≤ fuel
+list_breaks_at : (fuel : ℕ) (row : Option TypeForm) (len : ℕ) (vs : List Vector) (part rest : List ℕ) → AreVectors row len vs → VectorBreaks row len part rest
+    → length (vectors_octets vs ++ (part ++ rest)) ≤ fuel
     → vectors_at fuel row len (vectors_octets vs ++ (part ++ rest)) ≡ Err (length rest)
 unfolding vectors_at
 list_breaks_at zero row len [] part rest all h enough = absurd (no_end (part ++ rest) (omega arith) (breaks_on row len part rest h))

@@ -25,7 +25,8 @@ fuel_free (suc f) zero row len (o ∷ octets) p q = absurd (omega arith)
 fuel_free (suc f) (suc g) row len octets p q =
     same_choice (ends_list octets) _ _ _ (λ going. same_after (vector_at row len octets) _ _ (λ x e.
     let less = falls row len octets x going e in
-    ap (λ (r : Result (List VectorAttr × List ℕ) ℕ). r >>= λ vs. let y : Result (List VectorAttr × List ℕ) ℕ = Ok (attr_of x.0 ∷ vs.0, vs.1) in y) (fuel_free f g row len x.1 (omega arith) (omega arith))))
+    ap (λ (r : Result (List VectorAttr × List ℕ) ℕ). r >>= λ vs. let y : Result (List VectorAttr × List ℕ) ℕ = Ok (attr_of x.0 ∷ vs.0, vs.1) in y)
+    (fuel_free f g row len x.1 (omega arith) (omega arith))))
 
 -- one vector, and what is read after it
 pub vectors_step : (row : Option TypeForm) (len : ℕ) (octets : List ℕ) (v : Vector) (after : List ℕ) → ends_list octets ≡ false → vector_at row len octets ≡ Ok (v, after)
@@ -37,7 +38,9 @@ vectors_step row len octets v after going e = step (length octets) (omega arith)
 
   step : (n : ℕ) → n ≡ length octets → vectors_at n row len octets ≡ (vectors_at (length after) row len after >>= λ vs. Ok (attr_of v ∷ vs.0, vs.1))
   step zero k = absurd (omega (arith, less))
-  step (suc n) k = rw (going, e) (ap (λ (r : Result (List VectorAttr × List ℕ) ℕ). r >>= λ vs. let y : Result (List VectorAttr × List ℕ) ℕ = Ok (attr_of v ∷ vs.0, vs.1) in y) (fuel_free n (length after) row len after (omega (arith, less)) (omega arith)))
+  step (suc n) k = rw (going, e)
+      (ap (λ (r : Result (List VectorAttr × List ℕ) ℕ). r >>= λ vs. let y : Result (List VectorAttr × List ℕ) ℕ = Ok (attr_of v ∷ vs.0, vs.1) in y)
+      (fuel_free n (length after) row len after (omega (arith, less)) (omega arith)))
 
 vectors_fail : (row : Option TypeForm) (len : ℕ) (octets : List ℕ) (left : ℕ) → ends_list octets ≡ false → vector_at row len octets ≡ Err left → vectors_of row len octets ≡ Err left
 unfolding vectors_of vectors_at ends_list
@@ -74,7 +77,8 @@ module _ (row : Option TypeForm) (len : ℕ) (total : Result (List VectorAttr ×
   after_all : (read : Result (List VectorAttr × List ℕ) ℕ) → vectors_of row len octets ≡ read → total ≡ with_front front (list_kept row read)
   after_all read e = sym so_far ∙ ap (λ (r : Result (List VectorAttr × List ℕ) ℕ). with_front front (list_kept row r)) e
 
-  pub list_goes_on : (v : Vector) (after : List ℕ) → ends_list octets ≡ false → vector_at row len octets ≡ Ok (v, after) → with_front (front ++ kept_attr row (attr_of v)) (list_kept row (vectors_of row len after)) ≡ total
+  pub list_goes_on : (v : Vector) (after : List ℕ) → ends_list octets ≡ false → vector_at row len octets ≡ Ok (v, after)
+      → with_front (front ++ kept_attr row (attr_of v)) (list_kept row (vectors_of row len after)) ≡ total
   list_goes_on v after going e = sym (after_all _ (vectors_step row len octets v after going e) ∙ with_more row front (attr_of v) (vectors_of row len after))
 
   pub list_fails : (e : ReadErr) → ends_list octets ≡ false → Fails e (vector_at row len octets) → Fails e total

@@ -1,5 +1,5 @@
--- The one spelling in which a PDU is written (IEEE Std 802.1Q-2018, 10.8.1.2): every EndMark stands, and
--- places past the last value are 0.
+-- The one spelling in which a PDU is written (IEEE Std 802.1Q-2018, 10.8.1.2): every EndMark
+-- stands, and places past the last value are 0.
 use Rattle.std.specs.Prelude.{◌≡◌, ℕ, ◌+◌, ◌*◌, ◌/◌, ◌%◌, ◌≤◌, Bool, true, ◌&&◌, List, [], ◌∷◌, length, map, Option, Some, None, nat_le, nat_lt, ◌==◌, if◌then◌else◌}
 use Rattle.std.specs.List.{list_all, sum_by}
 use Rattle.srp_base.specs.declared.{mrp.MrpEvent.MrpEvent, mrp.MrpEvent.TheVariants.New}

@@ -1,5 +1,5 @@
--- The grammar of MRPDUs (IEEE Std 802.1Q-2018, 10.8): which octets spell which PDU, and where octets
--- that spell none break. Both join whole lists of octets.
+-- The grammar of MRPDUs (IEEE Std 802.1Q-2018, 10.8): which octets spell which PDU, and where
+-- octets that spell none break. Both join whole lists of octets.
 use Rattle.std.specs.Prelude.{◌≡◌, ℕ, ◌+◌, ◌<◌, true, false, List, [], ◌∷◌, ◌++◌, length, Option, Some, None, ◌⊎◌}
 use Rattle.std.specs.List.{AllByRecursion}
 use Rattle.mrpdu_codec.specs.declared.{form.AppForm.AppForm, form.TypeForm.TypeForm, pdu.Pdu.Pdu}
@@ -79,9 +79,9 @@ pub data ListBreaks (row : Option TypeForm) (len : ℕ) (front rest : List ℕ) 
   vector : (vs : List Vector) (part : List ℕ) → AreVectors row len vs → front ≡ vectors_octets vs ++ part
       → VectorBreaks row len part rest → ListBreaks row len front rest
 
--- In MSRP a region of size octets holds whole vectors alone, and a field that passes its end breaks.
--- Where fewer octets are there, the region ends with them, and a header is missing at its end. So
--- front and rest are the region's octets alone.
+-- In MSRP a region of size octets holds whole vectors alone, and a field that passes its end
+-- breaks. Where fewer octets are there, the region ends with them, and a header is missing at its
+-- end. So front and rest are the region's octets alone.
 pub data RegionBreaks (row : Option TypeForm) (len size : ℕ) (front rest : List ℕ) : Type 0 where
   -- a vector in it
   vector : ListBreaks row len front rest → RegionBreaks row len size front rest
@@ -97,7 +97,8 @@ pub data RegionBreaks (row : Option TypeForm) (len size : ℕ) (front rest : Lis
 abbrev pub IsRegion : ℕ → List ℕ → List ℕ → Type 0
 IsRegion size region beyond = (length region ≡ size) ⊎ ((length region < size) × (beyond ≡ []))
 
--- What stands after AttributeLength in MSRP: AttributeListLength, and what it counts with an EndMark.
+-- What stands after AttributeLength in MSRP: AttributeListLength, and what it counts with an
+-- EndMark.
 pub data CountedBreaks (row : Option TypeForm) (len : ℕ) (front rest : List ℕ) : Type 0 where
   -- AttributeListLength
   list_length : front ≡ [] → ListLengthBreaks rest → CountedBreaks row len front rest
@@ -109,8 +110,8 @@ pub data CountedBreaks (row : Option TypeForm) (len : ℕ) (front rest : List �
   end_mark : (t : TypeForm) → row ≡ Some t → (high low : ℕ) (vs : List Vector) → AreVectors row len vs
       → number high low ≡ length (vectors_octets vs) + 2 → front ≡ high ∷ low ∷ vectors_octets vs
       → EndMarkBreaks rest → CountedBreaks row len front rest
-  -- The octets of an unknown type are more or fewer than a whole region alone, and fewer than one with
-  -- an EndMark.
+  -- The octets of an unknown type are more or fewer than a whole region alone, and fewer than one
+  -- with an EndMark.
   skipped : row ≡ None → (high low size : ℕ) → number high low ≡ size + 2 → front ≡ high ∷ low ∷ []
       → (length rest < size) ⊎ (length rest ≡ size + 1) → CountedBreaks row len front rest
 
@@ -145,8 +146,8 @@ pub data PduBreaks (form : AppForm) (front rest : List ℕ) : Type 0 where
   message : (version : ℕ) (bs : List MessageTree) (part : List ℕ) → AreClosed form bs → front ≡ version ∷ (messages_octets bs ++ part)
       → MessageBreaks form part rest → PduBreaks form front rest
 
--- The octets have whole fields that meet their rules before this place, and the field there breaks its
--- rule or isn't whole.
+-- The octets have whole fields that meet their rules before this place, and the field there breaks
+-- its rule or isn't whole.
 pub record Breaks (form : AppForm) (octets : List ℕ) (place : ℕ) : Type 0 where
   pub front : List ℕ
   pub rest : List ℕ

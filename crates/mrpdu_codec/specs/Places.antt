@@ -1,6 +1,6 @@
--- Where the FirstValues of a PDU stand in its octets (IEEE Std 802.1Q-2018, 10.8.1.2): an offset, in octets
--- from 0, for each vector of each Message of a known type, in order. Once by the syntax tree, and once by
--- the octets alone; that both are the same is the law `first_values_have_places`.
+-- Where the FirstValues of a PDU stand in its octets (IEEE Std 802.1Q-2018, 10.8.1.2): an offset,
+-- in octets from 0, for each vector of each Message of a known type, in order. Once by the syntax
+-- tree, and once by the octets alone; that both are the same is the law `first_values_have_places`.
 use Rattle.std.specs.Prelude.{◌≡◌, ℕ, zero, suc, ◌+◌, ◌-◌, ◌%◌, List, [], ◌∷◌, ◌++◌, length, take, drop, slice_get, Option, Some, None, ◌==◌, if◌then◌else◌}
 use Rattle.std.specs.Option.{option_and_then}
 use Rattle.mrpdu_codec.specs.declared.{form.AppForm.AppForm, form.TypeForm.TypeForm, pdu.VectorAttr.VectorAttr, pdu.Message.Message}
@@ -24,8 +24,8 @@ abbrev pub known_places : Option TypeForm → List ℕ → List (List ℕ)
 known_places None places = []
 known_places (Some t) places = places ∷ []
 
--- a Message that begins at an offset: its list stands behind AttributeType, AttributeLength and, in MSRP,
--- AttributeListLength
+-- a Message that begins at an offset: its list stands behind AttributeType, AttributeLength and, in
+-- MSRP, AttributeListLength
 abbrev pub message_places : AppForm → ℕ → MessageTree → List (List ℕ)
 message_places form at b =
     known_places (row_of form b.kind) (list_places (at + 2 + length b.list_length) b.list)
@@ -53,7 +53,8 @@ header_in [] = None
 header_in (o ∷ []) = None
 header_in (high ∷ low ∷ octets) = if number high low == 0 then None else Some (number high low, octets)
 
--- the FirstValues of vectors, in octets that end at an offset, where so many octets are to be passed first
+-- the FirstValues of vectors, in octets that end at an offset, where so many octets are to be
+-- passed first
 unfoldable pub places_in : Option TypeForm → ℕ → ℕ → ℕ → List ℕ → List ℕ
 places_in row len end n [] = []
 places_in row len end (suc n) (o ∷ octets) = places_in row len end n octets
@@ -79,8 +80,8 @@ body_places Msrp row end (len ∷ high ∷ low ∷ octets) =
 body_places Mmrp row end (len ∷ octets) = places_in row len end 0 octets
 body_places _ row end _ = []
 
--- the octets behind the EndMark of a Message, of octets from AttributeLength on; AttributeListLength counts
--- the EndMark
+-- the octets behind the EndMark of a Message, of octets from AttributeLength on;
+-- AttributeListLength counts the EndMark
 abbrev pub behind_body : AppForm → Option TypeForm → List ℕ → List ℕ
 behind_body Mvrp row (len ∷ octets) = drop 2 (behind_vectors row len 0 octets)
 behind_body Msrp row (len ∷ high ∷ low ∷ octets) = drop (number high low) octets

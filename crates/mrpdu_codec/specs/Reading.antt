@@ -1,5 +1,6 @@
--- Reading from left to right: each reader answers a value and the octets after it, or how many octets are
--- left from the first field on that breaks. That this is the grammar is proved of `decode`.
+-- Reading from left to right: each reader answers a value and the octets after it, or how many
+-- octets are left from the first field on that breaks. That this is the grammar is proved of
+-- `decode`.
 use Rattle.std.specs.Prelude.{ℕ, zero, suc, ◌+◌, ◌-◌, ◌%◌, Bool, true, false, List, [], ◌∷◌, ◌++◌, length, take, drop, Option, Some, None, Result, Ok, Err, nat_lt, nat_le, ◌==◌, if◌then◌else◌}
 use Rattle.srp_base.specs.Results.{◌>>=◌, Gives}
 use Rattle.mrpdu_codec.specs.declared.{error.DecodeErr.DecodeErr, form.AppForm.AppForm, form.TypeForm.TypeForm, pdu.VectorAttr.VectorAttr, pdu.Message.Message, pdu.Pdu.Pdu}

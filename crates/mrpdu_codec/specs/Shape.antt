@@ -1,4 +1,5 @@
--- What a PDU that was read looks like, and whether it has LeaveAll (IEEE Std 802.1Q-2018, 10.8.1, 10.8.2).
+-- What a PDU that was read looks like, and whether it has LeaveAll (IEEE Std 802.1Q-2018, 10.8.1,
+-- 10.8.2).
 use Rattle.std.specs.Prelude.{Bool, false, ◌&&◌, ◌||◌, List, length, Option, Some, None, nat_le, nat_lt, ◌==◌, if◌then◌else◌}
 use Rattle.std.specs.List.{list_all, list_any, AllByRecursion}
 use Rattle.mrpdu_codec.specs.declared.{form.AppForm.AppForm, form.TypeForm.TypeForm, pdu.VectorAttr.VectorAttr, pdu.Message.Message, pdu.Pdu.Pdu}

@@ -1,7 +1,7 @@
--- The syntax tree of an MRPDU (IEEE Std 802.1Q-2018, 10.8.1.2): what a PDU's octets are, field by field,
--- also what the PDU forgets: the octets of a vector's header, padding places, Messages of unknown types,
--- missing EndMarks, and what stands after the PDU's EndMark. Each node has its rules, its spelling and
--- its meaning.
+-- The syntax tree of an MRPDU (IEEE Std 802.1Q-2018, 10.8.1.2): what a PDU's octets are, field by
+-- field, also what the PDU forgets: the octets of a vector's header, padding places, Messages of
+-- unknown types, missing EndMarks, and what stands after the PDU's EndMark. Each node has its
+-- rules, its spelling and its meaning.
 use Rattle.std.specs.Prelude.{◌≡◌, ℕ, ◌+◌, ◌/◌, ◌%◌, ◌<◌, ◌≤◌, Bool, true, List, [], ◌∷◌, ◌++◌, length, take, map, Option, Some, None, nat_le, nat_lt, ◌==◌, if◌then◌else◌, ◌⊎◌}
 use Rattle.std.specs.List.{flat_map, AllByRecursion}
 use Rattle.mrpdu_codec.specs.declared.{form.AppForm.AppForm, form.TypeForm.TypeForm, pdu.VectorAttr.VectorAttr, pdu.Message.Message, pdu.Pdu.Pdu}
@@ -26,8 +26,8 @@ header v = number v.high v.low
 abbrev pub count : Vector → ℕ
 count v = header v % 8192
 
--- The rules of a type's fields. A type that its application doesn't know (no row) is skipped with any
--- LeaveAllEvent and any packed octets.
+-- The rules of a type's fields. A type that its application doesn't know (no row) is skipped with
+-- any LeaveAllEvent and any packed octets.
 abbrev pub leave_all_limit : Option TypeForm → ℕ
 leave_all_limit None = 7
 leave_all_limit (Some t) = 1
@@ -50,8 +50,8 @@ header_fits row high low = nat_le (number high low / 8192) (leave_all_limit row)
 abbrev pub AllUpTo : ℕ → List ℕ → Type 0
 AllUpTo limit octets = AllByRecursion (λ o. o ≤ limit) octets
 
--- A vector whose fields are whole and meet their rules, where FirstValue has len octets. A header of 0
--- is an EndMark, and no vector's.
+-- A vector whose fields are whole and meet their rules, where FirstValue has len octets. A header
+-- of 0 is an EndMark, and no vector's.
 pub record IsVector (row : Option TypeForm) (len : ℕ) (v : Vector) : Type 0 where
   pub no_mark : 0 < header v
   pub leave_all : header_fits row v.high v.low ≡ true
@@ -85,8 +85,8 @@ pub data AttributeList : Type 0 where
   Vectors : List Vector → AttributeList
   Skipped : List ℕ → AttributeList
 
--- A Message: AttributeType, AttributeLength, in MSRP the two octets of AttributeListLength, its list,
--- and its EndMark, which is missing where the octets end instead.
+-- A Message: AttributeType, AttributeLength, in MSRP the two octets of AttributeListLength, its
+-- list, and its EndMark, which is missing where the octets end instead.
 pub record MessageTree : Type 0 where
   pub kind : ℕ
   pub len : ℕ

@@ -57,14 +57,15 @@ fn pdu(alloc: Global, form: AppForm, octets: &[u8]) -> Result<RawPdu<'_>, ReadEr
     Ok(RawPdu { version, messages })
 }
 
-/// The PDU that the octets spell, in place: of each vector the fields are borrowed from the octets, so
-/// that a crate which knows the values of its application reads them without a copy. It is what `decode`
-/// answers in memory of its own. There are fewer than 2^32 octets.
+/// The PDU that the octets spell, in place: of each vector the fields are borrowed from the octets,
+/// so that a crate which knows the values of its application reads them without a copy. It is what
+/// `decode` answers in memory of its own. There are fewer than 2^32 octets.
 ///
 /// # Errors
 ///
-/// `Malformed` carries the offset, in octets from 0, of the first field that breaks its rule or that the
-/// octets are too short for. `NoMemory` comes where memory for the lists of Messages and vectors runs out.
+/// `Malformed` carries the offset, in octets from 0, of the first field that breaks its rule or
+/// that the octets are too short for. `NoMemory` comes where memory for the lists of Messages and
+/// vectors runs out.
 pub fn decode_in_place(alloc: Global, form: AppForm, octets: &[u8]) -> Result<RawPdu<'_>, DecodeErr>
     requires { length octets.now < 2 ^ 32 }
 
@@ -85,14 +86,14 @@ pub fn decode_in_place(alloc: Global, form: AppForm, octets: &[u8]) -> Result<Ra
     }
 }
 
-/// The PDU that the octets spell (IEEE Std 802.1Q-2018, 10.8). Any version is read, octets behind the
-/// PDU's EndMark aren't read, EndMarks at the end of the octets may be missing, and Messages of types
-/// that the application doesn't know are passed over. There are fewer than 2^32 octets.
+/// The PDU that the octets spell (IEEE Std 802.1Q-2018, 10.8). Any version is read, octets behind
+/// the PDU's EndMark aren't read, EndMarks at the end of the octets may be missing, and Messages of
+/// types that the application doesn't know are passed over. There are fewer than 2^32 octets.
 ///
 /// # Errors
 ///
-/// `Malformed` carries the offset, in octets from 0, of the first field that breaks its rule or that the
-/// octets are too short for. `NoMemory` comes where memory for the PDU runs out.
+/// `Malformed` carries the offset, in octets from 0, of the first field that breaks its rule or
+/// that the octets are too short for. `NoMemory` comes where memory for the PDU runs out.
 pub fn decode(alloc: Global, form: AppForm, octets: &[u8]) -> Result<Pdu, DecodeErr>
     requires { length octets.now < 2 ^ 32 }
 
@@ -101,8 +102,9 @@ pub fn decode(alloc: Global, form: AppForm, octets: &[u8]) -> Result<Pdu, Decode
     ensures broken { (place : ℕ)
         → result ≡ Err (DecodeErr.Malformed place) → Breaks form octets.now place }
 
-    // Want of memory alone is free: else the answer is the reading, which the law `reading_is_the_grammar`
-    // says is each PDU that the octets spell and each place where they break.
+    // Want of memory alone is free: else the answer is the reading, which the law
+    // `reading_is_the_grammar` says is each PDU that the octets spell and each place where they
+    // break.
     ensures exact { Answers result (reading form octets.now) }
 
     // Each Message has a type that the application knows, and vectors of the type's form.

@@ -130,9 +130,9 @@ fn header_for(leave_all: bool, events: &[MrpEvent]) -> u16
     if leave_all { 8192 + n } else { n }
 }
 
-/// Writes a vector at the end of `out`, from parts that needn't lie in one: a crate that knows its values
-/// writes them so into one buffer, in place of making a PDU first. There are at most 8,191 events, and the
-/// parameters are at most 3.
+/// Writes a vector at the end of `out`, from parts that needn't lie in one: a crate that knows its
+/// values writes them so into one buffer, in place of making a PDU first. There are at most 8,191
+/// events, and the parameters are at most 3.
 ///
 /// # Errors
 ///
@@ -232,9 +232,9 @@ fn written(alloc: Global, form: AppForm, pdu: &Pdu) -> Result<Vec<u8>, NoMemory>
     Ok(out)
 }
 
-/// Writes a PDU at the end of `out`, in its one canonical spelling: with every EndMark, and with 0 in the
-/// places past the last value of a vector (IEEE Std 802.1Q-2018, 10.8.1.2). The PDU is `well_formed`. The
-/// octets are `size_of` many.
+/// Writes a PDU at the end of `out`, in its one canonical spelling: with every EndMark, and with 0
+/// in the places past the last value of a vector (IEEE Std 802.1Q-2018, 10.8.1.2). The PDU is
+/// `well_formed`. The octets are `size_of` many.
 ///
 /// # Errors
 ///

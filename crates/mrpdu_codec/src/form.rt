@@ -2,8 +2,8 @@
 
 ghost use Rattle.std.specs.Prelude.{◌≡◌, false};
 
-/// The application whose MRPDUs are read or written: VLAN registration (IEEE Std 802.1Q-2018, clause
-/// 11), stream reservation (clause 35) or multiple MAC registration (10.12).
+/// The application whose MRPDUs are read or written: VLAN registration (IEEE Std 802.1Q-2018,
+/// clause 11), stream reservation (clause 35) or multiple MAC registration (10.12).
 #[derive(Clone, Copy, PartialEq, Eq)]
 pub enum AppForm {
     Mvrp,

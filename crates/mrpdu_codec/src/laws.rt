@@ -1,5 +1,5 @@
-//! Laws of the grammar, of the spelling that is written, and of numbers in octets. A crate above that needs
-//! one calls it, and its proof has the clauses.
+//! Laws of the grammar, of the spelling that is written, and of numbers in octets. A crate above
+//! that needs one calls it, and its proof has the clauses.
 
 ghost use Rattle.std.specs.Prelude.{◌≡◌, ◌⊎◌, ◌↔◌, ◌<◌, ◌^◌, ◌∷◌, [], ℕ, List, length, Ok, Err, IsTrue};
 ghost use Rattle.std.specs.Int.{bytes_high_first};
@@ -26,8 +26,8 @@ pub fn one_reading()
         → Spells form octets pdu → Breaks form octets place → ⊥ }
 {}
 
-/// The reading as a function is the grammar: octets read as exactly the PDU that they spell, or as exactly
-/// the place where they break.
+/// The reading as a function is the grammar: octets read as exactly the PDU that they spell, or as
+/// exactly the place where they break.
 pub fn reading_is_the_grammar()
     ensures spelled { (form : AppForm) (octets : List ℕ) (pdu : Pdu)
         → (reading form octets ≡ Ok pdu) ↔ Spells form octets pdu }
@@ -35,8 +35,8 @@ pub fn reading_is_the_grammar()
         → (reading form octets ≡ Err place) ↔ Breaks form octets place }
 {}
 
-/// What octets spell has octets in its FirstValues. A list of numbers is a text of octets where each is below
-/// 256, which the grammar itself doesn't ask of them.
+/// What octets spell has octets in its FirstValues. A list of numbers is a text of octets where
+/// each is below 256, which the grammar itself doesn't ask of them.
 pub fn first_values_are_octets()
     ensures { (form : AppForm) (octets : List ℕ) (pdu : Pdu)
         → AreOctets octets → Spells form octets pdu → HasOctets pdu }
@@ -50,7 +50,8 @@ pub fn written_is_read()
         → IsTrue (well_formed form pdu) → reading form (spelling form pdu) ≡ Ok pdu }
 {}
 
-/// The law of the lengths: how many octets `encode` writes, from the numbers of events and parameters.
+/// The law of the lengths: how many octets `encode` writes, from the numbers of events and
+/// parameters.
 pub fn written_size()
     ensures { (form : AppForm) (pdu : Pdu) → length (spelling form pdu) ≡ pdu_size form pdu }
 {}
@@ -60,8 +61,8 @@ pub fn written_list_size()
     ensures { (vs : List VectorAttr) → length (vectors_octets (vectors_for vs)) ≡ vectors_size vs }
 {}
 
-/// The law of the numbers: those that fit in n octets are read from what is written of them, and two
-/// octets are as any others.
+/// The law of the numbers: those that fit in n octets are read from what is written of them, and
+/// two octets are as any others.
 pub fn numbers_are_read_back()
     ensures read { (n number : ℕ)
         → number < 256 ^ n → number_high_first (bytes_high_first n number) ≡ number }

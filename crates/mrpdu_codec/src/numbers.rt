@@ -54,7 +54,8 @@ pub fn put_number(out: &mut Vec<u8>, number: u64, n: usize) -> Result<(), NoMemo
     Ok(())
 }
 
-/// The numbers of a slice of octets in memory are octets, each below 256: what `first_values_are_octets` asks.
+/// The numbers of a slice of octets in memory are octets, each below 256: what
+/// `first_values_are_octets` asks.
 pub fn are_octets(octets: &[u8])
     ensures { AreOctets octets.now }
 {

@@ -39,8 +39,8 @@ pub struct VectorAttr {
 impl Pdu {
     ghost use Rattle.mrpdu_codec.specs.Shape.{has_leave_all};
 
-    /// Whether a vector of any Message has a LeaveAllEvent, which then counts for all attributes of the
-    /// application, and acts before all attribute events (IEEE Std 802.1Q-2018, 10.8.2).
+    /// Whether a vector of any Message has a LeaveAllEvent, which then counts for all attributes of
+    /// the application, and acts before all attribute events (IEEE Std 802.1Q-2018, 10.8.2).
     pub fn has_leave_all(&self) -> bool
         ensures { result ≡ has_leave_all self.now }
     {

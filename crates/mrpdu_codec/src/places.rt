@@ -1,5 +1,5 @@
-//! Where the FirstValues of a PDU stand. A crate that reads them may find one at fault, and says by its
-//! place which. Nothing here takes memory, and nothing is walked that has no fault.
+//! Where the FirstValues of a PDU stand. A crate that reads them may find one at fault, and says by
+//! its place which. Nothing here takes memory, and nothing is walked that has no fault.
 
 ghost use Rattle.std.specs.Prelude.{◌≡◌, ◌≤◌, ◌<◌, ◌-◌, ◌^◌, ◌==◌, ◌&&◌, ℕ, List, [], length, drop, slice_get, is_some, IfSome};
 ghost use Rattle.std.specs.Option.{option_map};
@@ -228,10 +228,10 @@ fn place_from(
     }
 }
 
-/// The offset, in octets from 0, of the FirstValue of a vector in octets that `decode` reads: of the vector
-/// of this number in the Message of this number, both counted from 0 as they stand in the `Pdu`. None
-/// exactly where the PDU has no such Message, or no such vector in it. It takes no memory. Of octets that
-/// are no PDU it says nothing of use. There are fewer than 2^32 octets.
+/// The offset, in octets from 0, of the FirstValue of a vector in octets that `decode` reads: of
+/// the vector of this number in the Message of this number, both counted from 0 as they stand in
+/// the `Pdu`. None exactly where the PDU has no such Message, or no such vector in it. It takes no
+/// memory. Of octets that are no PDU it says nothing of use. There are fewer than 2^32 octets.
 #[tactic(auto, unfolding(crate::specs::Places::first_places))]
 pub fn first_value_at(form: AppForm, octets: &[u8], message: usize, vector: usize) -> Option<u32>
     requires { length octets.now < 2 ^ 32 }
@@ -248,8 +248,8 @@ pub fn first_value_at(form: AppForm, octets: &[u8], message: usize, vector: usiz
     }
 }
 
-/// The law of the places. They are those of the syntax tree; and there is one for each vector of the PDU,
-/// in order, at which its FirstValue stands.
+/// The law of the places. They are those of the syntax tree; and there is one for each vector of
+/// the PDU, in order, at which its FirstValue stands.
 pub fn first_values_have_places()
     ensures of_tree { (form : AppForm) (tree : MrpduTree) → IsPduTree form tree
         → first_places form (tree_octets tree) ≡ tree_places form tree }

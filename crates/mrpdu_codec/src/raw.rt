@@ -197,8 +197,8 @@ impl RawPdu<'_> {
     ghost use Rattle.mrpdu_codec.specs.Shape.{has_leave_all};
     ghost use Rattle.mrpdu_codec.specs.Raw.{pdu_in};
 
-    /// Whether a vector of any Message has a LeaveAllEvent, which then counts for all attributes of the
-    /// application, and acts before all attribute events (IEEE Std 802.1Q-2018, 10.8.2).
+    /// Whether a vector of any Message has a LeaveAllEvent, which then counts for all attributes of
+    /// the application, and acts before all attribute events (IEEE Std 802.1Q-2018, 10.8.2).
     #[tactic(auto, using(crate::proofs::RawLemmas::leaves_meant))]
     pub fn has_leave_all(&self) -> bool
         ensures { result ≡ has_leave_all (pdu_in self.now) }

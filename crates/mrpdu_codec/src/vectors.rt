@@ -28,8 +28,8 @@ fn push_known<'a>(
     Ok(())
 }
 
-/// Vectors up to an EndMark or the octets' end, and the octets from there on. Those of a type that its
-/// application doesn't know are passed over.
+/// Vectors up to an EndMark or the octets' end, and the octets from there on. Those of a type that
+/// its application doesn't know are passed over.
 pub(crate) fn vectors(
     alloc: Global,
     octets: &[u8],

@@ -135,8 +135,9 @@ fn messages_fit(form: AppForm, messages: &[Message]) -> bool
 }
 
 /// Whether `encode` can write a PDU: its version is 0, it has a Message, each type is known, each
-/// FirstValue has the type's length, each vector has a LeaveAll or an event and at most 8,191 events,
-/// the parameters fit the type, and a list of MSRP has at most 65,535 octets with its EndMark.
+/// FirstValue has the type's length, each vector has a LeaveAll or an event and at most 8,191
+/// events, the parameters fit the type, and a list of MSRP has at most 65,535 octets with its
+/// EndMark.
 pub fn well_formed(form: AppForm, pdu: &Pdu) -> bool
     ensures exact { result ≡ well_formed form pdu.now }
 {

@@ -316,7 +316,8 @@ pub keys_set : (sets : List (KeySet MsrpKey)) (at : ℕ) (v : KeySet MsrpKey) (k
 keys_set sets at v ks below is = one_some _ ks v.keys is (keys_is (slice_set sets at v) at v (get-set sets at v below))
 
 -- there is room for what is declared of the keys that are tried
-pub tried_fits : (at : ℕ) (talks : List Talker) (ports later : List PortHolding) (sets : List (KeySet MsrpKey)) (plan : Plan) (x y : PortHolding) (u : KeySet MsrpKey) → at < length ports → x ≡ slice_index_or ports at x
+pub tried_fits : (at : ℕ) (talks : List Talker) (ports later : List PortHolding) (sets : List (KeySet MsrpKey)) (plan : Plan) (x y : PortHolding) (u : KeySet MsrpKey)
+    → at < length ports → x ≡ slice_index_or ports at x
     → slice_get sets at ≡ Some u → IsPlan at talks (ports_in ports) (keys_at at (keys_in sets)) plan x.state → later ≡ slice_set ports at y → y.state.part ≡ x.state.part
     → (moved : List StreamId) (tried : List MsrpKey) → tried ≡ settling_keys moved (talker_keys talks (ports_in later)) u.keys → length tried + vec_len plan.stated ≤ vec_capacity plan.stated
 tried_fits at talks ports later sets plan x y u below here set h after same moved tried is =

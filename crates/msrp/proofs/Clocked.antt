@@ -43,7 +43,8 @@ same_fit f g (Some w) same = ap (λ x. Some x) (same w)
 stated_clocked : (at : ℕ) (p : PortState) (now : ℕ) (talkers : List TalkerReg) → ((want : Want) → fit_for now p.ledger want ≡ fit_for p.ledger.moment p.ledger want)
     → talker_at at (clocked_port now p) talkers ≡ talker_at at p talkers
 stated_clocked at p now talkers same =
-    ap (λ (o : Option Fit). if is_talker_port (suc at) talkers then Absent else talker_out (first_talker talkers) p.config (edge_at p talkers) (unwrap_or (if is_talker_port (suc at) talkers then None else o) Fits))
+    ap (λ (o : Option Fit). if is_talker_port (suc at) talkers then Absent else talker_out (first_talker talkers) p.config (edge_at p talkers)
+    (unwrap_or (if is_talker_port (suc at) talkers then None else o) Fits))
     (same_fit (fit_for now p.ledger) (fit_for p.ledger.moment p.ledger) (option_and_then want_of_talker (talker_in (first_talker talkers))) same)
 
 -- the port and the set at a place before
@@ -64,13 +65,15 @@ was_at now ks (p ∷ ports) (old ∷ sets) (suc j) port set a b =
     let rest = was_at now ks ports sets j port set a b in
     record { p = rest.p; old = rest.old; there = rest.there; awaited = rest.awaited; is = rest.is; awaits = rest.awaits }
 
-clocked_length : (now : ℕ) (ks : List MsrpKey) (ports : List PortState) (sets : List (List MsrpKey)) → length sets ≡ length ports → length (clocked_sets now ks ports sets) ≡ length (map (clocked_port now) ports)
+clocked_length : (now : ℕ) (ks : List MsrpKey) (ports : List PortState) (sets : List (List MsrpKey)) → length sets ≡ length ports
+    → length (clocked_sets now ks ports sets) ≡ length (map (clocked_port now) ports)
 clocked_length now ks [] sets e = refl
 clocked_length now ks (p ∷ ports) [] e = absurd (omega (arith, e))
 clocked_length now ks (p ∷ ports) (set ∷ sets) e = ap suc (clocked_length now ks ports sets (omega (arith, e)))
 
 -- where the clock shows nothing, the sets are as they were
-pub none_shown : (now : ℕ) (ks : List MsrpKey) (ports : List PortState) (sets : List (List MsrpKey)) → length sets ≡ length ports → list_any (shows_at now) ports ≡ false → clocked_sets now ks ports sets ≡ sets
+pub none_shown : (now : ℕ) (ks : List MsrpKey) (ports : List PortState) (sets : List (List MsrpKey)) → length sets ≡ length ports → list_any (shows_at now) ports ≡ false
+    → clocked_sets now ks ports sets ≡ sets
 none_shown now ks [] [] e h = refl
 none_shown now ks [] (set ∷ sets) e h = absurd (omega (arith, e))
 none_shown now ks (p ∷ ports) [] e h = absurd (omega (arith, e))
@@ -125,7 +128,8 @@ module _ (laws : Laws) (awaits : Awaits) (rows : HasRows) (side : Streams) (kept
             let was = was_at now talkers side.ports side.awaiting j port set part sets in
             let P : PortState → Type 0 = λ q. IsSettled j q set (seen_by (clocked_streams now side)) in
             subst P was.is
-            (settled_as j was.p was.old set (each-get (IsPort side.moment) side.ports j was.p kept.ports was.there) (kept.settled j was.p was.old was.there was.awaited) (shows_at now was.p) refl was.awaits);
+            (settled_as j was.p was.old set (each-get (IsPort side.moment) side.ports j was.p kept.ports was.there) (kept.settled j was.p was.old was.there was.awaited)
+            (shows_at now was.p) refl was.awaits);
       }
 
 -- each port's ledger is of a moment that isn't later

@@ -119,12 +119,14 @@ module _ (P : MsrpKey → MsrpContent → Type 0) where
   declared_row_own : (key : MsrpKey) (c : MsrpContent) (r : MsrpRow) → P key c → IsRowOf P key r → IsRowOf P key (declared_row same_content c r)
   declared_row_own key c r holds own = by (applicant.is_declared_in r.applicant) (same_content r.content c)
     where
-      by : (a b : Bool) → IsRowOf P key (if a then (if b then r else record r { applicant = applicant.redeclare_of r.applicant; content = c }) else record r { applicant = applicant.declare_of r.applicant; content = c })
+      by : (a b : Bool) → IsRowOf P key
+          (if a then (if b then r else record r { applicant = applicant.redeclare_of r.applicant; content = c }) else record r { applicant = applicant.declare_of r.applicant; content = c })
       by true true = own
       by true false = record { content = holds; heard = own.heard }
       by false b = record { content = holds; heard = own.heard }
 
-  pub declared_own : (key : MsrpKey) (c : MsrpContent) (o : Option MsrpRow) → P key c → ((r : MsrpRow) → o ≡ Some r → IsRowOf P key r) → (q : MsrpRow) → after_declare same_content key c o ≡ Some q → IsRowOf P key q
+  pub declared_own : (key : MsrpKey) (c : MsrpContent) (o : Option MsrpRow) → P key c → ((r : MsrpRow) → o ≡ Some r → IsRowOf P key r) → (q : MsrpRow)
+      → after_declare same_content key c o ≡ Some q → IsRowOf P key q
   declared_own key c None holds own q h =
       let is : declared_row same_content c (fresh_row key c) ≡ q = cc in
       subst (λ (x : MsrpRow). IsRowOf P key x) is (declared_row_own key c (fresh_row key c) holds (record { content = holds; heard = holds }))
@@ -172,7 +174,8 @@ module _ (P : MsrpKey → MsrpContent → Type 0) where
           subst (λ (k : MsrpKey). HoldsIn key (after_hear e.0 k e.2 leave o)) (sym is) (hear_own key e.0 e.2 leave o (subst (λ (k : MsrpKey). P k e.2) is holds) own)
       by false h = own
 
-  all_heard_own : (key : MsrpKey) (leave : Cs) (events : List MsrpHeard) (o : Option MsrpRow) → AllByRecursion (λ e. P e.1 e.2) events → HoldsIn key o → HoldsIn key (fold (row_hearing key_cmp leave key) o events)
+  all_heard_own : (key : MsrpKey) (leave : Cs) (events : List MsrpHeard) (o : Option MsrpRow) → AllByRecursion (λ e. P e.1 e.2) events → HoldsIn key o
+      → HoldsIn key (fold (row_hearing key_cmp leave key) o events)
   all_heard_own key leave [] o hold own = own
   all_heard_own key leave (e ∷ events) o hold own = all_heard_own key leave events (row_hearing key_cmp leave key o e) hold.1 (hearing_own key leave o e hold.0 own)
 
@@ -180,7 +183,8 @@ module _ (P : MsrpKey → MsrpContent → Type 0) where
   left_all_own key leave None own = tt
   left_all_own key leave (Some r) own = record { content = own.content; heard = own.heard }
 
-  received_own : (key : MsrpKey) (leave : Cs) (leave_all : Bool) (events : List MsrpHeard) (o : Option MsrpRow) → AllByRecursion (λ e. P e.1 e.2) events → HoldsIn key o → HoldsIn key (row_after_receive key_cmp leave leave_all events key o)
+  received_own : (key : MsrpKey) (leave : Cs) (leave_all : Bool) (events : List MsrpHeard) (o : Option MsrpRow) → AllByRecursion (λ e. P e.1 e.2) events → HoldsIn key o
+      → HoldsIn key (row_after_receive key_cmp leave leave_all events key o)
   received_own key leave true events o hold own = all_heard_own key leave events (option_map (leave_all_row leave) o) hold (left_all_own key leave o own)
   received_own key leave false events o hold own = all_heard_own key leave events o hold own
 

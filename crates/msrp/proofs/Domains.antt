@@ -17,7 +17,8 @@ use Rattle.msrp.proofs.{KeyLemmas.key_is, KeyLemmas.key_self, Contents.HoldsOfEa
 -- ---- boundaries
 
 -- where the Domains are registered alike, a port is at the same boundaries
-pub edge_same : (domain : DomainSet) (s t : Part) (reg : TalkerReg) → ((class : Class) → registered_at key_cmp (domain_key class) t ≡ registered_at key_cmp (domain_key class) s) → is_edge domain t reg ≡ is_edge domain s reg
+pub edge_same : (domain : DomainSet) (s t : Part) (reg : TalkerReg)
+    → ((class : Class) → registered_at key_cmp (domain_key class) t ≡ registered_at key_cmp (domain_key class) s) → is_edge domain t reg ≡ is_edge domain s reg
 edge_same domain s t reg same = ap (λ b. are_counted domain && b) (by (class_in reg))
   where
     by : (o : Option Class) → is_boundary_of domain t o ≡ is_boundary_of domain s o

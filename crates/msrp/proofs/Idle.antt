@@ -15,7 +15,8 @@ use Rattle.msrp.proofs.{Keeping.port_kept, Settled.next_is, Telling.Awaits, Tell
 
 -- ---- no timer is due
 
-pub none-due : Awaits → (side : Streams) (at : ℕ) (p : PortState) → slice_get side.ports at ≡ Some p → (now : Cs) → due_state now p.part ≡ p.part → left_keys now p.part ≡ [] → due_streams now at side ≡ side
+pub none-due : Awaits → (side : Streams) (at : ℕ) (p : PortState) → slice_get side.ports at ≡ Some p → (now : Cs) → due_state now p.part ≡ p.part
+    → left_keys now p.part ≡ [] → due_streams now at side ≡ side
 none-due awaits side at p here now stays none =
     rw here (ap (λ (t : Part). with_told_port at (with_part t p) (left_keys now p.part) side) stays
     ∙ (ap (λ (told : List MsrpKey). with_told_port at p told side) none

@@ -69,7 +69,8 @@ known_or_not at domain told some known sets same = by (is_domain_told domain tol
     by false e = rw e refl
 
 -- its participant changes, and tells keys
-pub told_is : (ports : List PortHolding) (old new : List (KeySet MsrpKey)) (talks : List Talker) (listens : List StreamId) (moment at : ℕ) (x y : PortHolding) (f : Part → Part) (told : List MsrpKey) (g : Part → List MsrpKey)
+pub told_is : (ports : List PortHolding) (old new : List (KeySet MsrpKey)) (talks : List Talker) (listens : List StreamId) (moment at : ℕ) (x y : PortHolding) (f : Part
+    → Part) (told : List MsrpKey) (g : Part → List MsrpKey)
     (some : List MsrpKey) → at < length ports → x ≡ slice_index_or ports at x → y.state ≡ with_part (f x.state.part) x.state → told ≡ g x.state.part
     → (is_domain_told x.state.domain told ≡ true → some ≡ known_keys talks listens (ports_in ports))
     → keys_in new ≡ told_sets at x.state.domain told some (keys_in old)
@@ -89,7 +90,8 @@ kept_either (Ok x) old new done was is ok err = subst IsKept (sym ok) is
 kept_either (Err e) old new done was is ok err = subst IsKept (sym err) was
 
 -- two states of the same are one
-pub same_streams : (ports those : List PortHolding) (sets these : List (KeySet MsrpKey)) (talks : List Talker) (listens : List StreamId) (moment : ℕ) → ports_in ports ≡ ports_in those → keys_in sets ≡ keys_in these
+pub same_streams : (ports those : List PortHolding) (sets these : List (KeySet MsrpKey)) (talks : List Talker) (listens : List StreamId) (moment : ℕ)
+    → ports_in ports ≡ ports_in those → keys_in sets ≡ keys_in these
     → streams_of ports sets talks listens moment ≡ streams_of those these talks listens moment
 same_streams ports those sets these talks listens moment p s = rw (p, s) refl
 
@@ -154,7 +156,9 @@ told_heard now leave_all events s only heard told = by (list_any (λ (e : MsrpHe
     by false e =
         let one = any_there is_domain _ told in
         absurd (only one.0 one.1
-        (ap registered_in (heard one.0 ∙ unheard (after now s.leave_time) one.0 events (if leave_all then option_map (leave_all_row (after now s.leave_time)) (find key_cmp one.0 s.rows) else find key_cmp one.0 s.rows) one.2 e)
+        (ap registered_in (heard one.0
+        ∙ unheard (after now s.leave_time) one.0 events
+        (if leave_all then option_map (leave_all_row (after now s.leave_time)) (find key_cmp one.0 s.rows) else find key_cmp one.0 s.rows) one.2 e)
         ∙ left_alone (after now s.leave_time) leave_all (find key_cmp one.0 s.rows)))
 
 -- a Domain leaves only where a registrar of one is LV

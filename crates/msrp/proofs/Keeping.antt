@@ -122,7 +122,8 @@ module _ (awaits : Awaits) (side : Streams) (kept : IsKept side) (at : ℕ) (p :
   settled_there : (j : ℕ) → at ≢ j → IsSettledAt after j
   settled_there j ne port set part sets =
       let was : Was j set = was_told awaits at p.domain told known side.awaiting j set sets in
-      settled_changed j port port was.set set (seen_by side) (seen_by after) (kept.settled j port was.set (sym (get-set_other side.ports at j (with_part t p) ne) ∙ part) was.there) refl refl refl (λ key. refl) was.fewer
+      settled_changed j port port was.set set (seen_by side) (seen_by after)
+      (kept.settled j port was.set (sym (get-set_other side.ports at j (with_part t p) ne) ∙ part) was.there) refl refl refl (λ key. refl) was.fewer
       (λ s out. there_same port s (talker_untold told s (was.untold (keys.Talker s) out)))
       (λ s out. there_same port s (listener_untold told s (was.untold (keys.Listener s) out)))
 

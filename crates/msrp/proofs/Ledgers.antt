@@ -70,7 +70,9 @@ module _ (laws : BookLaws) (wants : StreamId → Option Want) (own : (s : Stream
   without_one x s book = by (wants x) refl (is_eq (stream_cmp x s)) refl
     where
       by : (o : Option Want) → wants x ≡ o → (b : Bool) → is_eq (stream_cmp x s) ≡ b → want_of (book_without x o book).entries s ≡ cleared_where b (wants s) (want_of book.entries s)
-      by None e true f = laws.unwanted book book.moment x s ∙ (ap (λ b. if b then None else want_of book.entries s) (sym (is_stream x s) ∙ f) ∙ sym (ap (λ o. cleared_where true o (want_of book.entries s)) (ap wants (sym (stream_is x s f)) ∙ e)))
+      by None e true f = laws.unwanted book book.moment x s
+          ∙ (ap (λ b. if b then None else want_of book.entries s) (sym (is_stream x s) ∙ f)
+          ∙ sym (ap (λ o. cleared_where true o (want_of book.entries s)) (ap wants (sym (stream_is x s f)) ∙ e)))
       by None e false f = laws.unwanted book book.moment x s ∙ ap (λ b. if b then None else want_of book.entries s) (sym (is_stream x s) ∙ f)
       by (Some w) e true f = sym (ap (λ o. cleared_where true o (want_of book.entries s)) (ap wants (sym (stream_is x s f)) ∙ e))
       by (Some w) e false f = refl
@@ -109,14 +111,16 @@ module _ (laws : BookLaws) (wants : StreamId → Option Want) (own : (s : Stream
   enter_twice false false None old = refl
   enter_twice false false (Some w) old = refl
 
-  out_wants : (streams : List StreamId) (book : Book) (s : StreamId) → want_of (taken_out wants streams book).entries s ≡ cleared_where (is_awaiting stream_cmp s streams) (wants s) (want_of book.entries s)
+  out_wants : (streams : List StreamId) (book : Book) (s : StreamId)
+      → want_of (taken_out wants streams book).entries s ≡ cleared_where (is_awaiting stream_cmp s streams) (wants s) (want_of book.entries s)
   out_wants [] book s = refl
   out_wants (x ∷ streams) book s =
       out_wants streams (book_without x (wants x) book) s
       ∙ (ap (λ (o : Option Want). cleared_where (is_awaiting stream_cmp s streams) (wants s) o) (without_one x s book)
       ∙ clear_twice (is_awaiting stream_cmp s streams) (is_eq (stream_cmp x s)) (wants s) (want_of book.entries s))
 
-  in_wants : (streams : List StreamId) (book : Book) (s : StreamId) → want_of (with_wants wants streams book).entries s ≡ entered_where (is_awaiting stream_cmp s streams) (wants s) (want_of book.entries s)
+  in_wants : (streams : List StreamId) (book : Book) (s : StreamId)
+      → want_of (with_wants wants streams book).entries s ≡ entered_where (is_awaiting stream_cmp s streams) (wants s) (want_of book.entries s)
   in_wants [] book s = refl
   in_wants (x ∷ streams) book s =
       in_wants streams (book_with (wants x) book) s
@@ -128,7 +132,9 @@ module _ (laws : BookLaws) (wants : StreamId → Option Want) (own : (s : Stream
   both_ways true (Some w) old = refl
   both_ways false o old = refl
 
-  pub settled_wants : (streams : List StreamId) (book : Book) (s : StreamId) → want_of (settled_book wants streams book).entries s ≡ (if is_awaiting stream_cmp s streams then wants s else want_of book.entries s)
+  pub settled_wants : (streams : List StreamId) (book : Book) (s : StreamId)
+      → want_of (settled_book wants streams book).entries s ≡ (if is_awaiting stream_cmp s streams then wants s else want_of book.entries s)
   settled_wants streams book s =
       in_wants streams (taken_out wants streams book) s
-      ∙ (ap (λ (o : Option Want). entered_where (is_awaiting stream_cmp s streams) (wants s) o) (out_wants streams book s) ∙ both_ways (is_awaiting stream_cmp s streams) (wants s) (want_of book.entries s))
+      ∙ (ap (λ (o : Option Want). entered_where (is_awaiting stream_cmp s streams) (wants s) o) (out_wants streams book s)
+      ∙ both_ways (is_awaiting stream_cmp s streams) (wants s) (want_of book.entries s))

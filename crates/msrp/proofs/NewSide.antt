@@ -42,7 +42,8 @@ module _ (bridge : BridgeId) (leave_time : Cs) (periodic : Bool) (domain : Domai
   none_found : (ports : List PortSetup) (s : StreamId) → find is_present (map (λ (p : PortState). registered_talker s p.part) (map made ports)) ≡ None
   none_found [] s = refl
   none_found (p ∷ ports) s =
-      ap (λ (o : Option MsrpContent). if is_present (talker_reg_of o) then Some (talker_reg_of o) else find is_present (map (λ (q : PortState). registered_talker s q.part) (map made ports))) (new_registered p.period leave_time periodic domain (keys.Talker s))
+      ap (λ (o : Option MsrpContent). if is_present (talker_reg_of o) then Some (talker_reg_of o) else find is_present
+      (map (λ (q : PortState). registered_talker s q.part) (map made ports))) (new_registered p.period leave_time periodic domain (keys.Talker s))
       ∙ none_found ports s
 
   settled-new : (setups : List PortSetup) (at : ℕ) (p : PortState) (ports : List PortSetup) (set : List MsrpKey)
@@ -57,8 +58,12 @@ module _ (bridge : BridgeId) (leave_time : Cs) (periodic : Bool) (domain : Domai
     where
       nothing_wanted : (s : StreamId) → wanted_at place (made q) (talkers_of [] (map made setups) s) s ≡ None
       nothing_wanted s =
-          ap (λ b. wanted_where b (is_ready (registered_listener s (made q).part)) (want_of_reg (edge_at (made q) (talkers_of [] (map made setups) s)) (first_talker (talkers_of [] (map made setups) s)))) (no_talker_port setups s (suc place))
-          ∙ ap (λ (o : Option MsrpContent). wanted_where false (is_ready (listener_kind_of o)) (want_of_reg (edge_at (made q) (talkers_of [] (map made setups) s)) (first_talker (talkers_of [] (map made setups) s)))) (new_registered q.period leave_time periodic domain (keys.Listener s))
+          ap (λ b. wanted_where b (is_ready (registered_listener s (made q).part))
+          (want_of_reg (edge_at (made q) (talkers_of [] (map made setups) s)) (first_talker (talkers_of [] (map made setups) s))))
+          (no_talker_port setups s (suc place))
+          ∙ ap (λ (o : Option MsrpContent). wanted_where false (is_ready (listener_kind_of o))
+          (want_of_reg (edge_at (made q) (talkers_of [] (map made setups) s)) (first_talker (talkers_of [] (map made setups) s))))
+          (new_registered q.period leave_time periodic domain (keys.Listener s))
 
       each : (key : MsrpKey) → declared_at key_cmp key (made q).part ≡ stated_at place (made q) (seen_by (new_streams bridge leave_time periodic domain setups)) key
       each (keys.Talker s) =
@@ -66,7 +71,9 @@ module _ (bridge : BridgeId) (leave_time : Cs) (periodic : Bool) (domain : Domai
           ∙ sym (absent_stated place (made q) (talkers_of [] (map made setups) s) (ap (λ o. unwrap_or o Absent) (none_found setups s)))
       each (keys.Listener s) =
           new_listener q.period leave_time periodic domain s
-          ∙ sym (ap (λ (b : Bool). option_map contents.Listener (if b then listener_out (other_listeners place (seen_by (new_streams bridge leave_time periodic domain setups) s)) else None)) (no_talker_port setups s (suc place)))
+          ∙ sym (ap (λ (b : Bool). option_map contents.Listener
+          (if b then listener_out (other_listeners place (seen_by (new_streams bridge leave_time periodic domain setups) s)) else None))
+          (no_talker_port setups s (suc place)))
       each (keys.Domain c) = new_domain q.period leave_time periodic domain c
   settled-new setups (suc at) p (q ∷ ports) set h place = settled-new setups at p ports set h place
 
@@ -83,7 +90,8 @@ module _ (bridge : BridgeId) (leave_time : Cs) (periodic : Bool) (domain : Domai
     ports-new empty shares ports,
   )
 
-  pub kept-new : ((caps : Caps) → caps.class_a ≤ caps.both → IsKeptBook (empty_book caps)) → ((p : PortSetup) → (caps_of p.rate p.delta_a p.delta_b).class_a ≤ (caps_of p.rate p.delta_a p.delta_b).both)
+  pub kept-new : ((caps : Caps) → caps.class_a ≤ caps.both → IsKeptBook (empty_book caps))
+      → ((p : PortSetup) → (caps_of p.rate p.delta_a p.delta_b).class_a ≤ (caps_of p.rate p.delta_a p.delta_b).both)
       → (ports : List PortSetup) → IsKept (new_streams bridge leave_time periodic domain ports)
   kept-new empty shares ports =
       record {

@@ -35,12 +35,14 @@ module _ (laws : PartLaws) where
   as_registered key None s k rows = laws.withdraw_stays s key rows k
   as_registered key (Some c) s k rows = laws.declare_stays s key c rows k
 
-  as_declared : (key : MsrpKey) (o : Option MsrpContent) (s : Part) (k : MsrpKey) → AreRows key_cmp s.rows → declared_at key_cmp k (settled_as key o s) ≡ (if same key_cmp key k then o else declared_at key_cmp k s)
+  as_declared : (key : MsrpKey) (o : Option MsrpContent) (s : Part) (k : MsrpKey) → AreRows key_cmp s.rows
+      → declared_at key_cmp k (settled_as key o s) ≡ (if same key_cmp key k then o else declared_at key_cmp k s)
   as_declared key None s k rows = laws.withdraw_asked s key rows k
   as_declared key (Some c) s k rows = laws.declare_asked s key c rows k
 
   -- what holds of both contents of each key that has a row, and of what a key is declared with, holds afterwards
-  as_each : (P : MsrpKey → MsrpContent → Type 0) (key : MsrpKey) (o : Option MsrpContent) (s : Part) → AreRows key_cmp s.rows → ((c : MsrpContent) → o ≡ Some c → P key c) → HoldsOfEach P s → HoldsOfEach P (settled_as key o s)
+  as_each : (P : MsrpKey → MsrpContent → Type 0) (key : MsrpKey) (o : Option MsrpContent) (s : Part) → AreRows key_cmp s.rows
+      → ((c : MsrpContent) → o ≡ Some c → P key c) → HoldsOfEach P s → HoldsOfEach P (settled_as key o s)
   as_each P key None s rows holds own =
       each-changed P s (withdrawn_state key_cmp key s) key (after_withdraw (find key_cmp key s.rows)) own (laws.withdraw_only s key rows)
       (withdrawn_own P key (find key_cmp key s.rows) (own key))
@@ -78,9 +80,11 @@ module _ (laws : PartLaws) where
         ∙ (ap (λ (d : Option MsrpContent). if is_awaiting key_cmp k ks then rule k else d) (as_declared x (rule x) s k rows ∙ one_rule x k (declared_at key_cmp k s))
         ∙ either (is_awaiting key_cmp k ks) (same key_cmp x k) (rule k) (declared_at key_cmp k s))
 
-    pub each-settled : (P : MsrpKey → MsrpContent → Type 0) → ((key : MsrpKey) (c : MsrpContent) → rule key ≡ Some c → P key c) → (ks : List MsrpKey) (s : Part) → AreRows key_cmp s.rows → HoldsOfEach P s → HoldsOfEach P (settled_part rule ks s)
+    pub each-settled : (P : MsrpKey → MsrpContent → Type 0) → ((key : MsrpKey) (c : MsrpContent) → rule key ≡ Some c → P key c) → (ks : List MsrpKey) (s : Part)
+        → AreRows key_cmp s.rows → HoldsOfEach P s → HoldsOfEach P (settled_part rule ks s)
     each-settled P holds [] s rows own = own
     each-settled P holds (x ∷ ks) s rows own = each-settled P holds ks (settled_as x (rule x) s) (as_rows x (rule x) s rows) (as_each P x (rule x) s rows (holds x) own)
 
-    pub own-settled : ((key : MsrpKey) (c : MsrpContent) → rule key ≡ Some c → Belongs key c) → (ks : List MsrpKey) (s : Part) → AreRows key_cmp s.rows → HasOwnContents s → HasOwnContents (settled_part rule ks s)
+    pub own-settled : ((key : MsrpKey) (c : MsrpContent) → rule key ≡ Some c → Belongs key c) → (ks : List MsrpKey) (s : Part) → AreRows key_cmp s.rows
+        → HasOwnContents s → HasOwnContents (settled_part rule ks s)
     own-settled belongs ks s rows own = own_from (settled_part rule ks s) (each-settled Belongs belongs ks s rows (own_row s own))

@@ -50,7 +50,8 @@ module _ (awaits : Awaits) (side : Streams) (proper : IsProper side) (at : ℕ) 
   proper-retold has_rows t told rows own fit same tells = known-retold t told (knows_talkers has_rows side p.domain told) rows own fit same tells
 
   -- or tells none
-  pub proper-replaced : (t : Part) → AreRows key_cmp t.rows → HasOwnContents t → HasRanges t → SameDeclared p.part t → ((key : MsrpKey) → registered_at key_cmp key t ≡ registered_at key_cmp key p.part)
+  pub proper-replaced : (t : Part) → AreRows key_cmp t.rows → HasOwnContents t → HasRanges t → SameDeclared p.part t
+      → ((key : MsrpKey) → registered_at key_cmp key t ≡ registered_at key_cmp key p.part)
       → IsProper (with_port_at at (with_part t p) side)
   proper-replaced t rows own fit same stays =
       let P : List (List MsrpKey) → Type 0 = λ sets. IsProper (record (with_port_at at (with_part t p) side) { awaiting = sets }) in
@@ -62,16 +63,19 @@ proper-at side make (Some p) proper h = h p refl
 
 -- ---- a new side
 
-new_ranges : (bridge : BridgeId) (leave_time : Cs) (periodic : Bool) (domain : DomainSet) (ports : List PortSetup) → AllByRecursion (λ (p : PortState). HasRanges p.part) (map (new_port bridge leave_time periodic domain) ports)
+new_ranges : (bridge : BridgeId) (leave_time : Cs) (periodic : Bool) (domain : DomainSet) (ports : List PortSetup)
+    → AllByRecursion (λ (p : PortState). HasRanges p.part) (map (new_port bridge leave_time periodic domain) ports)
 new_ranges bridge leave_time periodic domain [] = tt
 new_ranges bridge leave_time periodic domain (p ∷ ports) =
     (range_from (new_port bridge leave_time periodic domain p).part (new_each p.period leave_time periodic IsWithin value_in domain), new_ranges bridge leave_time periodic domain ports)
 
-new_bridges : (bridge : BridgeId) (leave_time : Cs) (periodic : Bool) (domain : DomainSet) (ports : List PortSetup) → bridge.0 < 2 ^ 64 → AllByRecursion HasBridge (map (new_port bridge leave_time periodic domain) ports)
+new_bridges : (bridge : BridgeId) (leave_time : Cs) (periodic : Bool) (domain : DomainSet) (ports : List PortSetup) → bridge.0 < 2 ^ 64
+    → AllByRecursion HasBridge (map (new_port bridge leave_time periodic domain) ports)
 new_bridges bridge leave_time periodic domain [] fit = tt
 new_bridges bridge leave_time periodic domain (p ∷ ports) fit = (fit, new_bridges bridge leave_time periodic domain ports fit)
 
-pub proper-new : ((caps : Caps) → caps.class_a ≤ caps.both → IsKeptBook (empty_book caps)) → (bridge : BridgeId) (leave_time : Cs) (periodic : Bool) (domain : DomainSet) (ports : List PortSetup) → bridge.0 < 2 ^ 64
+pub proper-new : ((caps : Caps) → caps.class_a ≤ caps.both → IsKeptBook (empty_book caps))
+    → (bridge : BridgeId) (leave_time : Cs) (periodic : Bool) (domain : DomainSet) (ports : List PortSetup) → bridge.0 < 2 ^ 64
     → IsProper (new_streams bridge leave_time periodic domain ports)
 proper-new empty bridge leave_time periodic domain ports fit =
     record {
@@ -91,7 +95,9 @@ module _ (parts : PartLaws) (books : BookLaws) (moves : MoveLaws) (awaits : Awai
       let bridge = each-get HasBridge side.ports at p proper.ranges.configs here in
       let kept = kept-settled parts books moves awaits awaiting has_rows side proper.kept at p here ks set in
       let fit = range_from _
-      (each-settled parts (stated_at at (record p { ledger = book }) (seen_by side)) IsWithin (rule_in side proper.kept.ports proper.ranges at (record p { ledger = book }) bridge) tried p.part port.rows (range_row p.part (ranges_at side proper at p here))) in
+      (each-settled parts (stated_at at (record p { ledger = book }) (seen_by side)) IsWithin
+      (rule_in side proper.kept.ports proper.ranges at (record p { ledger = book }) bridge) tried p.part port.rows
+      (range_row p.part (ranges_at side proper at p here))) in
       rw set (record { kept = kept; ranges = ranges-set side proper.ranges at p here _ book _ fit })
 
   pub proper-settled : IsProper (settled_streams at side)
@@ -124,7 +130,8 @@ module _ (awaits : Awaits) (side : Streams) (proper : IsProper side) where
       (λ s e. talks_more t s side.talks e) (λ s e. refl))
   proper-requested (Hush x) fit =
       chosen (has_talk x side) _ _
-      (asked x (talks_without x side.talks) side.listens (all_filtered IsTalker (λ (u : Talker). not (u.stream.0 == x.0)) side.talks proper.ranges.talks) (λ s e. talks_other x s side.talks e) (λ s e. refl))
+      (asked x (talks_without x side.talks) side.listens (all_filtered IsTalker (λ (u : Talker). not (u.stream.0 == x.0)) side.talks proper.ranges.talks)
+      (λ s e. talks_other x s side.talks e) (λ s e. refl))
       proper
   proper-requested (Listen x) fit =
       chosen (has_listen x side) _ _ proper (asked x side.talks (x ∷ side.listens) proper.ranges.talks (λ s e. refl) (λ s e. listens_more x s side.listens e))

@@ -56,7 +56,11 @@ of_own (t ∷ talks) s = by (t.stream.0 == s.0) refl (of_own talks s)
 
 of_ports : (moment : ℕ) (ports : List PortState) (s : StreamId) → AllByRecursion (IsPort moment) ports → AllByRecursion (IsOf s) (map (λ (p : PortState). registered_talker s p.part) ports)
 of_ports moment [] s all = tt
-of_ports moment (p ∷ ports) s all = (of_content s (registered_at key_cmp (keys.Talker s) p.part) (λ c h. registered_holds Belongs p.part (own_row p.part all.0.contents) (keys.Talker s) c h), of_ports moment ports s all.1)
+of_ports moment (p ∷ ports) s all = (
+  of_content s (registered_at key_cmp (keys.Talker s) p.part)
+      (λ c h. registered_holds Belongs p.part (own_row p.part all.0.contents) (keys.Talker s) c h),
+  of_ports moment ports s all.1,
+)
 
 -- what holds of each Talker that is registered holds of the one at the Talker's port
 pub found_holds : (P : TalkerReg → Type 0) → P Absent → (xs : List TalkerReg) → AllByRecursion P xs → P (unwrap_or (find is_present xs) Absent)
@@ -96,7 +100,8 @@ of_listener s None c e = cc
 of_listener s (Some k) c e = let is : contents.Listener k ≡ c = cc in subst (λ (x : MsrpContent). Belongs (keys.Listener s) x) is tt
 
 -- what the rules state of a key is of the key
-pub rule_own : (side : Streams) → AllByRecursion (IsPort side.moment) side.ports → (at : ℕ) (p : PortState) (key : MsrpKey) (c : MsrpContent) → stated_at at p (seen_by side) key ≡ Some c → Belongs key c
+pub rule_own : (side : Streams) → AllByRecursion (IsPort side.moment) side.ports → (at : ℕ) (p : PortState) (key : MsrpKey) (c : MsrpContent)
+    → stated_at at p (seen_by side) key ≡ Some c → Belongs key c
 rule_own side ports at p (keys.Talker s) c e =
     of_stated s (talker_at at p (talkers_of side.talks side.ports s)) c (of_at s at p (talkers_of side.talks side.ports s) (of_talker side.moment side.talks side.ports s ports)) e
 rule_own side ports at p (keys.Listener s) c e = of_listener s (listener_at at (seen_by side s)) c e
@@ -155,7 +160,8 @@ among s (x ∷ xs) =
     let one : is_eq (nat_cmp x.0 s.0) ≡ (x.0 == s.0) = grind (arith, nat_tests) in
     ap (λ b. b || is_awaiting key_cmp (keys.Listener s) (listener_keys xs)) one ∙ ap (λ b. (x.0 == s.0) || b) (among s xs)
 
-pub among-append : (s : StreamId) (xs ys : List StreamId) → list_any (λ (x : StreamId). x.0 == s.0) (xs ++ ys) ≡ (list_any (λ (x : StreamId). x.0 == s.0) xs || list_any (λ (x : StreamId). x.0 == s.0) ys)
+pub among-append : (s : StreamId) (xs ys : List StreamId)
+    → list_any (λ (x : StreamId). x.0 == s.0) (xs ++ ys) ≡ (list_any (λ (x : StreamId). x.0 == s.0) xs || list_any (λ (x : StreamId). x.0 == s.0) ys)
 among-append s [] ys = refl
 among-append s (x ∷ xs) ys = ap (λ b. (x.0 == s.0) || b) (among-append s xs ys) ∙ joined (x.0 == s.0) (list_any (λ (x : StreamId). x.0 == s.0) xs) (list_any (λ (x : StreamId). x.0 == s.0) ys)
   where

@@ -13,7 +13,8 @@ use Rattle.msrp.specs.{key_cmp}
 use Rattle.msrp.proofs.Contents.{HoldsOfEach, MsrpRow}
 
 -- what holds of both contents of each key that has a row holds of the content of a key's row
-pub stated_holds : (P : MsrpKey → MsrpContent → Type 0) (s : Part) → HoldsOfEach P s → (key : MsrpKey) (c : MsrpContent) → option_map (λ (r : MsrpRow). r.content) (find key_cmp key s.rows) ≡ Some c → P key c
+pub stated_holds : (P : MsrpKey → MsrpContent → Type 0) (s : Part) → HoldsOfEach P s → (key : MsrpKey) (c : MsrpContent)
+    → option_map (λ (r : MsrpRow). r.content) (find key_cmp key s.rows) ≡ Some c → P key c
 stated_holds P s own key c h = by (find key_cmp key s.rows) refl h
   where
     by : (o : Option MsrpRow) → find key_cmp key s.rows ≡ o → option_map (λ (r : MsrpRow). r.content) o ≡ Some c → P key c

@@ -53,7 +53,8 @@ pub others-set : (at : ℕ) (ts : List TalkerReg) (b : Bool) (ls : List (Option 
     → listener_at at (record { talkers = ts; listens = b; listeners = slice_set ls at x }) ≡ listener_at at (record { talkers = ts; listens = b; listeners = ls })
 others-set at ts b ls x =
     let r : Registrations = record { talkers = ts; listens = b; listeners = ls } in
-    ap (λ (front : List (Option PortListener)). if is_talker_port (suc at) ts then listener_out (filter_map (λ row. row) (own_listener r ∷ (front ++ drop (suc at) (slice_set ls at x)))) else None) (take-set ls at x)
+    ap (λ (front : List (Option PortListener)). if is_talker_port (suc at) ts then listener_out
+    (filter_map (λ row. row) (own_listener r ∷ (front ++ drop (suc at) (slice_set ls at x)))) else None) (take-set ls at x)
     ∙ ap (λ (rest : List (Option PortListener)). if is_talker_port (suc at) ts then listener_out (filter_map (λ row. row) (own_listener r ∷ (take at ls ++ rest))) else None) (drop-set ls at x)
 
 -- the keys that await at another port were marked there
@@ -62,7 +63,8 @@ pub record WasThere (new : List MsrpKey) (sets : List (List MsrpKey)) (j : ℕ) 
   pub there : slice_get sets j ≡ Some set
   pub is : all_marked key_cmp new set ≡ now
 
-was_there : Awaits → (new : List MsrpKey) (sets : List (List MsrpKey)) (at j : ℕ) (now : List MsrpKey) → at ≢ j → slice_get (marked_elsewhere key_cmp at new sets) j ≡ Some now → WasThere new sets j now
+was_there : Awaits → (new : List MsrpKey) (sets : List (List MsrpKey)) (at j : ℕ) (now : List MsrpKey) → at ≢ j
+    → slice_get (marked_elsewhere key_cmp at new sets) j ≡ Some now → WasThere new sets j now
 was_there awaits new sets at j now ne h = by (slice_get sets j) refl (sym (awaits.elsewhere at j new sets) ∙ h)
   where
     by : (o : Option (List MsrpKey)) → slice_get sets j ≡ o → option_map (λ set. if j == at then set else all_marked key_cmp new set) o ≡ Some now → WasThere new sets j now
@@ -157,7 +159,8 @@ module _ (parts : PartLaws) (books : BookLaws) (moves : MoveLaws) (awaits : Awai
   -- a stream that hasn't moved is seen as before
   seen_same : (s : StreamId) → is_awaiting key_cmp (keys.Listener s) (listener_keys moved) ≡ false → seen_by after s ≡ regs s
   seen_same s out =
-      let two = or_false (list_any (λ (x : StreamId). x.0 == s.0) (booked_only_in book.entries p.ledger.entries)) (list_any (λ (x : StreamId). x.0 == s.0) (booked_only_in p.ledger.entries book.entries))
+      let two = or_false (list_any (λ (x : StreamId). x.0 == s.0) (booked_only_in book.entries p.ledger.entries))
+      (list_any (λ (x : StreamId). x.0 == s.0) (booked_only_in p.ledger.entries book.entries))
       (sym (among-append s (booked_only_in book.entries p.ledger.entries) (booked_only_in p.ledger.entries book.entries)) ∙ (sym (among s moved) ∙ out)) in
       let booked : is_some (since_of book.entries s) ≡ is_some (since_of p.ledger.entries s) = moves.unmoved p.ledger.entries book.entries s port.ledger.ascending like.kept.ascending two.0 two.1 in
       let row : listener_row s next ≡ listener_row s p =
@@ -176,11 +179,13 @@ module _ (parts : PartLaws) (books : BookLaws) (moves : MoveLaws) (awaits : Awai
   untried key out = by moved refl out
     where
       same_booked : moved ≡ [] → booked_of book.entries ≡ booked_of p.ledger.entries
-      same_booked e = (moves.empty p.ledger.entries book.entries port.ledger.ascending like.kept.ascending).0 (both_empty (booked_only_in book.entries p.ledger.entries) (booked_only_in p.ledger.entries book.entries) e)
+      same_booked e = (moves.empty p.ledger.entries book.entries port.ledger.ascending like.kept.ascending).0
+          (both_empty (booked_only_in book.entries p.ledger.entries) (booked_only_in p.ledger.entries book.entries) e)
 
       still : moved ≡ [] → (k : MsrpKey) → stated_at at p (seen_by side) k ≡ rule k
       still e (keys.Talker s) =
-          ap talker_content (sym (talker_same moves at p.config (edge_at p (talkers_of side.talks side.ports s)) book p.ledger (talkers_of side.talks side.ports s) like.kept.ascending port.ledger.ascending like.caps like.moment (same_booked e)))
+          ap talker_content (sym (talker_same moves at p.config (edge_at p (talkers_of side.talks side.ports s)) book p.ledger
+          (talkers_of side.talks side.ports s) like.kept.ascending port.ledger.ascending like.caps like.moment (same_booked e)))
       still e (keys.Listener s) = refl
       still e (keys.Domain c) = refl
 
@@ -235,9 +240,14 @@ module _ (parts : PartLaws) (books : BookLaws) (moves : MoveLaws) (awaits : Awai
   settled_there j ne q more at_j sets =
       let was = was_there awaits (listener_keys moved) side.awaiting at j more ne (sym (get-set_other (marked_elsewhere key_cmp at (listener_keys moved) side.awaiting) at j [] ne) ∙ sets) in
       let before = kept.settled j q was.set (sym (get-set_other side.ports at j next ne) ∙ at_j) was.there in
-      record { declared = each j q more was before; wanted = λ s one two. before.wanted s (fewer more was (keys.Talker s) one) (fewer more was (keys.Listener s) two) ∙ ap (λ ts. wanted_at j q ts s) (sym (talkers_same s)) }
+      record {
+        declared = each j q more was before;
+        wanted = λ s one two. before.wanted s (fewer more was (keys.Talker s) one) (fewer more was (keys.Listener s) two)
+            ∙ ap (λ ts. wanted_at j q ts s) (sym (talkers_same s));
+      }
     where
-      fewer : (more : List MsrpKey) {j : ℕ} → (was : WasThere (listener_keys moved) side.awaiting j more) → (key : MsrpKey) → is_awaiting key_cmp key more ≡ false → is_awaiting key_cmp key was.set ≡ false
+      fewer : (more : List MsrpKey) {j : ℕ} → (was : WasThere (listener_keys moved) side.awaiting j more) → (key : MsrpKey) → is_awaiting key_cmp key more ≡ false
+          → is_awaiting key_cmp key was.set ≡ false
       fewer more was key out = (unmarked awaits key (listener_keys moved) was.set (ap (is_awaiting key_cmp key) was.is ∙ out)).1
 
       each : (j : ℕ) (q : PortState) (more : List MsrpKey) → (was : WasThere (listener_keys moved) side.awaiting j more) → IsSettled j q was.set (seen_by side)
@@ -246,7 +256,8 @@ module _ (parts : PartLaws) (books : BookLaws) (moves : MoveLaws) (awaits : Awai
           before.declared (keys.Talker s) (fewer more was (keys.Talker s) out) ∙ ap (λ ts. talker_content (talker_at j q ts)) (sym (talkers_same s))
       each j q more was before (keys.Listener s) out =
           before.declared (keys.Listener s) (fewer more was (keys.Listener s) out)
-          ∙ ap (λ (r : Registrations). option_map contents.Listener (listener_at j r)) (sym (seen_same s (unmarked awaits (keys.Listener s) (listener_keys moved) was.set (ap (is_awaiting key_cmp (keys.Listener s)) was.is ∙ out)).0))
+          ∙ ap (λ (r : Registrations). option_map contents.Listener (listener_at j r))
+          (sym (seen_same s (unmarked awaits (keys.Listener s) (listener_keys moved) was.set (ap (is_awaiting key_cmp (keys.Listener s)) was.is ∙ out)).0))
       each j q more was before (keys.Domain c) out = before.declared (keys.Domain c) (fewer more was (keys.Domain c) out)
 
   settled_each : (j : ℕ) → (at ≡ j) ⊎ (at ≢ j) → IsSettledAt after j
@@ -272,7 +283,8 @@ module _ (parts : PartLaws) (books : BookLaws) (moves : MoveLaws) (awaits : Awai
   kept-settled =
       record {
         ports = each-set (IsPort side.moment) side.ports at next next_port kept.ports;
-        sets = length-set (marked_elsewhere key_cmp at (listener_keys moved) side.awaiting) at [] ∙ (awaits.as_many_elsewhere at (listener_keys moved) side.awaiting ∙ (kept.sets ∙ sym (length-set side.ports at next)));
+        sets = length-set (marked_elsewhere key_cmp at (listener_keys moved) side.awaiting) at []
+            ∙ (awaits.as_many_elsewhere at (listener_keys moved) side.awaiting ∙ (kept.sets ∙ sym (length-set side.ports at next)));
         settled = λ j. settled_each j (decide at j);
       }
 

@@ -12,7 +12,8 @@ use Rattle.msrp.specs.PortState.{PortState}
 use Rattle.msrp.specs.Part.{Part}
 use Rattle.msrp.proofs.Clocked.{map_twice}
 
-pub setups-at : (side : Streams) (make : PortState → Streams) (o : Option PortState) → ((p : PortState) → o ≡ Some p → setups_of (make p) ≡ setups_of side) → setups_of (with_port o make side) ≡ setups_of side
+pub setups-at : (side : Streams) (make : PortState → Streams) (o : Option PortState) → ((p : PortState) → o ≡ Some p → setups_of (make p) ≡ setups_of side)
+    → setups_of (with_port o make side) ≡ setups_of side
 setups-at side make None h = refl
 setups-at side make (Some p) h = h p refl
 
@@ -20,7 +21,8 @@ setups-at side make (Some p) h = h p refl
 pub setups-retold : (at : ℕ) (part : Part → Part) (told : Part → List MsrpKey) (side : Streams)
     → setups_of (at_port at (λ p. with_told_port at (with_part (part p.part) p) (told p.part) side) side) ≡ setups_of side
 setups-retold at part told side =
-    setups-at side (λ p. with_told_port at (with_part (part p.part) p) (told p.part) side) (slice_get side.ports at) (λ p here. map-set_same setup_of side.ports at p (with_part (part p.part) p) here refl)
+    setups-at side (λ p. with_told_port at (with_part (part p.part) p) (told p.part) side) (slice_get side.ports at)
+    (λ p here. map-set_same setup_of side.ports at p (with_part (part p.part) p) here refl)
 
 pub setups-replaced : (at : ℕ) (part : Part → Part) (side : Streams) → setups_of (at_port at (λ p. with_port_at at (with_part (part p.part) p) side) side) ≡ setups_of side
 setups-replaced at part side =
@@ -55,7 +57,8 @@ setups-settled at side =
     setups-at side
     (λ (p : PortState). record side { ports = slice_set side.ports at (settled_at at side p); awaiting = slice_set (marked_elsewhere key_cmp at (moved_keys at side p) side.awaiting) at [] })
     (slice_get side.ports at)
-    (λ p here. map-set_same setup_of side.ports at p (settled_at at side p) here (ap (λ (c : Caps). let setup : Setup = record { config = p.config; caps = c; domain = p.domain } in setup) (next_caps at (seen_by side) (awaiting_at at side) p)))
+    (λ p here. map-set_same setup_of side.ports at p (settled_at at side p) here
+    (ap (λ (c : Caps). let setup : Setup = record { config = p.config; caps = c; domain = p.domain } in setup) (next_caps at (seen_by side) (awaiting_at at side) p)))
 
 -- ---- requests, and the clock
 

@@ -114,7 +114,8 @@ ports_absent rows (p ∷ ports) x h =
     rw (absent_in rows p.part x parts.0) (ports_absent rows ports x parts.1)
 
 -- a stream whose Talker key isn't among those of all streams with a Talker has none
-pub no_talker : HasRows → (talks : List Talker) (ports : List PortState) (x : StreamId) → is_awaiting key_cmp (keys.Talker x) (talker_keys talks ports) ≡ false → first_talker (talkers_of talks ports x) ≡ Absent
+pub no_talker : HasRows → (talks : List Talker) (ports : List PortState) (x : StreamId) → is_awaiting key_cmp (keys.Talker x) (talker_keys talks ports) ≡ false
+    → first_talker (talkers_of talks ports x) ≡ Absent
 no_talker rows talks ports x h =
     let parts = not_in (keys.Talker x) (map (λ (t : Talker). keys.Talker t.stream) talks) (flat_map (λ (p : PortState). talker_keys_in p.part) ports) h in
     let one = own_absent talks x parts.0 in

@@ -135,17 +135,20 @@ was_told awaits at domain told known sets j now h = by (is_domain_told domain to
   where
     -- of a set with the told keys put in
     from : (mid : List MsrpKey) → slice_get (everywhere told sets) j ≡ Some mid → ((key : MsrpKey) → is_awaiting key_cmp key now ≡ false → is_awaiting key_cmp key mid ≡ false)
-        → (at ≡ j → is_domain_told domain told ≡ true → (key : MsrpKey) → is_awaiting key_cmp key now ≡ false → is_awaiting key_cmp key (all_keys_with known) ≡ false) → WasTold at domain told known sets j now
+        → (at ≡ j → is_domain_told domain told ≡ true → (key : MsrpKey) → is_awaiting key_cmp key now ≡ false → is_awaiting key_cmp key (all_keys_with known) ≡ false)
+        → WasTold at domain told known sets j now
     from mid there less more =
         let was = was_set awaits (all_keys_with told) sets j mid there in
         let apart : (key : MsrpKey) → is_awaiting key_cmp key now ≡ false → (is_awaiting key_cmp key (all_keys_with told) ≡ false) × (is_awaiting key_cmp key was.set ≡ false) =
         λ key out. unmarked awaits key (all_keys_with told) was.set (ap (is_awaiting key_cmp key) was.is ∙ less key out) in
         record { set = was.set; there = was.there; untold = λ key out. (apart key out).0; fewer = λ key out. (apart key out).1; unknown = more }
 
-    there_or_here : (at ≡ j) ⊎ (at ≢ j) → is_domain_told domain told ≡ true → slice_get (marked_here at (all_keys_with known) (everywhere told sets)) j ≡ Some now → WasTold at domain told known sets j now
+    there_or_here : (at ≡ j) ⊎ (at ≢ j) → is_domain_told domain told ≡ true → slice_get (marked_here at (all_keys_with known) (everywhere told sets)) j ≡ Some now
+        → WasTold at domain told known sets j now
     there_or_here (inr ne) e k = from now (sym (get-set_other (everywhere told sets) at j _ ne) ∙ k) (λ key out. out) (λ same. absurd (ne same))
     there_or_here (inl same) e k =
-        let k_at : slice_get (marked_here at (all_keys_with known) (everywhere told sets)) at ≡ Some now = ap (λ n. slice_get (marked_here at (all_keys_with known) (everywhere told sets)) n) same ∙ k in
+        let k_at : slice_get (marked_here at (all_keys_with known) (everywhere told sets)) at ≡ Some now
+        = ap (λ n. slice_get (marked_here at (all_keys_with known) (everywhere told sets)) n) same ∙ k in
         let mid = had_one (everywhere told sets) at _ now k_at in
         let is : all_marked key_cmp (all_keys_with known) mid.0 ≡ now =
         ap (λ o. all_marked key_cmp (all_keys_with known) (keys_or_none o)) (sym mid.1) ∙ get-set_same (everywhere told sets) at _ now k_at in

@@ -1,6 +1,7 @@
--- SRP domains at a node (IEEE Std 802.1Q-2018, 35.1.4, 35.2.2.9): the Domain values that its link ports declare, and
--- where a port is at the boundary of the domain of a class. The standard's boundary is one of priorities; that a Domain
--- with another VID is no agreement either is this project's own rule.
+-- SRP domains at a node (IEEE Std 802.1Q-2018, 35.1.4, 35.2.2.9): the Domain values that its link
+-- ports declare, and where a port is at the boundary of the domain of a class. The standard's
+-- boundary is one of priorities; that a Domain with another VID is no agreement either is this
+-- project's own rule.
 use Rattle.std.specs.Prelude.{ℕ, Bool, true, false, not, ◌&&◌, ◌==◌, List, [], ◌∷◌, filter, find, fold, Option, Some, None, option_map, option_and_then}
 use Rattle.std.specs.Option.{option_eq}
 use Rattle.srp_base.specs.declared.{bandwidth.Class.Class, bandwidth.Class.TheVariants.A, bandwidth.Class.TheVariants.B, streams.Talker.Talker, streams.TalkerReg.TalkerReg}
@@ -62,8 +63,8 @@ has_class Both class = true
 abbrev pub classes_of : DomainSet → List Class
 classes_of domain = filter (has_class domain) (A ∷ B ∷ [])
 
--- a participant that has declared the Domain values of a node, each once, in the order of classes: on a new port each of
--- them is in VP
+-- a participant that has declared the Domain values of a node, each once, in the order of classes:
+-- on a new port each of them is in VP
 abbrev pub domain_part : DomainSet → Part → Part
 domain_part domain s =
     fold
@@ -77,8 +78,8 @@ domain_stated domain id =
 
 -- ---- boundaries
 
--- a port is at the boundary of a class's domain where Domains are heeded, and its node doesn't declare the Domain value
--- of the class or that very value isn't registered there
+-- a port is at the boundary of a class's domain where Domains are heeded, and its node doesn't
+-- declare the Domain value of the class or that very value isn't registered there
 abbrev pub is_boundary : DomainSet → Part → Class → Bool
 is_boundary domain s class =
     are_counted domain
@@ -93,6 +94,7 @@ is_boundary_of domain s (Some class) = is_boundary domain s class
 abbrev pub class_in : TalkerReg → Option Class
 class_in reg = option_and_then (λ (t : Talker). class_of_priority t.priority) (talker_in reg)
 
--- whether the port is at the boundary of the domain of a registered Talker's class; where Domains are off it is at none
+-- whether the port is at the boundary of the domain of a registered Talker's class; where Domains
+-- are off it is at none
 abbrev pub is_edge : DomainSet → Part → TalkerReg → Bool
 is_edge domain s reg = are_counted domain && is_boundary_of domain s (class_in reg)

@@ -1,4 +1,5 @@
--- The participant of MSRP at a port, with the keys and contents that MSRPDUs carry (IEEE Std 802.1Q-2018, 35.2.2).
+-- The participant of MSRP at a port, with the keys and contents that MSRPDUs carry (IEEE Std
+-- 802.1Q-2018, 35.2.2).
 use Rattle.std.specs.Prelude.{◌≡◌, Bool, List, fold, Option, Some, None}
 use Rattle.std.specs.declared.cmp.Ordering.{Ordering}
 use Rattle.srp_base.specs.declared.{numbers.Cs.Cs, numbers.StreamId.StreamId, streams.ListenerKind.ListenerKind, streams.TalkerReg.TalkerReg}
@@ -11,7 +12,8 @@ use Rattle.msrp_codec.specs.declared.pdu.MsrpContent.TheVariants.{Advertise, Fai
 use Rattle.msrp_codec.specs.{contracts.pdu.MsrpKeyOrd.TheImpl.ghosts as key_order, contracts.pdu.MsrpContentPartialEq.TheImpl.ghosts as content_equality, Content.Belongs, Content.octets_of, Content.base_octets}
 use Rattle.srp_base.specs.contracts.numbers.StreamIdOrd.TheImpl.{ghosts as stream_order}
 
--- the state of a port's participant, with a row for each Talker, Listener or Domain key that it keeps something of
+-- the state of a port's participant, with a row for each Talker, Listener or Domain key that it
+-- keeps something of
 abbrev pub Part : Type 0
 Part = State MsrpKey MsrpContent
 
@@ -35,7 +37,8 @@ received_part now pdu s = received_state key_cmp now pdu.leave_all pdu.events s
 abbrev pub told_by_receipt : Cs → MsrpPdu → Part → List MsrpKey
 told_by_receipt now pdu s = changed_keys key_cmp same_content s.rows (received_part now pdu s).rows
 
--- the PDU that is sent: a LeaveAll where the LeaveAll machine is Active, and what those rows say that find room in it
+-- the PDU that is sent: a LeaveAll where the LeaveAll machine is Active, and what those rows say
+-- that find room in it
 abbrev pub pdu_sent : Cs → Part → MsrpPdu
 pdu_sent now s =
     record {

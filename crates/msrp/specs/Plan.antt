@@ -1,5 +1,5 @@
--- What the code takes together before it settles a port: the lists that settling fills, with their room. No public
--- contract names it.
+-- What the code takes together before it settles a port: the lists that settling fills, with their
+-- room. No public contract names it.
 use Rattle.std.specs.Prelude.{◌≡◌, ◌≤◌, ◌<◌, ℕ, ◌+◌, List, [], map, length, fold, slice_get, IfSome, vec_capacity, vec_len}
 use Rattle.srp_base.specs.declared.{numbers.StreamId.StreamId, streams.Talker.Talker}
 use Rattle.port_ledger.specs.{Book.Book, Decision.booked_of, Decision.IsAscending}
@@ -33,8 +33,8 @@ stated_of at port regs key = record { key = key; content = stated_at at port reg
 abbrev pub stated_part : List Stated → Part → Part
 stated_part stated s = fold (λ (t : Part) (x : Stated). settled_as x.key x.content t) s stated
 
--- the plan for a port where these keys await: what each of their streams wants there, the bookings before, and empty lists
--- with room for all that settling puts into them
+-- the plan for a port where these keys await: what each of their streams wants there, the bookings
+-- before, and empty lists with room for all that settling puts into them
 pub record IsPlan (at : ℕ) (talks : List Talker) (ports : List PortState) (keys : List MsrpKey)
     (plan : Plan) (port : PortState) : Type 0 where
   pub asked : plan.asked.items ≡ map (asked_at at talks ports port) (streams_in keys)
@@ -50,7 +50,8 @@ pub record IsPlan (at : ℕ) (talks : List Talker) (ports : List PortState) (key
   pub stating : length keys + length (talker_keys talks ports) + vec_len plan.stated
       ≤ vec_capacity plan.stated
 
--- there is room for what a plan may put into a port's ledger, its participant and the sets of awaiting keys
+-- there is room for what a plan may put into a port's ledger, its participant and the sets of
+-- awaiting keys
 pub record HasRoomFor (at : ℕ) (plan : Plan) (ports : List PortHolding)
     (sets : List (KeySet MsrpKey)) : Type 0 where
   pub rows : IfSome (slice_get ports at) (λ p. vec_capacity plan.stated ≤ p.rows)

@@ -4,8 +4,9 @@ use Rattle.port_ledger.specs.Book.{Book}
 use Rattle.msrp.specs.declared.domain.DomainSet.{DomainSet}
 use Rattle.msrp.specs.Part.{Part}
 
--- the node's bridge with the latency that the port adds to a Talker's, the Domain values that the node declares at each
--- of its link ports, what the port and its neighbour have declared, and the streams that want the port
+-- the node's bridge with the latency that the port adds to a Talker's, the Domain values that the
+-- node declares at each of its link ports, what the port and its neighbour have declared, and the
+-- streams that want the port
 pub record PortState : Type 0 where
   pub config : PortConfig
   pub domain : DomainSet

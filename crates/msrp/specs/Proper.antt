@@ -1,5 +1,5 @@
--- That what MSRP keeps at a node fits in the fields in which it is sent (IEEE Std 802.1Q-2018, 35.2.2.8, 35.2.2.9),
--- and how the node's ports are set up.
+-- That what MSRP keeps at a node fits in the fields in which it is sent (IEEE Std 802.1Q-2018,
+-- 35.2.2.8, 35.2.2.9), and how the node's ports are set up.
 use Rattle.std.specs.Prelude.{◌≡◌, ◌<◌, ◌^◌, List, map, Some}
 use Rattle.std.specs.List.{AllByRecursion}
 use Rattle.stream_importance.specs.declared.slope.Caps.{Caps}
@@ -19,8 +19,9 @@ pub record HasRanges (s : Part) : Type 0 where
   pub registered : (key : MsrpKey) (r : Row MsrpKey MsrpContent)
       → find key_cmp key s.rows ≡ Some r → IsFirst (value_of key r.heard)
 
--- all that a side keeps fits: the contents at its link ports, the Talkers of its application, and the BridgeID of
--- each port. Of the latency that a port adds nothing is asked, since the sum stands still at the field's end
+-- all that a side keeps fits: the contents at its link ports, the Talkers of its application, and
+-- the BridgeID of each port. Of the latency that a port adds nothing is asked, since the sum stands
+-- still at the field's end
 pub record AreOfRange (side : Streams) : Type 0 where
   pub parts : AllByRecursion (λ (p : PortState). HasRanges p.part) side.ports
   pub talks : AllByRecursion IsTalker side.talks
@@ -38,7 +39,8 @@ IsRequestInRange (Hush stream) = Unit {0}
 IsRequestInRange (Listen stream) = Unit {0}
 IsRequestInRange (Unlisten stream) = Unit {0}
 
--- how a link port is set up: its BridgeID and its latency, the caps of its ledger, and the Domain values of its node
+-- how a link port is set up: its BridgeID and its latency, the caps of its ledger, and the Domain
+-- values of its node
 pub record Setup : Type 0 where
   pub config : PortConfig
   pub caps : Caps

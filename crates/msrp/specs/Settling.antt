@@ -1,4 +1,5 @@
--- Settling the keys that await at a link port: its ledger, and what it declares (IEEE Std 802.1Q-2018, 35.2.4).
+-- Settling the keys that await at a link port: its ledger, and what it declares (IEEE Std
+-- 802.1Q-2018, 35.2.4).
 use Rattle.std.specs.Prelude.{ℕ, Bool, true, false, ◌&&◌, if◌then◌else◌, List, [], ◌∷◌, ◌++◌, map, filter, fold, Option, Some, None, is_some, slice_set}
 use Rattle.std.specs.List.{filter_map, flat_map, list_any}
 use Rattle.srp_base.specs.declared.{numbers.StreamId.StreamId, streams.Talker.Talker}
@@ -59,8 +60,8 @@ talker_keys talks ports =
 abbrev pub registered_keys : Part → List MsrpKey
 registered_keys s = filter (λ key. is_some (registered_at key_cmp key s)) (map key_of s.rows)
 
--- the keys that are registered at a node: the Talkers of the application, the streams that it listens to, and what each
--- link port has registered
+-- the keys that are registered at a node: the Talkers of the application, the streams that it
+-- listens to, and what each link port has registered
 abbrev pub known_keys : List Talker → List StreamId → List PortState → List MsrpKey
 known_keys talks listens ports =
     map (λ (t : Talker). TalkerKey t.stream) talks
@@ -79,7 +80,8 @@ is_domain (DomainKey class) = true
 abbrev pub is_domain_leaving : Row MsrpKey MsrpContent → Bool
 is_domain_leaving r = is_domain r.key && is_leaving r.registrar
 
--- whether a node that declares these Domains has to heed one that is told: it heeds Domains, and one is told
+-- whether a node that declares these Domains has to heed one that is told: it heeds Domains, and
+-- one is told
 abbrev pub is_domain_told : DomainSet → List MsrpKey → Bool
 is_domain_told domain told = are_counted domain && list_any is_domain told
 
@@ -87,8 +89,9 @@ is_domain_told domain told = are_counted domain && list_any is_domain told
 abbrev pub marked_here : ℕ → List MsrpKey → List (List MsrpKey) → List (List MsrpKey)
 marked_here at keys sets = slice_set sets at (all_marked key_cmp keys (keys_at at sets))
 
--- what awaits at each port once keys are told at the port at a place: both keys of each of their streams everywhere; and
--- where a Domain is told, which may make the port a boundary or none, both keys of each known stream at that port alone
+-- what awaits at each port once keys are told at the port at a place: both keys of each of their
+-- streams everywhere; and where a Domain is told, which may make the port a boundary or none, both
+-- keys of each known stream at that port alone
 abbrev pub told_sets : ℕ → DomainSet → List MsrpKey → List MsrpKey → List (List MsrpKey) → List (List MsrpKey)
 told_sets at domain told known sets =
     if is_domain_told domain told
@@ -116,7 +119,8 @@ taken_out wants streams book =
 abbrev pub with_wants : (StreamId → Option Want) → List StreamId → Book → Book
 with_wants wants streams book = fold (λ (b : Book) (s : StreamId). book_with (wants s) b) book streams
 
--- the ledger by what each of these streams wants: first those that want nothing are taken out, then the others entered
+-- the ledger by what each of these streams wants: first those that want nothing are taken out, then
+-- the others entered
 abbrev pub settled_book : (StreamId → Option Want) → List StreamId → Book → Book
 settled_book wants streams book = with_wants wants streams (taken_out wants streams book)
 
@@ -131,8 +135,8 @@ listener_keys streams = map (λ (s : StreamId). ListenerKey s) streams
 
 -- ---- the port
 
--- the keys that are settled: those that await, and where the booked set changed the Talker keys of all streams with
--- a Talker
+-- the keys that are settled: those that await, and where the booked set changed the Talker keys of
+-- all streams with a Talker
 abbrev pub settling_keys : List StreamId → List MsrpKey → List MsrpKey → List MsrpKey
 settling_keys [] talkers awaiting = awaiting
 settling_keys (s ∷ moved) talkers awaiting = all_marked key_cmp talkers awaiting

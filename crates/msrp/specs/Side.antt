@@ -14,8 +14,9 @@ use Rattle.msrp.specs.declared.{domain.DomainSet.DomainSet, asking.SrpRequest.Sr
 use Rattle.msrp.specs.{PortState.PortState, Part.Part, Part.key_cmp, Part.received_part, Part.told_by_receipt, Part.pdu_sent, Part.sent_part, Part.HasOwnContents, Domain.domain_part, Stream.Registrations, Stream.registrations_of, Stream.talkers_of, Stream.talk_of, Stream.is_listened, Stream.wanted_at, Stream.stated_at, Stream.heard_by, Stream.first_talker as talker_in, Settling.keys_of, Settling.known_keys, Settling.listener_keys, Settling.talker_keys, Settling.told_sets, Settling.moved_streams, Settling.next_book, Settling.settled_port}
 use Rattle.msrp.specs.declared.asking.SrpRequest.TheVariants.{Talk, Hush, Listen, Unlisten}
 
--- the link ports in their order; the keys that await settling at each, ascending; the Talkers of the application,
--- the latest first, and the streams that it listens to; and the moment of the clock in cs
+-- the link ports in their order; the keys that await settling at each, ascending; the Talkers of
+-- the application, the latest first, and the streams that it listens to; and the moment of the
+-- clock in cs
 pub record Streams : Type 0 where
   pub ports : List PortState
   pub awaiting : List (List MsrpKey)
@@ -47,7 +48,8 @@ heard_of stream side = heard_by (seen_by side stream)
 
 -- ---- the side after a call
 
--- a new port: nothing but the node's Domain values is declared, and nothing is registered or booked at it
+-- a new port: nothing but the node's Domain values is declared, and nothing is registered or booked
+-- at it
 abbrev pub new_port : BridgeId → Cs → Bool → DomainSet → PortSetup → PortState
 new_port bridge leave_time periodic domain p =
     record {
@@ -68,8 +70,8 @@ new_streams bridge leave_time periodic domain ports =
       moment = 0;
     }
 
--- the port at a place has another participant, which told keys: both keys of each of their streams await everywhere, and
--- where it told a Domain those of each known stream await at the port
+-- the port at a place has another participant, which told keys: both keys of each of their streams
+-- await everywhere, and where it told a Domain those of each known stream await at the port
 abbrev pub with_told_port : ℕ → PortState → List MsrpKey → Streams → Streams
 with_told_port at port told side =
     record side {
@@ -94,14 +96,16 @@ at_port at make side = with_port (slice_get side.ports at) make side
 abbrev pub with_part : Part → PortState → PortState
 with_part s port = record port { part = s }
 
--- the port at a place received a PDU, and the streams of which that changed what is registered await everywhere
+-- the port at a place received a PDU, and the streams of which that changed what is registered
+-- await everywhere
 abbrev pub received_streams : Cs → ℕ → MsrpPdu → Streams → Streams
 received_streams now at pdu side =
     at_port at
     (λ p. with_told_port at (with_part (received_part now pdu p.part) p) (told_by_receipt now pdu p.part) side)
     side
 
--- all timers that are due at a place have fired, and the streams of the keys that left await everywhere
+-- all timers that are due at a place have fired, and the streams of the keys that left await
+-- everywhere
 abbrev pub due_streams : Cs → ℕ → Streams → Streams
 due_streams now at side =
     at_port at
@@ -112,14 +116,16 @@ due_streams now at side =
 abbrev pub left_key : MsrpKey → Part → List MsrpKey
 left_key key s = if is_leaving_in (find key_cmp key s.rows) then key ∷ [] else []
 
--- the leave timer of one key has ended at a place, and where the key left, its stream awaits everywhere
+-- the leave timer of one key has ended at a place, and where the key left, its stream awaits
+-- everywhere
 abbrev pub left_streams : ℕ → MsrpKey → Streams → Streams
 left_streams at key side =
     at_port at
     (λ p. with_told_port at (with_part (left_state key_cmp key p.part) p) (left_key key p.part) side)
     side
 
--- the LeaveAll timer has fired at a place: the LeaveAll machine is Active, and the timer restarts (10.7.9)
+-- the LeaveAll timer has fired at a place: the LeaveAll machine is Active, and the timer restarts
+-- (10.7.9)
 abbrev pub leave_all_streams : Cs → ℕ → Streams → Streams
 leave_all_streams now at side =
     at_port at (λ p. with_port_at at (with_part (leave_all_state now p.part) p) side) side
@@ -156,8 +162,8 @@ moved_keys at side port =
     listener_keys
     (moved_streams port.ledger (next_book at (seen_by side) (awaiting_at at side) port))
 
--- it is settled, and no key awaits there; the Listener keys of the streams that are booked or dropped there await at
--- every other port
+-- it is settled, and no key awaits there; the Listener keys of the streams that are booked or
+-- dropped there await at every other port
 abbrev pub settled_streams : ℕ → Streams → Streams
 settled_streams at side = at_port at (λ p. record side {
   ports = slice_set side.ports at (settled_at at side p);
@@ -196,7 +202,8 @@ talks_without stream talks = filter (λ (t : Talker). not (t.stream.0 == stream.
 abbrev pub listens_without : StreamId → List StreamId → List StreamId
 listens_without stream listens = filter (λ (x : StreamId). not (x.0 == stream.0)) listens
 
--- the application's Talkers and streams are other ones, which differ at one stream, whose keys await at every port
+-- the application's Talkers and streams are other ones, which differ at one stream, whose keys
+-- await at every port
 abbrev pub with_asks : StreamId → List Talker → List StreamId → Streams → Streams
 with_asks stream talks listens side =
     record side {
@@ -218,8 +225,9 @@ abbrev pub is_talk : Option Talker → Talker → Bool
 is_talk None talker = false
 is_talk (Some was) talker = same_talker was talker
 
--- what the application asks for: to talk with a Talker, which takes the place of its stream's, to talk a stream no
--- more, to listen to one, or to listen no more; where that is so already, nothing changes
+-- what the application asks for: to talk with a Talker, which takes the place of its stream's, to
+-- talk a stream no more, to listen to one, or to listen no more; where that is so already, nothing
+-- changes
 abbrev pub requested_streams : SrpRequest → Streams → Streams
 requested_streams (Talk talker) side =
     if is_talk (talk_of talker.stream side.talks) talker then side
@@ -250,17 +258,17 @@ is_busy now side =
 
 -- ---- what every side keeps
 
--- a port's participant has a participant's rows, with contents of their keys, and its ledger is a ledger at the
--- moment of the side
+-- a port's participant has a participant's rows, with contents of their keys, and its ledger is a
+-- ledger at the moment of the side
 pub record IsPort (now : ℕ) (port : PortState) : Type 0 where
   pub rows : AreRows key_cmp port.part.rows
   pub contents : HasOwnContents port.part
   pub ledger : IsKeptBook port.ledger
   pub moment : port.ledger.moment ≡ now
 
--- at a link port each key that doesn't await is declared exactly as the rules state it, a Domain for good, and
--- a stream of which neither key awaits is kept as wanting exactly where it wants bandwidth, with its class, rank and
--- slope
+-- at a link port each key that doesn't await is declared exactly as the rules state it, a Domain
+-- for good, and a stream of which neither key awaits is kept as wanting exactly where it wants
+-- bandwidth, with its class, rank and slope
 pub record IsSettled (at : ℕ) (port : PortState) (awaiting : List MsrpKey) (regs : StreamId → Registrations) : Type 0 where
   pub declared : (key : MsrpKey) → is_awaiting key_cmp key awaiting ≡ false
       → declared_at key_cmp key port.part ≡ stated_at at port regs key
@@ -275,7 +283,8 @@ IsSettledAt side at =
     → slice_get side.ports at ≡ Some port → slice_get side.awaiting at ≡ Some keys
     → IsSettled at port keys (seen_by side)
 
--- what every side keeps: what every port keeps, a set of awaiting keys for each, and each settled but for those keys
+-- what every side keeps: what every port keeps, a set of awaiting keys for each, and each settled
+-- but for those keys
 pub record IsKept (side : Streams) : Type 0 where
   pub ports : AllByRecursion (IsPort side.moment) side.ports
   pub sets : length side.awaiting ≡ length side.ports
@@ -292,7 +301,8 @@ HasReceived now at octets before (Err (errors.Malformed place)) after =
     (msrp_reading octets ≡ Err place) × (after ≡ before)
 HasReceived now at octets before (Err errors.NoMemory) after = after ≡ before
 
--- octets in which a PDU is written: they read as it, its events in the order of types, and fit into a frame
+-- octets in which a PDU is written: they read as it, its events in the order of types, and fit into
+-- a frame
 pub record IsWritten (pdu : MsrpPdu) (octets : List ℕ) : Type 0 where
   pub spelled : octets ≡ msrp_spelling pdu
   pub reads : msrp_reading octets ≡ Ok (as_written pdu)

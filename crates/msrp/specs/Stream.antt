@@ -1,6 +1,7 @@
--- One stream at a node: what is registered of it at each port, and what each link port declares of its Talker and
--- its Listeners, and wants for it (IEEE Std 802.1Q-2018, 35.2.4). Ports are numbered from 0, the application of a
--- station; the link port at place n of a list, counted from 0, is port n + 1.
+-- One stream at a node: what is registered of it at each port, and what each link port declares of
+-- its Talker and its Listeners, and wants for it (IEEE Std 802.1Q-2018, 35.2.4). Ports are numbered
+-- from 0, the application of a station; the link port at place n of a list, counted from 0, is port
+-- n + 1.
 use Rattle.std.specs.Prelude.{ℕ, suc, Bool, true, false, not, ◌&&◌, ◌==◌, if◌then◌else◌, List, ◌∷◌, ◌++◌, map, take, drop, find, position, Option, Some, None, is_some, is_none, option_map, option_and_then}
 use Rattle.std.specs.{List.filter_map, List.list_any, Option.unwrap_or}
 use Rattle.srp_base.specs.declared.{bandwidth.Class.Class, numbers.StreamId.StreamId, streams.Talker.Talker, streams.TalkerReg.TalkerReg, streams.ListenerKind.ListenerKind}
@@ -53,7 +54,8 @@ abbrev pub talkers_of : List Talker → List PortState → StreamId → List Tal
 talkers_of talks ports stream =
     advertise_of (talk_of stream talks) ∷ map (λ (p : PortState). registered_talker stream p.part) ports
 
--- what is registered of a stream, from the application's Talkers, the streams that it listens to, and the link ports
+-- what is registered of a stream, from the application's Talkers, the streams that it listens to,
+-- and the link ports
 abbrev pub registrations_of : List Talker → List StreamId → List PortState → StreamId → Registrations
 registrations_of talks listens ports stream =
     record {
@@ -103,12 +105,13 @@ want_in_class talker class =
 abbrev pub want_of_talker : Talker → Option Want
 want_of_talker talker = option_map (want_in_class talker) (class_of_priority talker.priority)
 
--- whether a link port is at the boundary of the SRP domain of a stream's class, that of the Talker at the Talker's port
+-- whether a link port is at the boundary of the SRP domain of a stream's class, that of the Talker
+-- at the Talker's port
 abbrev pub edge_at : PortState → List TalkerReg → Bool
 edge_at port talkers = is_edge port.domain port.part (first_talker talkers)
 
--- what is wanted for a registered Talker: only one that is advertised is served, where the port is no boundary for it and
--- where it isn't refused by each port anyway
+-- what is wanted for a registered Talker: only one that is advertised is served, where the port is
+-- no boundary for it and where it isn't refused by each port anyway
 abbrev pub want_of_reg : Bool → TalkerReg → Option Want
 want_of_reg edge Absent = None
 want_of_reg edge (Failed talker failure) = None
@@ -126,8 +129,9 @@ abbrev pub is_ready : Option ListenerKind → Bool
 is_ready None = false
 is_ready (Some kind) = is_ready_kind kind
 
--- what a link port, at a place, wants for a stream: the advertised Talker's bandwidth, where the Talker's port is
--- another one, Listener Ready or Ready Failed is registered here, and the port is no boundary for the Talker
+-- what a link port, at a place, wants for a stream: the advertised Talker's bandwidth, where the
+-- Talker's port is another one, Listener Ready or Ready Failed is registered here, and the port is
+-- no boundary for the Talker
 abbrev pub wanted_at : ℕ → PortState → List TalkerReg → StreamId → Option Want
 wanted_at at port talkers stream =
     if is_talker_port (suc at) talkers then None
@@ -137,16 +141,16 @@ wanted_at at port talkers stream =
 
 -- ---- what a link port declares
 
--- whether what the Talker asks for fits at the link port at a place, by its ledger; None where there is no Talker,
--- where its port is this one, and where its priority has no SR class
+-- whether what the Talker asks for fits at the link port at a place, by its ledger; None where
+-- there is no Talker, where its port is this one, and where its priority has no SR class
 abbrev pub fit_at : ℕ → ℕ → Book → List TalkerReg → Option Fit
 fit_at now at book talkers =
     if is_talker_port (suc at) talkers then None
     else option_map (fit_for now book)
     (option_and_then want_of_talker (talker_in (first_talker talkers)))
 
--- what a link port, at a place, declares of the Talker: nothing at the Talker's own port, and elsewhere what `talker_out`
--- makes of what is registered there (35.2.4.3)
+-- what a link port, at a place, declares of the Talker: nothing at the Talker's own port, and
+-- elsewhere what `talker_out` makes of what is registered there (35.2.4.3)
 abbrev pub talker_at : ℕ → PortState → List TalkerReg → TalkerReg
 talker_at at port talkers =
     if is_talker_port (suc at) talkers then Absent
@@ -159,7 +163,8 @@ is_advertised Absent = false
 is_advertised (Advertise talker) = true
 is_advertised (Failed talker failure) = false
 
--- a listening application counts as Ready, and has the stream where the Talker at the Talker's port is advertised
+-- a listening application counts as Ready, and has the stream where the Talker at the Talker's port
+-- is advertised
 abbrev pub own_listener : Registrations → Option PortListener
 own_listener r =
     if r.listens then Some (record { kind = Ready; booked = is_advertised (first_talker r.talkers) })
@@ -170,14 +175,14 @@ abbrev pub other_listeners : ℕ → Registrations → List PortListener
 other_listeners at r =
     filter_map (λ row. row) (own_listener r ∷ (take at r.listeners ++ drop (suc at) r.listeners))
 
--- what the link port at a place declares of Listeners: at the Talker's port those at all other ports, merged
--- (35.2.4.4), and elsewhere nothing
+-- what the link port at a place declares of Listeners: at the Talker's port those at all other
+-- ports, merged (35.2.4.4), and elsewhere nothing
 abbrev pub listener_at : ℕ → Registrations → Option ListenerKind
 listener_at at r =
     if is_talker_port (suc at) r.talkers then listener_out (other_listeners at r) else None
 
--- what a link port, at a place, declares of a key, by what is registered of each stream; a Domain is declared for good,
--- whatever is registered anywhere
+-- what a link port, at a place, declares of a key, by what is registered of each stream; a Domain
+-- is declared for good, whatever is registered anywhere
 abbrev pub stated_at : ℕ → PortState → (StreamId → Registrations) → MsrpKey → Option MsrpContent
 stated_at at port regs (keys.Talker stream) =
     talker_content (talker_at at port (regs stream).talkers)
@@ -193,8 +198,9 @@ heard_from Absent = None
 heard_from (Advertise talker) = Some Ready
 heard_from (Failed talker failure) = Some AskingFailed
 
--- what a listening application hears of the stream: Ready where the Talker is advertised, AskingFailed where it
--- failed; nothing where it doesn't listen, or where no link port is the Talker's port
+-- what a listening application hears of the stream: Ready where the Talker is advertised,
+-- AskingFailed where it failed; nothing where it doesn't listen, or where no link port is the
+-- Talker's port
 abbrev pub heard_by : Registrations → Option ListenerKind
 heard_by r =
     if r.listens && not (is_talker_port 0 r.talkers) then heard_from (first_talker r.talkers) else None

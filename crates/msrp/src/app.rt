@@ -1,12 +1,12 @@
-//! MSRP as an application of MRP (IEEE Std 802.1Q-2018, 35.2.2, 35.2.4): its attributes are Talkers, Listeners
-//! and Domains, each with what it declares.
+//! MSRP as an application of MRP (IEEE Std 802.1Q-2018, 35.2.2, 35.2.4): its attributes are
+//! Talkers, Listeners and Domains, each with what it declares.
 
 use mrp_participant::MrpApp;
 use msrp_codec::{MsrpContent, MsrpKey};
 
-/// MSRP as an application of MRP: a key is the Talker or the Listeners of a stream, or a Domain, and the
-/// content what is declared of it. A PDU takes 106 octets, and each declaration 28 for a Talker Advertise, 37 for
-/// a Talker Failed, 12 for a Listener and 7 for a Domain.
+/// MSRP as an application of MRP: a key is the Talker or the Listeners of a stream, or a Domain,
+/// and the content what is declared of it. A PDU takes 106 octets, and each declaration 28 for a
+/// Talker Advertise, 37 for a Talker Failed, 12 for a Listener and 7 for a Domain.
 pub struct MsrpApp;
 
 impl MrpApp for MsrpApp {
@@ -39,5 +39,10 @@ impl MrpApp for MsrpApp {
 
     ghost base_fits = { Prim.omega arith };
 
-    ghost row_fits = { elim [ Advertise t ↦ Prim.omega arith | Failed t f ↦ Prim.omega arith | Listener kind ↦ Prim.omega arith | Domain priority vid ↦ Prim.omega arith ] };
+    ghost row_fits = { elim [
+      | Advertise t ↦ Prim.omega arith
+      | Failed t f ↦ Prim.omega arith
+      | Listener kind ↦ Prim.omega arith
+      | Domain priority vid ↦ Prim.omega arith
+    ] };
 }

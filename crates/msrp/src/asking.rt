@@ -18,7 +18,8 @@ use srp_base::{NoMemory, StreamId, Talker};
 /// What the application of a station asks of MSRP (IEEE Std 802.1Q-2018, 35.2.3.1).
 #[derive(Clone, Copy, PartialEq, Eq)]
 pub enum SrpRequest {
-    /// To talk a stream, as this Talker states it. A Talker takes the place of another of its stream.
+    /// To talk a stream, as this Talker states it. A Talker takes the place of another of its
+    /// stream.
     Talk(Talker),
     /// To talk a stream no more.
     Hush(StreamId),
@@ -29,9 +30,9 @@ pub enum SrpRequest {
 }
 
 impl MsrpSide {
-    /// Does what the application asks for: it talks a stream or not, and listens to one or not (IEEE Std
-    /// 802.1Q-2018, 35.2.3.1). Where that changes what the application has asked for, the Talker key and the
-    /// Listener key of the stream await at every link port.
+    /// Does what the application asks for: it talks a stream or not, and listens to one or not
+    /// (IEEE Std 802.1Q-2018, 35.2.3.1). Where that changes what the application has asked for, the
+    /// Talker key and the Listener key of the stream await at every link port.
     pub fn request(&mut self, request: SrpRequest) -> Result<(), NoMemory>
         ensures ok { OnOk result (self.new.state ≡ requested_streams request self.old.state) }
         ensures err { OnErr result (self.new.state ≡ self.old.state) }

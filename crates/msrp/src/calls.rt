@@ -22,11 +22,12 @@ use msrp_codec::{DecodeErr, MsrpKey, MsrpPdu, decode};
 use srp_base::{Cs, NoMemory, PortNo};
 
 impl MsrpSide {
-    /// Takes the octets of a PDU that came in at a link port at the moment `now`, in cs and below 2^62: its
-    /// LeaveAll first, then its events in order (IEEE Std 802.1Q-2018, 10.7.5). Answers the number of its
-    /// events. Where what is registered of a stream's Talker or Listeners changes, both keys of the stream await at
-    /// every link port. Where what is registered of a Domain changes, and Domains aren't off, both keys of each stream
-    /// with a Talker or Listeners at the node await at this port alone.
+    /// Takes the octets of a PDU that came in at a link port at the moment `now`, in cs and below
+    /// 2^62: its LeaveAll first, then its events in order (IEEE Std 802.1Q-2018, 10.7.5). Answers
+    /// the number of its events. Where what is registered of a stream's Talker or Listeners
+    /// changes, both keys of the stream await at every link port. Where what is registered of a
+    /// Domain changes, and Domains aren't off, both keys of each stream with a Talker or Listeners
+    /// at the node await at this port alone.
     ///
     /// # Errors
     ///
@@ -76,9 +77,9 @@ impl MsrpSide {
         )
     }
 
-    /// Fires the timers of a link port that are due at the moment `now`, in cs and below 2^62 (IEEE Std
-    /// 802.1Q-2018, 10.7.4). Answers their number. Where a Talker or a Listener leaves, both keys of its stream await
-    /// at every link port.
+    /// Fires the timers of a link port that are due at the moment `now`, in cs and below 2^62 (IEEE
+    /// Std 802.1Q-2018, 10.7.4). Answers their number. Where a Talker or a Listener leaves, both
+    /// keys of its stream await at every link port.
     pub fn due(&mut self, now: Cs, port: PortNo) -> Result<u32, NoMemory>
         requires now { now.0 < 2 ^ 62 }
         requires port { IsLinkPort port (length self.old.state.ports) }
@@ -125,9 +126,9 @@ impl MsrpSide {
         )
     }
 
-    /// Ends the leave timer of one key at a link port, whatever the moment: LV becomes MT, and where it does both keys
-    /// of the key's stream await at every link port. True exactly where the registrar was LV; where it wasn't, nothing
-    /// changes.
+    /// Ends the leave timer of one key at a link port, whatever the moment: LV becomes MT, and
+    /// where it does both keys of the key's stream await at every link port. True exactly where the
+    /// registrar was LV; where it wasn't, nothing changes.
     pub fn leave_now(&mut self, port: PortNo, key: MsrpKey) -> Result<bool, NoMemory>
         requires { IsLinkPort port (length self.old.state.ports) }
         ensures after { OnOk result (self.new.state
@@ -153,8 +154,9 @@ impl MsrpSide {
         )
     }
 
-    /// Fires the LeaveAll timer of a link port at the moment `now`, in cs and below 2^62, whatever its own
-    /// moment: the machine is Active, and the timer starts anew (IEEE Std 802.1Q-2018, 10.7.9).
+    /// Fires the LeaveAll timer of a link port at the moment `now`, in cs and below 2^62, whatever
+    /// its own moment: the machine is Active, and the timer starts anew (IEEE Std 802.1Q-2018,
+    /// 10.7.9).
     pub fn leaveall_now(&mut self, now: Cs, port: PortNo)
         requires now { now.0 < 2 ^ 62 }
         requires port { IsLinkPort port (length self.old.state.ports) }
@@ -166,8 +168,8 @@ impl MsrpSide {
         self.ready = false;
     }
 
-    /// Gives the periodic event to each key of a link port, also where periodic transmission is off (IEEE Std
-    /// 802.1Q-2018, 10.7.10).
+    /// Gives the periodic event to each key of a link port, also where periodic transmission is off
+    /// (IEEE Std 802.1Q-2018, 10.7.10).
     pub fn periodic_now(&mut self, port: PortNo)
         requires { IsLinkPort port (length self.old.state.ports) }
         ensures after { self.new.state ≡ periodic_streams (place_of port) self.old.state }

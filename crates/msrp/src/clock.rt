@@ -17,8 +17,9 @@ use msrp_codec::MsrpKey;
 use srp_base::{Cs, NoMemory, Talker};
 
 impl MsrpSide {
-    /// Makes the side ready for the clock: afterwards `clock` takes no memory, and all else is as before. Each call that
-    /// may change the side ends its readiness. After want of memory the state is as it was.
+    /// Makes the side ready for the clock: afterwards `clock` takes no memory, and all else is as
+    /// before. Each call that may change the side ends its readiness. After want of memory the
+    /// state is as it was.
     pub fn clock_room(&mut self) -> Result<(), NoMemory>
         ensures state { self.new.state ≡ self.old.state }
         ensures ready { OnOk result (self.new.ready ≡ true) }
@@ -36,9 +37,10 @@ impl MsrpSide {
         Ok(())
     }
 
-    /// Sets the moment of all ledgers, in cs, to one that isn't before the last. Where a booking is older now than
-    /// what isn't booked, so that a want may fit otherwise than before, the Talker keys of all streams with a
-    /// registered Talker await. Want of memory comes only where the side isn't ready.
+    /// Sets the moment of all ledgers, in cs, to one that isn't before the last. Where a booking is
+    /// older now than what isn't booked, so that a want may fit otherwise than before, the Talker
+    /// keys of all streams with a registered Talker await. Want of memory comes only where the side
+    /// isn't ready.
     pub fn clock(&mut self, now: Cs) -> Result<(), NoMemory>
         requires { self.old.state.moment ≤ now.0 }
         ensures ok { OnOk result (self.new.state ≡ clocked_streams now.0 self.old.state) }
@@ -57,8 +59,8 @@ impl MsrpSide {
         Ok(())
     }
 
-    /// Whether a clock that is set to a moment, in cs, shows at some port that a want which isn't booked may fit otherwise
-    /// than before.
+    /// Whether a clock that is set to a moment, in cs, shows at some port that a want which isn't
+    /// booked may fit otherwise than before.
     pub fn clock_shows(&self, now: Cs) -> bool
         ensures { result ≡ list_any (shows_at now.0) self.now.state.ports }
     {
@@ -78,7 +80,8 @@ impl MsrpSide {
         self.ready = false;
     }
 
-    // Sets the moment of a side that is ready, and puts the Talker keys in at each port where the clock shows.
+    // Sets the moment of a side that is ready, and puts the Talker keys in at each port where the
+    // clock shows.
     fn show(&mut self, now: Cs)
         requires moment { self.old.state.moment ≤ now.0 }
         requires ready { self.old.ready ≡ true }
@@ -125,7 +128,8 @@ fn talker_room(
     room_everywhere(sets, count)
 }
 
-// Puts the Talker keys of all streams with a Talker in at each port where the clock shows. There is room for them.
+// Puts the Talker keys of all streams with a Talker in at each port where the clock shows. There is
+// room for them.
 fn show_all(sets: &mut Vec<Dirty<MsrpKey>>, talks: &[Talker], ports: &[Port], now: Cs)
     requires count { length sets.old.items ≡ length ports.now }
     requires room { HasRoom (length (talker_keys talks.now (ports_in ports.now))) sets.old.items }

@@ -1,4 +1,5 @@
-//! SRP domains: the Domain values that a node's link ports declare, and where a port is at the boundary of one.
+//! SRP domains: the Domain values that a node's link ports declare, and where a port is at the
+//! boundary of one.
 
 ghost use Rattle.std.specs.Prelude.{◌≡◌, OnOk};
 ghost use Rattle.msrp.specs.Domain.{are_counted, class_id, class_in, class_priority, domain_content, domain_key, domain_part, domain_stated, has_class, is_boundary, is_boundary_of, is_edge, is_value};
@@ -12,15 +13,18 @@ use msrp_codec::{MsrpContent, MsrpKey};
 use msrp_talker::class_of;
 use srp_base::{Class, NoMemory, TalkerReg};
 
-/// Which Domain values a node declares at each of its link ports, from the start and for good (IEEE Std 802.1Q-2018,
-/// 35.2.2.9): class A is SRclassID 6 with priority 3, class B is SRclassID 5 with priority 2, each with VID 2.
+/// Which Domain values a node declares at each of its link ports, from the start and for good (IEEE
+/// Std 802.1Q-2018, 35.2.2.9): class A is SRclassID 6 with priority 3, class B is SRclassID 5 with
+/// priority 2, each with VID 2.
 ///
-/// A port is at the boundary of a class's SRP domain where its node doesn't declare the class's Domain value, or that
-/// very value isn't registered at the port. The standard's boundary is one of priorities (35.1.4); that a Domain with
-/// another VID is no agreement either is this project's own rule.
+/// A port is at the boundary of a class's SRP domain where its node doesn't declare the class's
+/// Domain value, or that very value isn't registered at the port. The standard's boundary is one of
+/// priorities (35.1.4); that a Domain with another VID is no agreement either is this project's own
+/// rule.
 #[derive(Clone, Copy, PartialEq, Eq)]
 pub enum DomainSet {
-    /// Domains are off: none is declared, those of neighbours are nothing to the node, and no port is a boundary.
+    /// Domains are off: none is declared, those of neighbours are nothing to the node, and no port
+    /// is a boundary.
     Off,
     /// No Domain value: each link port is at the boundary of both classes.
     Nothing,
@@ -176,7 +180,8 @@ fn class_in(reg: TalkerReg) -> Option<Class>
     }
 }
 
-// Whether a port, with its participant, is at the boundary of the domain of a registered Talker's class.
+// Whether a port, with its participant, is at the boundary of the domain of a registered Talker's
+// class.
 pub(crate) fn is_edge(domain: DomainSet, part: &Participant<MsrpApp>, reg: TalkerReg) -> bool
     ensures { result ≡ is_edge domain part.now.state reg }
 {

@@ -1,5 +1,5 @@
-//! What the link port at a place does, in its place, and what it tells the ports. None of this takes memory but what
-//! answers that there was none.
+//! What the link port at a place does, in its place, and what it tells the ports. None of this
+//! takes memory but what answers that there was none.
 
 ghost use Rattle.std.specs.Prelude.{◌≡◌, ◌<◌, ◌^◌, false, length, slice_get, ℕ, List, IsOk, IfOk, IfSome, OnOk, OnErr};
 ghost use Rattle.std.specs.List.{AllByRecursion};
@@ -72,8 +72,8 @@ pub(crate) fn sent_at(ports: &mut Vec<Port>, at: usize, now: Cs)
 
 // ---- what tells keys
 
-// The port at a place receives messages, and the keys whose registration that changes are told. After want of memory
-// all are as they were.
+// The port at a place receives messages, and the keys whose registration that changes are told.
+// After want of memory all are as they were.
 pub(crate) fn receive_at(
     ports: &mut Vec<Port>,
     sets: &mut Vec<Dirty<MsrpKey>>,
@@ -117,8 +117,8 @@ pub(crate) fn receive_at(
     Ok(())
 }
 
-// The timers that are due at a place fire, and the keys that leave are told. Answers how many fired. After want of
-// memory all are as they were.
+// The timers that are due at a place fire, and the keys that leave are told. Answers how many
+// fired. After want of memory all are as they were.
 pub(crate) fn fire_at(
     ports: &mut Vec<Port>,
     sets: &mut Vec<Dirty<MsrpKey>>,
@@ -156,8 +156,8 @@ pub(crate) fn fire_at(
     Ok(fired)
 }
 
-// The leave timer of one key ends at a place, and where the key leaves, it is told. True exactly where its registrar was
-// LV; else no memory is taken. After want of memory all are as they were.
+// The leave timer of one key ends at a place, and where the key leaves, it is told. True exactly
+// where its registrar was LV; else no memory is taken. After want of memory all are as they were.
 pub(crate) fn leave_at(
     ports: &mut Vec<Port>,
     sets: &mut Vec<Dirty<MsrpKey>>,

@@ -1,5 +1,6 @@
-//! What settling a port does to the keys that await, what MSRP at a node keeps at each call, and what it sends: laws
-//! over the states that contracts see. Each is a function that does nothing; calling it brings the law to a proof.
+//! What settling a port does to the keys that await, what MSRP at a node keeps at each call, and
+//! what it sends: laws over the states that contracts see. Each is a function that does nothing;
+//! calling it brings the law to a proof.
 
 ghost use Rattle.std.specs.Prelude.{◌≡◌, ◌≢◌, ◌⊎◌, ◌↔◌, ◌||◌, ◌<◌, ◌≤◌, ◌^◌, ℕ, suc, Bool, true, false, List, [], length, slice_get, Some, None};
 ghost use Rattle.std.specs.List.{AllByRecursion};
@@ -36,8 +37,9 @@ use port_ledger::laws::{
 };
 use srp_base::StreamId;
 
-/// Settling a port once leaves nothing awaiting there. At each other port it leaves what awaits, and adds exactly the
-/// Listener keys of the streams that it booked or dropped; of the ports it changes its own alone.
+/// Settling a port once leaves nothing awaiting there. At each other port it leaves what awaits,
+/// and adds exactly the Listener keys of the streams that it booked or dropped; of the ports it
+/// changes its own alone.
 pub fn one_settling_is_enough()
     ensures here { (at : ℕ) (side : Streams) (port : PortState)
         → slice_get side.ports at ≡ Some port
@@ -133,7 +135,8 @@ pub fn every_call_keeps_a_side_proper()
     what_is_asked_holds::<MsrpApp>();
 }
 
-/// So do settling, a request of the application whose Talker fits, and a clock that doesn't go back.
+/// So do settling, a request of the application whose Talker fits, and a clock that doesn't go
+/// back.
 pub fn settling_and_requests_keep_a_side_proper()
     ensures settle { (at : ℕ) (side : Streams) → IsProper side
         → IsProper (settled_streams at side) }
@@ -156,9 +159,9 @@ pub fn settling_and_requests_keep_a_side_proper()
     what_has_not_moved_is_booked_as_before();
 }
 
-/// What a participant sends, where it isn't silent, is written in octets that read as it, its events in the order of
-/// types, at most 1,500. The keys of its events ascend strictly, and what is read has of each key the same one event,
-/// or none; each event is of its key and fits.
+/// What a participant sends, where it isn't silent, is written in octets that read as it, its
+/// events in the order of types, at most 1,500. The keys of its events ascend strictly, and what is
+/// read has of each key the same one event, or none; each event is of its key and fits.
 pub fn what_is_sent_is_read()
     ensures written { (now : Cs) (s : Part) → AreRows key_cmp s.rows → HasOwnContents s
         → HasRanges s → is_silent s ≡ false
@@ -208,8 +211,9 @@ pub fn calls_keep_the_ports()
     ensures count { (a b : Streams) → setups_of a ≡ setups_of b → length a.ports ≡ length b.ports }
 {}
 
-/// A port is at the boundary of a class's SRP domain exactly where Domains are heeded, and its node doesn't declare the
-/// Domain value of the class, or something else than that very value is registered there, or nothing.
+/// A port is at the boundary of a class's SRP domain exactly where Domains are heeded, and its node
+/// doesn't declare the Domain value of the class, or something else than that very value is
+/// registered there, or nothing.
 pub fn a_boundary_lacks_the_domain_value()
     ensures { (domain : DomainSet) (s : Part) (class : Class)
         → (is_boundary domain s class ≡ true)
@@ -217,8 +221,8 @@ pub fn a_boundary_lacks_the_domain_value()
         ⊎ (registered_at key_cmp (domain_key class) s ≢ Some (domain_content class)))) }
 {}
 
-/// At the boundary of the domain of its class no stream is wanted, and an advertised Talker that each port could serve is
-/// declared failed, with this bridge and code 8.
+/// At the boundary of the domain of its class no stream is wanted, and an advertised Talker that
+/// each port could serve is declared failed, with this bridge and code 8.
 pub fn a_boundary_serves_no_stream()
     ensures wanted { (at : ℕ) (port : PortState) (talkers : List TalkerReg) (stream : StreamId)
         → edge_at port talkers ≡ true → wanted_at at port talkers stream ≡ None }
@@ -229,8 +233,8 @@ pub fn a_boundary_serves_no_stream()
         (record { bridge = port.config.bridge; code = 8 }) }
 {}
 
-/// Where Domains are off a port is at no boundary, declares none, and one that is told makes no more await than if there
-/// were none.
+/// Where Domains are off a port is at no boundary, declares none, and one that is told makes no
+/// more await than if there were none.
 pub fn domains_that_are_off_are_nothing()
     ensures boundary { (s : Part) (reg : TalkerReg) → is_edge Off s reg ≡ false }
     ensures made { (s : Part) → domain_part Off s ≡ s }

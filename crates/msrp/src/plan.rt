@@ -1,4 +1,5 @@
-//! What settling a port needs, taken together before anything changes: what its streams want, and lists that have room.
+//! What settling a port needs, taken together before anything changes: what its streams want, and
+//! lists that have room.
 
 ghost use Rattle.std.specs.Prelude.{◌≡◌, ◌+◌, ◌≤◌, ◌<◌, [], length, map, vec_capacity, vec_len, IfOk};
 ghost use Rattle.std.specs.List.{filter_map};
@@ -77,7 +78,8 @@ fn bookings(ledger: &Ledger) -> Result<Seq<Entry>, NoMemory>
     ledger.bookings()
 }
 
-// How many streams may move where so many are asked for: each that has an entry then, and each that was booked.
+// How many streams may move where so many are asked for: each that has an entry then, and each that
+// was booked.
 fn most_moved(ledger: &Ledger, before: &[Entry], asked: usize) -> Result<usize, NoMemory>
     ensures { IfOk result (λ n. n
         ≡ (length ledger.now.book.entries + length before.now) + asked) }

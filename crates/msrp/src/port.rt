@@ -23,8 +23,8 @@ use std::alloc::Global;
 use std::marker::Model;
 use stream_importance::Entry;
 
-// A link port of a node as MSRP has it (IEEE Std 802.1Q-2018, 35.2). Contracts see a `PortHolding`: the `PortState`, and
-// for how many new keys and streams there is room.
+// A link port of a node as MSRP has it (IEEE Std 802.1Q-2018, 35.2). Contracts see a `PortHolding`:
+// the `PortState`, and for how many new keys and streams there is room.
 #[derive(Drop)]
 pub(crate) struct Port {
     // The node's bridge, and the latency in ns that the port adds to a Talker's.
@@ -43,7 +43,8 @@ impl Model for Port {
     ghost Value = { PortHolding };
 
     ghost view = { λ p. record {
-      state = record { config = p.config; domain = p.domain; part = p.part.state; ledger = p.ledger.book };
+      state = record
+          { config = p.config; domain = p.domain; part = p.part.state; ledger = p.ledger.book };
       rows = p.part.spare;
       wants = p.ledger.spare;
     } };
@@ -102,7 +103,8 @@ impl Port {
         &self.ledger
     }
 
-    // Whether a clock that is set to a moment shows that a want which isn't booked may fit otherwise than before.
+    // Whether a clock that is set to a moment shows that a want which isn't booked may fit
+    // otherwise than before.
     pub(crate) fn shows_at(&self, now: Cs) -> bool
         ensures { result ≡ shows_at now.0 self.now.state }
     {
@@ -121,7 +123,8 @@ impl Port {
         }
     }
 
-    // Receives messages. Answers the keys whose registration that changes. After want of memory the state is as it was.
+    // Receives messages. Answers the keys whose registration that changes. After want of memory the
+    // state is as it was.
     pub(crate) fn receive(
         &mut self,
         now: Cs,
@@ -138,8 +141,8 @@ impl Port {
         self.part.receive(now, msgs)
     }
 
-    // Fires the timers that are due. Answers how many, and the keys that leave. After want of memory the state is as it
-    // was.
+    // Fires the timers that are due. Answers how many, and the keys that leave. After want of
+    // memory the state is as it was.
     pub(crate) fn due(&mut self, now: Cs) -> Result<(u32, Seq<MsrpKey>), NoMemory>
         requires { now.0 < 2 ^ 62 }
         ensures after { OnOk result (self.new.state
@@ -211,8 +214,9 @@ impl Port {
         self.ledger.room(wants)
     }
 
-    // Those of these streams that want nothing are taken out of the ledger, and then those that want bandwidth entered.
-    // What that changed in the booked set, by the bookings before, is put at the end of a list. There is room for all.
+    // Those of these streams that want nothing are taken out of the ledger, and then those that
+    // want bandwidth entered. What that changed in the booked set, by the bookings before, is put
+    // at the end of a list. There is room for all.
     pub(crate) fn decide(&mut self, asked: &[Asked], before: &[Entry], moved: &mut Vec<StreamId>)
         requires wants { length asked.now ≤ self.old.wants }
         requires before { IsAscending before.now }

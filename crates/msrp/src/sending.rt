@@ -20,9 +20,9 @@ use srp_base::{Cs, NoMemory, PortNo, Seq};
 use std::alloc::Global;
 
 impl MsrpSide {
-    /// What a link port sends at the moment `now`, in cs and below 2^62: the octets of its PDU, at most 1,500
-    /// (IEEE Std 802.1Q-2018, 10.7.6, 10.8). None exactly where its participant has nothing to say; nothing
-    /// changes then.
+    /// What a link port sends at the moment `now`, in cs and below 2^62: the octets of its PDU, at
+    /// most 1,500 (IEEE Std 802.1Q-2018, 10.7.6, 10.8). None exactly where its participant has
+    /// nothing to say; nothing changes then.
     pub fn send(&mut self, now: Cs, port: PortNo) -> Result<Option<Seq<u8>>, NoMemory>
         requires now { now.0 < 2 ^ 62 }
         requires port { IsLinkPort port (length self.old.state.ports) }

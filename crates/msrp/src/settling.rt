@@ -35,13 +35,14 @@ use srp_base::{Cs, NoMemory, PortNo, StreamId, Talker};
 use stream_importance::Want;
 
 impl MsrpSide {
-    /// Settles the keys that await at a link port (IEEE Std 802.1Q-2018, 35.2.4). Of their streams those that want no
-    /// bandwidth there are taken out of the port's ledger, ascending, and then those that want it are entered,
-    /// ascending. Then Talkers and Listeners are declared or withdrawn as what is registered at all ports says: those
-    /// whose keys await, and where the booked set changed the Talkers of all streams. Answers how many keys awaited;
-    /// none does afterwards. The Listener keys of the streams that were booked or dropped await at every other link
-    /// port. All memory is taken before anything changes. `now`, in cs, is the moment of the last clock, or 0 before the
-    /// first.
+    /// Settles the keys that await at a link port (IEEE Std 802.1Q-2018, 35.2.4). Of their streams
+    /// those that want no bandwidth there are taken out of the port's ledger, ascending, and then
+    /// those that want it are entered, ascending. Then Talkers and Listeners are declared or
+    /// withdrawn as what is registered at all ports says: those whose keys await, and where the
+    /// booked set changed the Talkers of all streams. Answers how many keys awaited; none does
+    /// afterwards. The Listener keys of the streams that were booked or dropped await at every
+    /// other link port. All memory is taken before anything changes. `now`, in cs, is the moment of
+    /// the last clock, or 0 before the first.
     pub fn settle(&mut self, now: Cs, port: PortNo) -> Result<u32, NoMemory>
         requires now { now.0 ≡ self.old.state.moment }
         requires port { IsLinkPort port (length self.old.state.ports) }
@@ -103,8 +104,8 @@ pub(crate) fn settling_keeps_a_side()
     nothing_changed_where_both_lists_are_empty();
 }
 
-// The keys that await at a place are settled, and none awaits there afterwards. Answers how many there were. After want of
-// memory all are as they were.
+// The keys that await at a place are settled, and none awaits there afterwards. Answers how many
+// there were. After want of memory all are as they were.
 fn settle_at(
     ports: &mut Vec<Port>,
     sets: &mut Vec<Dirty<MsrpKey>>,
@@ -157,7 +158,8 @@ fn set_room(sets: &mut Vec<Dirty<MsrpKey>>, at: usize, keys: usize) -> Result<()
     sets[at].room(keys)
 }
 
-// Makes room for what a plan may put into the port at a place and into the sets of awaiting keys. No state changes.
+// Makes room for what a plan may put into the port at a place and into the sets of awaiting keys.
+// No state changes.
 fn room_at(
     ports: &mut Vec<Port>,
     sets: &mut Vec<Dirty<MsrpKey>>,
@@ -222,7 +224,8 @@ fn carry_out(
 
 // ---- which keys are settled
 
-// Where the booking of some stream moved, the Talker keys of all streams with a Talker are put in. There is room for them.
+// Where the booking of some stream moved, the Talker keys of all streams with a Talker are put in.
+// There is room for them.
 fn mark_moved(set: &mut Dirty<MsrpKey>, moved: &[StreamId], talks: &[Talker], ports: &[Port])
     requires { length (talker_keys talks.now (ports_in ports.now)) ≤ set.old.spare }
     ensures keys { set.new.keys
@@ -246,7 +249,8 @@ fn push_listeners(out: &mut Vec<MsrpKey>, streams: &[StreamId])
     }
 }
 
-// The Listener keys of streams await at every place but one, by way of an empty list with room for them.
+// The Listener keys of streams await at every place but one, by way of an empty list with room for
+// them.
 fn tell_moved(
     sets: &mut Vec<Dirty<MsrpKey>>,
     at: usize,
@@ -316,7 +320,8 @@ pub(crate) fn enter_all(ledger: &mut Ledger, asked: &[Asked])
 
 // ---- the participant
 
-// What the port of a view declares of each of these keys is put at the end of a list that has room for as many.
+// What the port of a view declares of each of these keys is put at the end of a list that has room
+// for as many.
 fn state_all(
     view: &PortView<'_>,
     keys: &[MsrpKey],

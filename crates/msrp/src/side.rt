@@ -25,9 +25,9 @@ use std::alloc::Global;
 use std::marker::Model;
 use stream_importance::Fit;
 
-/// MSRP at a node (IEEE Std 802.1Q-2018, 35.2): a participant and a ledger at each link port, the keys that await
-/// settling there, and what the application talks and listens to. Contracts see a `SideHolding`: the `Streams`, and whether
-/// the side is ready for the clock.
+/// MSRP at a node (IEEE Std 802.1Q-2018, 35.2): a participant and a ledger at each link port, the
+/// keys that await settling there, and what the application talks and listens to. Contracts see a
+/// `SideHolding`: the `Streams`, and whether the side is ready for the clock.
 #[derive(Drop)]
 pub struct MsrpSide {
     pub(crate) ports: Vec<Port>,
@@ -56,9 +56,10 @@ impl Model for MsrpSide {
 }
 
 impl MsrpSide {
-    /// The side of a node with this BridgeID and these link ports, at each of which it declares these Domain values for
-    /// good: nothing else is declared, nothing is registered or booked, and nothing awaits. LeaveTime and each port's
-    /// period are 1 to 10,000 cs, and the two shares of each port sum to at most 90 percent.
+    /// The side of a node with this BridgeID and these link ports, at each of which it declares
+    /// these Domain values for good: nothing else is declared, nothing is registered or booked, and
+    /// nothing awaits. LeaveTime and each port's period are 1 to 10,000 cs, and the two shares of
+    /// each port sum to at most 90 percent.
     pub fn new(
         alloc: Global,
         bridge: BridgeId,
@@ -90,9 +91,10 @@ impl MsrpSide {
         })
     }
 
-    /// What every side keeps: at each link port each key that doesn't await is declared exactly as the rules state it
-    /// of all ports, a stream of which neither key awaits is kept as wanting exactly where it wants bandwidth, and
-    /// each ledger is a ledger. It is a law, and does nothing.
+    /// What every side keeps: at each link port each key that doesn't await is declared exactly as
+    /// the rules state it of all ports, a stream of which neither key awaits is kept as wanting
+    /// exactly where it wants bandwidth, and each ledger is a ledger. It is a law, and does
+    /// nothing.
     pub fn keeps(&self)
         ensures { IsKept self.now.state }
     {
@@ -132,8 +134,8 @@ impl MsrpSide {
         self.ports.len()
     }
 
-    /// What is registered of a stream at the Talker's port, the lowest-numbered port where a Talker of it is
-    /// registered, the application first.
+    /// What is registered of a stream at the Talker's port, the lowest-numbered port where a Talker
+    /// of it is registered, the application first.
     pub fn talker(&self, stream: StreamId) -> TalkerReg
         ensures { result ≡ talker_of stream self.now.state }
     {
@@ -154,9 +156,9 @@ impl MsrpSide {
         is_listened(self.listens.as_slice(), stream)
     }
 
-    /// What a listening application hears of a stream: Ready where the Talker at the Talker's port is advertised,
-    /// AskingFailed where it failed. None exactly where it doesn't listen, or where no link port is the Talker's
-    /// port.
+    /// What a listening application hears of a stream: Ready where the Talker at the Talker's port
+    /// is advertised, AskingFailed where it failed. None exactly where it doesn't listen, or where
+    /// no link port is the Talker's port.
     pub fn heard(&self, stream: StreamId) -> Option<ListenerKind>
         ensures { result ≡ heard_of stream self.now.state }
     {
@@ -169,9 +171,9 @@ impl MsrpSide {
         heard_of(talker_of(&self.view(0), stream))
     }
 
-    /// Whether what a stream's Talker asks for fits at a link port, by its ledger, at a moment in cs that isn't before
-    /// the last clock. None exactly where the stream has no Talker's port, where that is this port, or where the
-    /// Talker's priority has no SR class.
+    /// Whether what a stream's Talker asks for fits at a link port, by its ledger, at a moment in
+    /// cs that isn't before the last clock. None exactly where the stream has no Talker's port,
+    /// where that is this port, or where the Talker's priority has no SR class.
     pub fn fit(&self, now: Cs, port: PortNo, stream: StreamId) -> Option<Fit>
         requires now { self.now.state.moment ≤ now.0 }
         requires port { IsLinkPort port (length self.now.state.ports) }

@@ -1,4 +1,5 @@
-//! One stream at a node: its Talker's port, and what each link port declares of it and wants for it.
+//! One stream at a node: its Talker's port, and what each link port declares of it and wants for
+//! it.
 
 ghost use Rattle.std.specs.Prelude.{◌≡◌, ◌++◌, ◌∷◌, ◌+◌, ◌<◌, ◌≤◌, suc, List, [], Some, None, if◌then◌else◌, length, map, take, drop, find, position, option_map, option_and_then, vec_capacity, vec_len};
 ghost use Rattle.std.specs.{List.filter_map, Option.unwrap_or};
@@ -163,7 +164,8 @@ pub(crate) fn is_own(talks: &[Talker], stream: StreamId) -> bool
     talk_of(talks, stream).is_some()
 }
 
-// A stream's Talker as a link port sees it: whether the Talker's port is that port, and what is registered there.
+// A stream's Talker as a link port sees it: whether the Talker's port is that port, and what is
+// registered there.
 #[derive(Clone, Copy)]
 struct TalkerSeen {
     is_here: bool,
@@ -281,7 +283,8 @@ pub(crate) fn talker_in(reg: TalkerReg) -> Option<Talker>
     }
 }
 
-// Whether what a registered Talker asks for fits, by a ledger at a moment in cs; None where it asks for nothing.
+// Whether what a registered Talker asks for fits, by a ledger at a moment in cs; None where it asks
+// for nothing.
 fn fit_of(reg: TalkerReg, ledger: &Ledger, now: Cs) -> Option<Fit>
     requires { ledger.now.book.moment ≤ now.0 }
     ensures { result
@@ -377,8 +380,8 @@ fn after(ports: &[Port], at: usize) -> &[Port]
     &ports[at + 1..]
 }
 
-// Puts the Listeners of a stream at all ports but one, by what is registered at the Talker's port, in the place of what
-// a list has. There is room for one of each port and the application.
+// Puts the Listeners of a stream at all ports but one, by what is registered at the Talker's port,
+// in the place of what a list has. There is room for one of each port and the application.
 fn put_other_listeners(
     rows: &mut Vec<PortListener>,
     view: &PortView<'_>,
@@ -397,7 +400,8 @@ fn put_other_listeners(
     push_rows(rows, after(view.ports, view.at), stream);
 }
 
-// What a link port declares of a stream's Listeners. The list has room for one of each port and the application.
+// What a link port declares of a stream's Listeners. The list has room for one of each port and the
+// application.
 fn listener_at(
     rows: &mut Vec<PortListener>,
     view: &PortView<'_>,

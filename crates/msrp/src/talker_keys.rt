@@ -39,7 +39,8 @@ pub(crate) fn sum(some: usize, more: usize) -> Result<usize, NoMemory>
 
 // ---- putting them in
 
-// Puts the Talker keys of all streams with a Talker in. It takes no memory: there is room for as many.
+// Puts the Talker keys of all streams with a Talker in. It takes no memory: there is room for as
+// many.
 pub(crate) fn mark_talkers(set: &mut Dirty<MsrpKey>, talks: &[Talker], ports: &[Port])
     requires { length (talker_keys talks.now (ports_in ports.now)) ≤ set.old.spare }
     ensures keys { set.new.keys

@@ -1,8 +1,8 @@
-//! Bridges with two and three ports, and a station: what is registered at one port is declared at the others, what
-//! is booked and what is evicted, and what the application hears.
+//! Bridges with two and three ports, and a station: what is registered at one port is declared at
+//! the others, what is booked and what is evicted, and what the application hears.
 //!
-//! The calls stand behind functions without conditions, which are false where a call can't be made or answers another
-//! thing, so that a test's own proof is short.
+//! The calls stand behind functions without conditions, which are false where a call can't be made
+//! or answers another thing, so that a test's own proof is short.
 
 ghost use Rattle.std.specs.Prelude.{◌≡◌, ◌≤◌, ◌+◌, length, IfSome};
 ghost use Rattle.attribute_propagation.specs.Ports.{IsLinkPort};
@@ -23,7 +23,8 @@ const ONE: StreamId = StreamId(0x0200_0000_0001_0001);
 
 const TWO: StreamId = StreamId(0x0200_0000_0001_0002);
 
-// JoinMt of a Talker Advertise of stream 1: 200 octets, one frame, class A, rank 1, 500 ns; and with 1,500 ns.
+// JoinMt of a Talker Advertise of stream 1: 200 octets, one frame, class A, rank 1, 500 ns; and
+// with 1,500 ns.
 const ADVERTISE: [u8; 37] = [
     0, 1, 25, 0, 30, 0, 1, 2, 0, 0, 0, 0, 1, 0, 1, 0x91, 0xe0, 0xf0, 0, 0xfe, 1, 0, 2, 0, 200, 0,
     1, 0x70, 0, 0, 1, 0xf4, 0x6c, 0, 0, 0, 0,
@@ -85,7 +86,8 @@ fn setup(share: u64) -> Option<PortSetup>
     })
 }
 
-// Nodes with one, two and three ports. At the first two a stream of 15,488,000 bit/s fits, and no second one.
+// Nodes with one, two and three ports. At the first two a stream of 15,488,000 bit/s fits, and no
+// second one.
 fn station(alloc: Global) -> Option<MsrpSide> {
     let one = setup(20)?;
     MsrpSide::new(
@@ -188,7 +190,8 @@ fn receive(side: &mut MsrpSide, number: u8, octets: &[u8]) -> Option<Result<u32,
     Some(side.receive(Cs(1), port, octets))
 }
 
-// Whether a PDU of one event was read, or one of as many; and whether one was malformed at this place.
+// Whether a PDU of one event was read, or one of as many; and whether one was malformed at this
+// place.
 fn receives(side: &mut MsrpSide, number: u8, octets: &[u8]) -> bool {
     receives_events(side, number, octets, 1)
 }
@@ -289,7 +292,8 @@ fn clocks(side: &mut MsrpSide, now: u64) -> bool {
     now >= side.moment.0 && side.clock(Cs(now)).is_ok()
 }
 
-// Whether the side was made ready, also a second time, and then the clock set, which shows or doesn't.
+// Whether the side was made ready, also a second time, and then the clock set, which shows or
+// doesn't.
 fn clocks_ready(side: &mut MsrpSide, now: u64, shows: bool) -> bool {
     if now < side.moment.0 {
         return false;
@@ -488,7 +492,8 @@ fn a_key_leaves_at_once(rt: HostRuntime) -> Result<(), Fail> {
 
 // ---- SRP domains
 
-// Whether port 2 of a bridge declares stream 1 so, once its Talker came in at port 1 and a Listener at port 2.
+// Whether port 2 of a bridge declares stream 1 so, once its Talker came in at port 1 and a Listener
+// at port 2.
 fn fails_at_two(
     alloc: Global,
     domain: DomainSet,
@@ -548,7 +553,8 @@ fn domains_are_declared_for_good_and_not_passed_on(rt: HostRuntime) -> Result<()
     Ok(())
 }
 
-// Whether a stream goes from port 1 to port 2 of a bridge, is settled at both, and fails at port 2 as a boundary.
+// Whether a stream goes from port 1 to port 2 of a bridge, is settled at both, and fails at port 2
+// as a boundary.
 fn stands_at_a_boundary(side: &mut MsrpSide) -> bool {
     receives(side, 1, ADVERTISE.as_slice())
         && receives(side, 2, READY.as_slice())

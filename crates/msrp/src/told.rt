@@ -26,7 +26,8 @@ use std::alloc::{AllocError, Global};
 
 // ---- room
 
-// Makes room at each port for both keys of so many streams that are told and so many that are known.
+// Makes room at each port for both keys of so many streams that are told and so many that are
+// known.
 pub(crate) fn room_to_tell(
     sets: &mut Vec<Dirty<MsrpKey>>,
     told: usize,
@@ -46,8 +47,8 @@ pub(crate) fn room_to_tell(
 
 // ---- telling
 
-// Keys are told at the port at a place, which declares these Domains: what awaits everywhere then. The keys that are
-// known may be missing where no Domain has to be heeded. There is room for all.
+// Keys are told at the port at a place, which declares these Domains: what awaits everywhere then.
+// The keys that are known may be missing where no Domain has to be heeded. There is room for all.
 pub(crate) fn tell(
     sets: &mut Vec<Dirty<MsrpKey>>,
     at: usize,
@@ -215,7 +216,8 @@ fn is_domain(key: MsrpKey) -> bool
 
 // ---- what is registered at a node
 
-// The keys that are registered at a node, where they are asked for; else none, and no memory is taken.
+// The keys that are registered at a node, where they are asked for; else none, and no memory is
+// taken.
 pub(crate) fn known_where(
     alloc: Global,
     is_asked: bool,
@@ -233,7 +235,8 @@ pub(crate) fn known_where(
     }
 }
 
-// The keys that are registered at a node: those of its application, and what each link port has registered.
+// The keys that are registered at a node: those of its application, and what each link port has
+// registered.
 fn known_keys(alloc: Global, view: &PortView<'_>) -> Result<Vec<MsrpKey>, NoMemory>
     ensures { IfOk result (λ v. v.items
         ≡ known_keys view.now.talks.now view.now.listens.now (ports_in view.now.ports.now)) }

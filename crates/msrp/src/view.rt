@@ -7,8 +7,8 @@ use crate::port::Port;
 use crate::side::MsrpSide;
 use srp_base::{StreamId, Talker};
 
-// What a link port sees at its node (IEEE Std 802.1Q-2018, 35.2.4): what the application talks and listens to, all link
-// ports, and its own place among them.
+// What a link port sees at its node (IEEE Std 802.1Q-2018, 35.2.4): what the application talks and
+// listens to, all link ports, and its own place among them.
 #[derive(Drop)]
 pub(crate) struct PortView<'a> {
     pub(crate) talks: &'a [Talker],

@@ -172,7 +172,8 @@ place_stands octets [] (w ∷ vs) y v stand is = absurd stand
 place_stands octets (p ∷ ps) (w ∷ vs) zero v stand is = (p, refl)
 place_stands octets (p ∷ ps) (w ∷ vs) (suc y) v stand is = place_stands octets ps vs y v stand.1 is
 
-pub has_place : (octets : List ℕ) (pss : List (List ℕ)) (ms : List Message) (n y : ℕ) (m : Message) (v : VectorAttr) → AllStandAt octets pss ms → slice_get ms n ≡ Some m → slice_get m.vectors y ≡ Some v
+pub has_place : (octets : List ℕ) (pss : List (List ℕ)) (ms : List Message) (n y : ℕ) (m : Message) (v : VectorAttr) → AllStandAt octets pss ms → slice_get ms n ≡ Some m
+    → slice_get m.vectors y ≡ Some v
     → (p : ℕ) × (first_value_place pss n y ≡ Some p)
 has_place octets pss [] n y m v stand is_message is_vector = absurd cc
 has_place octets [] (w ∷ ms) n y m v stand is_message is_vector = absurd stand

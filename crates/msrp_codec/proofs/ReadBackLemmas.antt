@@ -24,7 +24,8 @@ type_of_first (Listener stream) = types.Listener
 type_of_first (Domain class priority vid) = types.Domain
 
 talker : ℕ → ℕ → ℕ → ℕ → ℕ → ℕ → Rank → ℕ → Talker
-talker stream dest vid max_frame frames priority rank latency = record { stream = record { 0 = stream }; dest = dest; vid = vid; max_frame = max_frame; frames = frames; priority = priority; rank = rank; latency = latency }
+talker stream dest vid max_frame frames priority rank latency = record
+    { stream = record { 0 = stream }; dest = dest; vid = vid; max_frame = max_frame; frames = frames; priority = priority; rank = rank; latency = latency }
 
 same_talker : (a1 b1 a2 b2 a3 b3 a4 b4 a5 b5 a6 b6 : ℕ) (r s : Rank) (a8 b8 : ℕ) → a1 ≡ b1 → a2 ≡ b2 → a3 ≡ b3 → a4 ≡ b4 → a5 ≡ b5 → a6 ≡ b6 → r ≡ s → a8 ≡ b8
     → talker a1 a2 a3 a4 a5 a6 r a8 ≡ talker b1 b2 b3 b4 b5 b6 s b8
@@ -98,7 +99,8 @@ kind_again Ready = refl
 kind_again ReadyFailed = refl
 
 -- what the value itself says
-said_here : (event : MrpEvent) (key : MsrpKey) (content : MsrpContent) → Belongs key content → event_at (value_of key content) 0 event (slice_index (four_packed_for content) 0) ≡ (event, key, content) ∷ []
+said_here : (event : MrpEvent) (key : MsrpKey) (content : MsrpContent) → Belongs key content
+    → event_at (value_of key content) 0 event (slice_index (four_packed_for content) 0) ≡ (event, key, content) ∷ []
 said_here event (keys.Talker stream) (contents.Advertise t) of_key =
     ap (λ (s : StreamId). let x : KeyEvent = (event, keys.Talker s, contents.Advertise (talker_after t 0)) in x ∷ []) (stream_here t.stream ∙ sym of_key)
     ∙ ap (λ (u : Talker). let x : KeyEvent = (event, keys.Talker stream, contents.Advertise u) in x ∷ []) (talker_here t)

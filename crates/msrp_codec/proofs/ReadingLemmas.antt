@@ -35,13 +35,16 @@ typed_vectors_fit kind t vs fits is =
       | inl one ↦ let e = rw one at fits in let i = rw one at is in let same : Advertise ≡ t = cc in subst (λ (x : AttributeType). list_all (vector_fits (type_form x)) vs ≡ true) same e
       | inr not_one ↦
           elim (cases_Bool (eqb kind 2)) [
-            | inl two ↦ let e = rw (not_one, two) at fits in let i = rw (not_one, two) at is in let same : Failed ≡ t = cc in subst (λ (x : AttributeType). list_all (vector_fits (type_form x)) vs ≡ true) same e
+            | inl two ↦ let e = rw (not_one, two) at fits in let i = rw (not_one, two) at is in let same : Failed ≡ t = cc
+                in subst (λ (x : AttributeType). list_all (vector_fits (type_form x)) vs ≡ true) same e
             | inr not_two ↦
                 elim (cases_Bool (eqb kind 3)) [
-                  | inl three ↦ let e = rw (not_one, not_two, three) at fits in let i = rw (not_one, not_two, three) at is in let same : Listener ≡ t = cc in subst (λ (x : AttributeType). list_all (vector_fits (type_form x)) vs ≡ true) same e
+                  | inl three ↦ let e = rw (not_one, not_two, three) at fits in let i = rw (not_one, not_two, three) at is in let same : Listener ≡ t = cc
+                      in subst (λ (x : AttributeType). list_all (vector_fits (type_form x)) vs ≡ true) same e
                   | inr not_three ↦
                       elim (cases_Bool (eqb kind 4)) [
-                        | inl four ↦ let e = rw (not_one, not_two, not_three, four) at fits in let i = rw (not_one, not_two, not_three, four) at is in let same : Domain ≡ t = cc in subst (λ (x : AttributeType). list_all (vector_fits (type_form x)) vs ≡ true) same e
+                        | inl four ↦ let e = rw (not_one, not_two, not_three, four) at fits in let i = rw (not_one, not_two, not_three, four) at is
+                            in let same : Domain ≡ t = cc in subst (λ (x : AttributeType). list_all (vector_fits (type_form x)) vs ≡ true) same e
                         | inr not_four ↦ let i = rw (not_one, not_two, not_three, not_four) at is in absurd cc
                       ]
                 ]

@@ -71,7 +71,8 @@ any_leave leave t y ys =
     ∙ ap (λ (vs : List VectorAttr). vector_size (event_vector false y) + vectors_size vs) (all_later t ys)
     ∙ sym (sum_by-cons vector_size (event_vector false y) (map (event_vector false) ys))
 
-sized : (leave : Bool) (t : AttributeType) (ys : List KeyEvent) → vectors_size (map (event_vector false) ys) ≡ length ys * octets_of_type t → vectors_size (type_vectors leave t ys) ≡ list_size leave t (length ys)
+sized : (leave : Bool) (t : AttributeType) (ys : List KeyEvent) → vectors_size (map (event_vector false) ys) ≡ length ys * octets_of_type t
+    → vectors_size (type_vectors leave t ys) ≡ list_size leave t (length ys)
 sized true t [] h = sum_by-cons vector_size (leave_vector t) [] ∙ omega (arith, leave_size t)
 sized false t [] h = refl
 sized leave t (y ∷ ys) h =

@@ -105,14 +105,16 @@ vectors_fit_type leave t (y ∷ ys) good =
     ap (list_all (vector_fits (type_form t))) (vectors_more leave t y ys ∙ ap (λ (vs : List VectorAttr). event_vector leave y ∷ vs) (all_later t ys))
     ∙ and_from _ _ (event_fits leave t y good.0.typed) (later_fit t ys good.1)
 
-messages_fit : (t : AttributeType) (vs : List VectorAttr) → list_all (vector_fits (type_form t)) vs ≡ true → length (vectors_octets (vectors_for vs)) ≤ 65533 → list_all (message_fits Msrp) (messages_for t vs) ≡ true
+messages_fit : (t : AttributeType) (vs : List VectorAttr) → list_all (vector_fits (type_form t)) vs ≡ true → length (vectors_octets (vectors_for vs)) ≤ 65533
+    → list_all (message_fits Msrp) (messages_for t vs) ≡ true
 messages_fit t [] h small = refl
 messages_fit t (v ∷ vs) h small =
     and_from _ _ (and_from _ _ (ap (λ (row : Option TypeForm). vectors_fit row (v ∷ vs)) (row_again t) ∙ h) (le-leb (length (vectors_octets (vectors_for (v ∷ vs))) + 2) 65535 (omega arith))) refl
 
 -- ---- all four types
 
-all_of : (p : Message → Bool) (leave : Bool) (events : List KeyEvent) → ((t : AttributeType) → list_all p (type_messages leave events t) ≡ true) → list_all p (flat_map (type_messages leave events) all_types) ≡ true
+all_of : (p : Message → Bool) (leave : Bool) (events : List KeyEvent) → ((t : AttributeType) → list_all p (type_messages leave events t) ≡ true)
+    → list_all p (flat_map (type_messages leave events) all_types) ≡ true
 all_of p leave events each =
     let m = type_messages leave events in
     list_all-append p (m Advertise) (m Failed ++ (m Listener ++ (m Domain ++ [])))
@@ -187,7 +189,14 @@ four_long : (leave : Bool) (events : List KeyEvent) → length (flat_map (type_m
     ≡ length (type_messages leave events Advertise) + (length (type_messages leave events Failed) + (length (type_messages leave events Listener) + length (type_messages leave events Domain)))
 four_long leave events =
     let m = type_messages leave events in
-    omega (arith, length-append (m Advertise) (m Failed ++ (m Listener ++ (m Domain ++ []))), length-append (m Failed) (m Listener ++ (m Domain ++ [])), length-append (m Listener) (m Domain ++ []), length-append (m Domain) [])
+    omega (
+      arith,
+      length-append (m Advertise) (m Failed ++ (m Listener ++ (m Domain ++ []))),
+      length-append (m Failed) (m Listener ++ (m Domain ++ [])),
+      length-append
+          (m Listener) (m Domain ++ []),
+      length-append (m Domain) [],
+    )
 
 -- one of four is there
 one_of : (leave : Bool) (events : List KeyEvent) (t : AttributeType) → 0 < length (type_messages leave events t) → 0 < length (flat_map (type_messages leave events) all_types)
@@ -227,7 +236,8 @@ list_below : (leave : Bool) (t : AttributeType) (events : List KeyEvent) → vec
 list_below leave t events = omega (arith, list_sized leave t events, size_below leave t (length (of_type t events)))
 
 four_typed : (event : MrpEvent) (key : MsrpKey) (content : MsrpContent) (xs : List KeyEvent) → (let all : List KeyEvent = (event, key, content) ∷ xs in
-    typed_octets Advertise all + (typed_octets Failed all + (typed_octets Listener all + typed_octets Domain all))) ≡ octets_of content + (typed_octets Advertise xs + (typed_octets Failed xs + (typed_octets Listener xs + typed_octets Domain xs)))
+    typed_octets Advertise all + (typed_octets Failed all + (typed_octets Listener all + typed_octets Domain all))) ≡ octets_of content +
+    (typed_octets Advertise xs + (typed_octets Failed xs + (typed_octets Listener xs + typed_octets Domain xs)))
 four_typed event key (contents.Advertise t) xs = omega arith
 four_typed event key (contents.Failed t f) xs = omega arith
 four_typed event key (contents.Listener kind) xs = omega arith
@@ -248,13 +258,30 @@ four_sizes : (leave : Bool) (events : List KeyEvent) → (let m = type_messages 
     size (flat_map m all_types) ≡ size (m Advertise) + (size (m Failed) + (size (m Listener) + size (m Domain))))
 four_sizes leave events =
     let m = type_messages leave events in
-    omega (arith, sum_by-append (message_size Msrp) (m Advertise) (m Failed ++ (m Listener ++ (m Domain ++ []))), sum_by-append (message_size Msrp) (m Failed) (m Listener ++ (m Domain ++ [])), sum_by-append (message_size Msrp) (m Listener) (m Domain ++ []), sum_by-append (message_size Msrp) (m Domain) [])
+    omega (
+      arith,
+      sum_by-append (message_size Msrp) (m Advertise) (m Failed ++ (m Listener ++ (m Domain ++ []))),
+      sum_by-append (message_size Msrp) (m Failed)
+          (m Listener ++ (m Domain ++ [])),
+      sum_by-append (message_size Msrp) (m Listener) (m Domain ++ []),
+      sum_by-append (message_size Msrp) (m Domain) [],
+    )
 
 pub stated_suffice : (read : MsrpPdu) → length (msrp_spelling read) ≡ pdu_size Msrp (pdu_for read) → length (msrp_spelling read) ≤ stated_octets read.events
 stated_suffice read size =
     let leave = read.leave_all in
     let events = read.events in
-    omega (arith, size, four_sizes leave events, type_below leave Advertise events, type_below leave Failed events, type_below leave Listener events, type_below leave Domain events, typed_in_all events)
+    omega (
+      arith,
+      size,
+      four_sizes leave events,
+      type_below leave Advertise events,
+      type_below leave Failed events,
+      type_below leave Listener events,
+      type_below leave
+          Domain events,
+      typed_in_all events,
+    )
 
 typed_few : (t : AttributeType) (events : List KeyEvent) → typed_octets t events ≤ octets_in_all events
 typed_few Advertise events = omega (arith, typed_in_all events)
@@ -268,7 +295,8 @@ length_small Failed = omega arith
 length_small Listener = omega arith
 length_small Domain = omega arith
 
-pub is_well_formed : (read : MsrpPdu) → IsWritable read → FitAll read.events → ((vs : List VectorAttr) → length (vectors_octets (vectors_for vs)) ≡ vectors_size vs) → well_formed Msrp (pdu_for read) ≡ true
+pub is_well_formed : (read : MsrpPdu) → IsWritable read → FitAll read.events → ((vs : List VectorAttr) → length (vectors_octets (vectors_for vs)) ≡ vectors_size vs)
+    → well_formed Msrp (pdu_for read) ≡ true
 is_well_formed read w fit sizes =
     let leave = read.leave_all in
     let events = read.events in

@@ -23,8 +23,9 @@ Belongs (keys.Listener stream) (Listener kind) = Unit {0}
 Belongs (keys.Domain class) (Domain priority vid) = Unit {0}
 Belongs _ _ = ⊥
 
--- The stated octets of a declaration of this type: those of a vector of it alone, which has a header of 2 octets,
--- FirstValue and one octet of ThreePackedEvents, and for a Listener one of FourPackedEvents.
+-- The stated octets of a declaration of this type: those of a vector of it alone, which has a
+-- header of 2 octets, FirstValue and one octet of ThreePackedEvents, and for a Listener one of
+-- FourPackedEvents.
 abbrev pub octets_of_type : AttributeType → ℕ
 octets_of_type types.Advertise = 28
 octets_of_type types.Failed = 37
@@ -35,8 +36,8 @@ octets_of_type types.Domain = 7
 abbrev pub octets_of : MsrpContent → ℕ
 octets_of content = octets_of_type (type_of_content content)
 
--- The stated octets of an MRPDU without declarations: ProtocolVersion and the EndMark of the PDU, and for each
--- of the four types a Message with the vector of a LeaveAll alone.
+-- The stated octets of an MRPDU without declarations: ProtocolVersion and the EndMark of the PDU,
+-- and for each of the four types a Message with the vector of a LeaveAll alone.
 abbrev pub base_octets : ℕ
 base_octets = 106
 

@@ -1,5 +1,5 @@
--- The values of MSRP's attributes as octets, field by field (IEEE Std 802.1Q-2018, 35.2.2.8, 35.2.2.9). All
--- numbers stand with the high octet first.
+-- The values of MSRP's attributes as octets, field by field (IEEE Std 802.1Q-2018, 35.2.2.8,
+-- 35.2.2.9). All numbers stand with the high octet first.
 use Rattle.std.specs.Prelude.{ℕ, ◌+◌, ◌*◌, ◌/◌, ◌%◌, ◌^◌, ◌<◌, ◌≤◌, Bool, ◌&&◌, List, ◌++◌, take, drop, nat_le, ◌==◌, if◌then◌else◌}
 use Rattle.std.specs.Int.{bytes_high_first}
 use Rattle.srp_base.specs.Hexadecimal.{number_high_first}
@@ -47,13 +47,14 @@ first_value_of types.Listener first = Listener (record { 0 = field first 0 8 })
 -- SRclassID, SRclassPriority and SRclassVID (35.2.2.9.2 to 35.2.2.9.4)
 first_value_of types.Domain first = Domain (field first 0 1) (field first 1 1) (field first 2 2)
 
--- whether so many consecutive values from a Talker on stay within its StreamID and its destination address, counted up
--- as whole numbers of 64 and 48 bits, with carry; that they carry is this project's own rule
+-- whether so many consecutive values from a Talker on stay within its StreamID and its destination
+-- address, counted up as whole numbers of 64 and 48 bits, with carry; that they carry is this
+-- project's own rule
 abbrev pub talkers_fit : Talker → ℕ → Bool
 talkers_fit t n = nat_le (t.stream.0 + n) (2 ^ 64) && nat_le (t.dest + n) (2 ^ 48)
 
--- whether so many consecutive values from a FirstValue on stay within the fields that are counted up: a Talker's, the
--- StreamID of a Listener, or the SRclassID and the SRclassPriority of a Domain
+-- whether so many consecutive values from a FirstValue on stay within the fields that are counted
+-- up: a Talker's, the StreamID of a Listener, or the SRclassID and the SRclassPriority of a Domain
 abbrev pub values_fit : FirstValue → ℕ → Bool
 values_fit (Advertise t) n = talkers_fit t n
 values_fit (Failed t f) n = talkers_fit t n
@@ -96,7 +97,8 @@ first_octets (Domain class priority vid) =
 
 -- ---- The numbers that fields hold
 
--- the numbers of a Talker fit in its fields: StreamID, DataFrameParameters, TSpec, PriorityAndRank, AccumulatedLatency
+-- the numbers of a Talker fit in its fields: StreamID, DataFrameParameters, TSpec, PriorityAndRank,
+-- AccumulatedLatency
 pub record IsTalker (t : Talker) : Type 0 where
   pub stream : t.stream.0 < 2 ^ 64
   pub dest : t.dest < 2 ^ 48

@@ -1,5 +1,5 @@
--- What an MRPDU of MSRP says (IEEE Std 802.1Q-2018, 10.8.1.2, 35.2.2), and where one that `mrpdu_codec` reads is
--- malformed all the same.
+-- What an MRPDU of MSRP says (IEEE Std 802.1Q-2018, 10.8.1.2, 35.2.2), and where one that
+-- `mrpdu_codec` reads is malformed all the same.
 use Rattle.std.specs.Prelude.{◌≡◌, ℕ, ◌+◌, Bool, true, false, List, [], ◌∷◌, ◌++◌, length, take, slice_get, slice_index, Option, Some, None, Result, Ok, Err, ◌==◌, if◌then◌else◌}
 use Rattle.std.specs.{Option.unwrap_or, List.flat_map, List.list_all}
 use Rattle.srp_base.specs.declared.{numbers.StreamId.StreamId, mrp.MrpEvent.MrpEvent, streams.ListenerKind.ListenerKind}
@@ -52,7 +52,8 @@ events_from first four_packed i (event ∷ events) =
 abbrev pub vector_events : AttributeType → VectorAttr → List KeyEvent
 vector_events t v = events_from (first_value_of t v.first) v.params 0 v.events
 
--- the events of vectors of a type, in the order of their octets; a type that MSRP doesn't have gives none
+-- the events of vectors of a type, in the order of their octets; a type that MSRP doesn't have
+-- gives none
 abbrev pub typed_events : Option AttributeType → List VectorAttr → List KeyEvent
 typed_events None vs = []
 typed_events (Some t) vs = flat_map (vector_events t) vs
@@ -71,7 +72,8 @@ meaning pdu = record { leave_all = has_leave_all pdu; events = flat_map message_
 abbrev pub is_in_range : AttributeType → VectorAttr → Bool
 is_in_range t v = values_fit (first_value_of t v.first) (length v.events)
 
--- the values of all these vectors of a type stay in range; a type that MSRP doesn't have sets no limit
+-- the values of all these vectors of a type stay in range; a type that MSRP doesn't have sets no
+-- limit
 abbrev pub are_in_range : Option AttributeType → List VectorAttr → Bool
 are_in_range None vs = true
 are_in_range (Some t) vs = list_all (is_in_range t) vs
@@ -80,12 +82,14 @@ are_in_range (Some t) vs = list_all (is_in_range t) vs
 abbrev pub message_in_range : Message → Bool
 message_in_range m = are_in_range (type_of m.kind) m.vectors
 
--- the number of the first of these vectors that isn't in range, where the first of them has this number
+-- the number of the first of these vectors that isn't in range, where the first of them has this
+-- number
 abbrev pub first_past_in : AttributeType → ℕ → List VectorAttr → Option ℕ
 first_past_in t i [] = None
 first_past_in t i (v ∷ vs) = if is_in_range t v then first_past_in t (i + 1) vs else Some i
 
--- the number of the first of these vectors of a type that isn't in range, from 0; None for a type MSRP doesn't have
+-- the number of the first of these vectors of a type that isn't in range, from 0; None for a type
+-- MSRP doesn't have
 abbrev pub typed_past : Option AttributeType → List VectorAttr → Option ℕ
 typed_past None vs = None
 typed_past (Some t) vs = first_past_in t 0 vs
@@ -99,8 +103,8 @@ abbrev pub found_in : ℕ → Option ℕ → Option (ℕ × ℕ) → Option (ℕ
 found_in message None later = later
 found_in message (Some vector) later = Some (message, vector)
 
--- the first vector of Messages, the first of which has this number, that isn't in range: by the number of its
--- Message and its own number there
+-- the first vector of Messages, the first of which has this number, that isn't in range: by the
+-- number of its Message and its own number there
 abbrev pub first_past : ℕ → List Message → Option (ℕ × ℕ)
 first_past i [] = None
 first_past i (m ∷ ms) = found_in i (message_past m) (first_past (i + 1) ms)
@@ -114,7 +118,8 @@ pub record SaysMsrp (octets : List ℕ) (read : MsrpPdu) : Type 0 where
   pub in_range : list_all message_in_range pdu.messages ≡ true
   pub meant : read ≡ meaning pdu
 
--- the octets spell a PDU, and this is the place of the first FirstValue whose values pass the end of a field
+-- the octets spell a PDU, and this is the place of the first FirstValue whose values pass the end
+-- of a field
 pub record PassesEnd (octets : List ℕ) (place : ℕ) : Type 0 where
   pub pdu : Pdu
   pub spelled : Spells Msrp octets pdu
@@ -134,7 +139,8 @@ pub record PassesEnd (octets : List ℕ) (place : ℕ) : Type 0 where
   -- it stands there
   pub stands : first_value_place (first_places Msrp octets) message vector ≡ Some place
 
--- where octets are malformed: where the grammar breaks, and else where a value passes the end of its field
+-- where octets are malformed: where the grammar breaks, and else where a value passes the end of
+-- its field
 pub data MsrpBreaks (octets : List ℕ) (place : ℕ) : Type 0 where
   grammar : Breaks Msrp octets place → MsrpBreaks octets place
   value : PassesEnd octets place → MsrpBreaks octets place
@@ -153,6 +159,7 @@ abbrev pub read_as : List ℕ → Result Pdu ℕ → Result MsrpPdu ℕ
 read_as octets (Ok pdu) = meaning_or_place octets pdu (first_past 0 pdu.messages)
 read_as octets (Err place) = Err place
 
--- The reading of the octets of an MRPDU of MSRP: what they say, or the place where they are malformed.
+-- The reading of the octets of an MRPDU of MSRP: what they say, or the place where they are
+-- malformed.
 abbrev pub msrp_reading : List ℕ → Result MsrpPdu ℕ
 msrp_reading octets = read_as octets (reading Msrp octets)

@@ -1,6 +1,6 @@
--- The one spelling in which the events of keys are written (IEEE Std 802.1Q-2018, 10.8.1.2): a Message for each
--- type that has an event or that LeaveAll asks for, types ascending, and in it a vector for each event, in the
--- order given.
+-- The one spelling in which the events of keys are written (IEEE Std 802.1Q-2018, 10.8.1.2): a
+-- Message for each type that has an event or that LeaveAll asks for, types ascending, and in it a
+-- vector for each event, in the order given.
 use Rattle.std.specs.Prelude.{◌≡◌, ℕ, ◌+◌, ◌*◌, ◌≤◌, Bool, true, false, ◌||◌, List, [], ◌∷◌, length, map, replicate, nat_lt, ◌==◌, if◌then◌else◌}
 use Rattle.std.specs.List.{flat_map, filter, sum_by, AllByRecursion}
 use Rattle.mrpdu_codec.specs.declared.{form.AppForm.TheVariants.Msrp, pdu.VectorAttr.VectorAttr, pdu.Message.Message, pdu.Pdu.Pdu}
@@ -56,8 +56,8 @@ pdu_for read = record { version = 0; messages = flat_map (type_messages read.lea
 abbrev pub msrp_spelling : MsrpPdu → List ℕ
 msrp_spelling read = spelling Msrp (pdu_for read)
 
--- the events in the order of types: those of a Talker Advertise first, then those of a Talker Failed, a
--- Listener and a Domain
+-- the events in the order of types: those of a Talker Advertise first, then those of a Talker
+-- Failed, a Listener and a Domain
 abbrev pub in_type_order : List KeyEvent → List KeyEvent
 in_type_order events = flat_map (λ t. of_type t events) all_types
 

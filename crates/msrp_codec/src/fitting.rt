@@ -1,4 +1,5 @@
-//! The numbers of a declaration fit in their fields, as their types have it. These are laws, and do nothing.
+//! The numbers of a declaration fit in their fields, as their types have it. These are laws, and do
+//! nothing.
 
 ghost use Rattle.std.specs.Prelude.{◌<◌, ◌^◌};
 ghost use Rattle.msrp_codec.specs.FirstValue.{IsTalker, IsFailure, IsFirst};

@@ -12,9 +12,10 @@ ghost use Rattle.msrp_codec.specs.Writing.{AreInRange, IsWritable, as_written, i
 
 use crate::pdu::MsrpKey;
 
-/// The reading as a function is the grammar with the meaning of a PDU: octets read as exactly what the PDU
-/// that they spell says, where its values stay within their fields, or as exactly the place where they are
-/// malformed: where the grammar breaks, or else the first FirstValue whose values pass the end of a field.
+/// The reading as a function is the grammar with the meaning of a PDU: octets read as exactly what
+/// the PDU that they spell says, where its values stay within their fields, or as exactly the place
+/// where they are malformed: where the grammar breaks, or else the first FirstValue whose values
+/// pass the end of a field.
 pub fn reading_is_the_grammar()
     ensures reads { (octets : List ℕ) (read : MsrpPdu) → (msrp_reading octets
         ≡ Ok read) ↔ SaysMsrp octets read }
@@ -32,8 +33,8 @@ pub fn stated_octets_suffice()
     mrpdu_codec::written_size();
 }
 
-/// What is written reads as what was written, its events in the order of types, where their values fit in their
-/// fields.
+/// What is written reads as what was written, its events in the order of types, where their values
+/// fit in their fields.
 pub fn what_is_written_is_read()
     ensures { (pdu : MsrpPdu) → IsWritable pdu → AreInRange pdu.events
         → msrp_reading (msrp_spelling pdu) ≡ Ok (as_written pdu) }
@@ -43,8 +44,8 @@ pub fn what_is_written_is_read()
     mrpdu_codec::numbers_are_read_back();
 }
 
-/// The order of types keeps what each key says: where at most one event is of a key, the events of that key
-/// are the same before and after. `is_key` tells the key from others.
+/// The order of types keeps what each key says: where at most one event is of a key, the events of
+/// that key are the same before and after. `is_key` tells the key from others.
 pub fn each_key_keeps_its_event()
     ensures { (events : List KeyEvent) (is_key : MsrpKey → Bool)
         → length (of_key is_key events) ≤ 1 → of_key is_key (in_type_order events)
@@ -67,9 +68,9 @@ pub fn what_is_read_belongs_to_its_keys()
         → AllByRecursion (λ e. Belongs e.1 e.2) read.events }
 {}
 
-/// What octets say fits in the fields in which it stands: each event's numbers do, those of a Talker, of a
-/// failure, of a Listener's stream and of a Domain. It is so of all octets, also those that no participant of
-/// this project wrote.
+/// What octets say fits in the fields in which it stands: each event's numbers do, those of a
+/// Talker, of a failure, of a Listener's stream and of a Domain. It is so of all octets, also those
+/// that no participant of this project wrote.
 pub fn what_is_read_is_in_range()
     ensures { (octets : List ℕ) (read : MsrpPdu)
         → AreOctets octets → msrp_reading octets ≡ Ok read → AreInRange read.events }

@@ -80,7 +80,8 @@ pub(crate) fn class_of(key: MsrpKey) -> u8
     }
 }
 
-/// The stated octets of an MRPDU without declarations: it takes no more, also with a LeaveAll of every type.
+/// The stated octets of an MRPDU without declarations: it takes no more, also with a LeaveAll of
+/// every type.
 pub const fn base_octets() -> usize
     ensures { result ≡ base_octets }
 {

@@ -136,8 +136,8 @@ fn is_silent(first: &FirstValue, raw: &RawVector<'_>, i: usize) -> bool
     }
 }
 
-/// Puts the event of a value at the end, and answers the place of the next value. Four Listeners that are
-/// all ignored are passed over at once.
+/// Puts the event of a value at the end, and answers the place of the next value. Four Listeners
+/// that are all ignored are passed over at once.
 #[tactic(auto, using(crate::proofs::SilentLemmas::value_first, crate::proofs::SilentLemmas::silent_octet, crate::proofs::ReadingLemmas::fits_fewer))]
 fn push_value(
     out: &mut Vec<(MrpEvent, MsrpKey, MsrpContent)>,
@@ -178,8 +178,8 @@ fn push_values(
     Ok(())
 }
 
-/// Puts the events of a vector at the end, where its values stay within the fields that are counted up. What is
-/// answered is whether they do.
+/// Puts the events of a vector at the end, where its values stay within the fields that are counted
+/// up. What is answered is whether they do.
 fn push_vector(
     out: &mut Vec<(MrpEvent, MsrpKey, MsrpContent)>,
     t: AttributeType,
@@ -199,8 +199,8 @@ fn push_vector(
     Ok(true)
 }
 
-/// Puts the events of vectors of a type at the end, up to the first whose values pass the end of a field. What
-/// is answered is its number.
+/// Puts the events of vectors of a type at the end, up to the first whose values pass the end of a
+/// field. What is answered is its number.
 fn push_vectors(
     out: &mut Vec<(MrpEvent, MsrpKey, MsrpContent)>,
     t: AttributeType,
@@ -219,8 +219,8 @@ fn push_vectors(
     Ok(None)
 }
 
-/// Puts the events of a Message at the end, up to the first vector whose values pass the end of a field. What
-/// is answered is its number.
+/// Puts the events of a Message at the end, up to the first vector whose values pass the end of a
+/// field. What is answered is its number.
 #[tactic(auto, using(crate::proofs::ReadingLemmas::typed_in_place, crate::proofs::ReadingLemmas::events_meant))]
 fn push_message(
     out: &mut Vec<(MrpEvent, MsrpKey, MsrpContent)>,
@@ -237,8 +237,9 @@ fn push_message(
     }
 }
 
-/// Puts the events of Messages at the end, in the order of their octets, up to the first vector whose values
-/// pass the end of a field. What is answered is the number of its Message and its own number there.
+/// Puts the events of Messages at the end, in the order of their octets, up to the first vector
+/// whose values pass the end of a field. What is answered is the number of its Message and its own
+/// number there.
 fn push_messages(
     out: &mut Vec<(MrpEvent, MsrpKey, MsrpContent)>,
     raws: &[RawMessage<'_>],
@@ -256,8 +257,8 @@ fn push_messages(
     Ok(None)
 }
 
-/// How many vectors Messages have: room for as many events spares most moves of what is read. No clause
-/// speaks of room.
+/// How many vectors Messages have: room for as many events spares most moves of what is read. No
+/// clause speaks of room.
 fn room_for(raws: &[RawMessage<'_>]) -> usize {
     let mut room: usize = 0;
     for raw in raws {
@@ -266,8 +267,8 @@ fn room_for(raws: &[RawMessage<'_>]) -> usize {
     room
 }
 
-/// The events of a PDU. Where the values of a vector pass the end of a field, the first such vector comes with
-/// those before it.
+/// The events of a PDU. Where the values of a vector pass the end of a field, the first such vector
+/// comes with those before it.
 #[tactic(auto, using(crate::proofs::ReadingLemmas::forms_in_place, crate::proofs::ReadingLemmas::messages_meant))]
 fn events_of(
     alloc: Global,
@@ -308,16 +309,18 @@ fn place_in(octets: &[u8], vector: (usize, usize)) -> u32
     mrpdu_codec::first_value_at(AppForm::Msrp, octets, vector.0, vector.1).unwrap_or(0)
 }
 
-/// What the octets of an MRPDU of MSRP say: whether any vector has a LeaveAll, and the events of keys in the
-/// order of the octets. Consecutive values count up through the whole StreamID and the whole destination
-/// address, with carry, and through the SRclassID and the SRclassPriority. A Listener whose FourPackedEvent
-/// is Ignore gives no event (IEEE Std 802.1Q-2018, 35.2.2). There are fewer than 2^32 octets.
+/// What the octets of an MRPDU of MSRP say: whether any vector has a LeaveAll, and the events of
+/// keys in the order of the octets. Consecutive values count up through the whole StreamID and the
+/// whole destination address, with carry, and through the SRclassID and the SRclassPriority. A
+/// Listener whose FourPackedEvent is Ignore gives no event (IEEE Std 802.1Q-2018, 35.2.2). There
+/// are fewer than 2^32 octets.
 ///
 /// # Errors
 ///
-/// `Malformed` carries the offset, in octets from 0, of the first field that breaks its rule or that the
-/// octets are too short for; where there is none, that of the first FirstValue whose values pass the end of
-/// a field that is counted up. `NoMemory` comes where memory for the events runs out.
+/// `Malformed` carries the offset, in octets from 0, of the first field that breaks its rule or
+/// that the octets are too short for; where there is none, that of the first FirstValue whose
+/// values pass the end of a field that is counted up. `NoMemory` comes where memory for the events
+/// runs out.
 pub fn decode(alloc: Global, octets: &[u8]) -> Result<MsrpPdu, DecodeErr>
     requires { length octets.now < 2 ^ 32 }
 
@@ -326,8 +329,9 @@ pub fn decode(alloc: Global, octets: &[u8]) -> Result<MsrpPdu, DecodeErr>
     ensures broken { (place : ℕ) → result ≡ Err (errors.Malformed place)
         → MsrpBreaks octets.now place }
 
-    // Want of memory alone is free: else the answer is the reading, which the law `reading_is_the_grammar`
-    // says is all that the octets read as and each place where they are malformed.
+    // Want of memory alone is free: else the answer is the reading, which the law
+    // `reading_is_the_grammar` says is all that the octets read as and each place where they are
+    // malformed.
     ensures exact { Answers result (msrp_reading octets.now) }
 {
     mrpdu_codec::first_values_have_places();

@@ -178,8 +178,8 @@ fn put_leave(out: &mut Vec<u8>, t: AttributeType) -> Result<(), NoMemory>
     }
 }
 
-/// Writes the vector of an event, if it is of a type. What is answered is whether the LeaveAll is still to be
-/// written.
+/// Writes the vector of an event, if it is of a type. What is answered is whether the LeaveAll is
+/// still to be written.
 fn put_if_typed(
     out: &mut Vec<u8>,
     first: &mut Vec<u8>,
@@ -188,7 +188,9 @@ fn put_if_typed(
     event: &(MrpEvent, MsrpKey, MsrpContent),
 ) -> Result<bool, NoMemory>
     ensures octets { OnOk result (out.new.items
-        ≡ out.old.items ++ (if has_type t event.now then vector_octets (vector_for (event_vector leave_all event.now)) else [])) }
+        ≡ out.old.items
+        ++ (if has_type t event.now then vector_octets
+        (vector_for (event_vector leave_all event.now)) else [])) }
     ensures leave { IfOk result (λ leave. leave
         ≡ if has_type t event.now then false else leave_all) }
 {
@@ -208,7 +210,8 @@ fn put_vectors(
     events: &[(MrpEvent, MsrpKey, MsrpContent)],
 ) -> Result<(), NoMemory>
     ensures { OnOk result (out.new.items
-        ≡ out.old.items ++ vectors_octets (vectors_for (type_vectors leave_all t (of_type t events.now)))) }
+        ≡ out.old.items
+        ++ vectors_octets (vectors_for (type_vectors leave_all t (of_type t events.now)))) }
 {
     let mut leave = leave_all;
     for event in events {
@@ -262,7 +265,8 @@ fn put_type(
     requires count { n ≡ length (of_type t events.now) }
     requires few { n ≤ 1500 }
     ensures { OnOk result (out.new.items
-        ≡ out.old.items ++ messages_octets (map (message_for Msrp) (type_messages leave_all events.now t))) }
+        ≡ out.old.items
+        ++ messages_octets (map (message_for Msrp) (type_messages leave_all events.now t))) }
 {
     mrpdu_codec::written_list_size();
     mrpdu_codec::numbers_are_read_back();
@@ -329,11 +333,12 @@ fn written(
     Ok(out)
 }
 
-/// The octets that say a LeaveAll and the events of keys (IEEE Std 802.1Q-2018, 10.8.1.2, 35.2.2): a Message
-/// for each type that has an event or that the LeaveAll asks for, types ascending, and in it a vector for each
-/// event, in the order given. Where keys ascend this is the canonical encoding. With a LeaveAll the first vector
-/// of each of the four types has it. There has to be a LeaveAll or an event, each content has to belong to its
-/// key, and the stated octets of all events may be at most 1,500 with the base of 106.
+/// The octets that say a LeaveAll and the events of keys (IEEE Std 802.1Q-2018, 10.8.1.2, 35.2.2):
+/// a Message for each type that has an event or that the LeaveAll asks for, types ascending, and in
+/// it a vector for each event, in the order given. Where keys ascend this is the canonical
+/// encoding. With a LeaveAll the first vector of each of the four types has it. There has to be a
+/// LeaveAll or an event, each content has to belong to its key, and the stated octets of all events
+/// may be at most 1,500 with the base of 106.
 ///
 /// # Errors
 ///

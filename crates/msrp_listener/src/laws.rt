@@ -1,5 +1,5 @@
-//! What merging comes to, over every list of ports: laws over the definitions that the contracts cite. Each is a
-//! function that does nothing; calling it brings the law to a proof.
+//! What merging comes to, over every list of ports: laws over the definitions that the contracts
+//! cite. Each is a function that does nothing; calling it brings the law to a proof.
 
 ghost use Rattle.std.specs.Prelude.{◌≡◌, ◌≢◌, ◌↔◌, List, [], Some, None, IsPermutation};
 ghost use Rattle.srp_base.specs.declared.streams.ListenerKind.{ListenerKind};
@@ -26,8 +26,8 @@ pub fn none_without_listeners()
     ensures { (rows : List PortListener) → (listener_out rows ≡ None) ↔ (rows ≡ []) }
 {}
 
-/// Ready is declared exactly where some port has a Listener, and each has Ready registered and the stream
-/// booked.
+/// Ready is declared exactly where some port has a Listener, and each has Ready registered and the
+/// stream booked.
 pub fn ready_where_all_ports_are()
     ensures { (rows : List PortListener)
         → (listener_out rows ≡ Some Ready) ↔ ((rows ≢ []) × AreReady rows) }
@@ -39,8 +39,8 @@ pub fn asking_failed_where_no_port_can()
         → (listener_out rows ≡ Some AskingFailed) ↔ ((rows ≢ []) × AreAskingFailed rows) }
 {}
 
-/// ReadyFailed is declared exactly in between: some port has a Listener, not all are Ready and booked, and not
-/// all count as AskingFailed.
+/// ReadyFailed is declared exactly in between: some port has a Listener, not all are Ready and
+/// booked, and not all count as AskingFailed.
 pub fn ready_failed_in_between()
     ensures { (rows : List PortListener)
         → (listener_out rows ≡ Some ReadyFailed)

@@ -5,8 +5,8 @@ ghost use Rattle.msrp_listener.specs.Merging.{merge_of};
 
 use srp_base::ListenerKind;
 
-/// What the Listeners behind two ports come to together (IEEE Std 802.1Q-2018, 35.2.4.4): Ready where both
-/// are, AskingFailed where both are, else ReadyFailed.
+/// What the Listeners behind two ports come to together (IEEE Std 802.1Q-2018, 35.2.4.4): Ready
+/// where both are, AskingFailed where both are, else ReadyFailed.
 pub fn merge(x: ListenerKind, y: ListenerKind) -> ListenerKind
     ensures { result ≡ merge_of x y }
 {

@@ -15,9 +15,9 @@ pub struct PortListener {
     pub booked: bool,
 }
 
-/// What the Talker's port declares for the Listeners at all other ports (IEEE Std 802.1Q-2018, 35.2.4.4), each
-/// row one such port, in any order; None exactly where there are no rows. A row that isn't booked counts as
-/// AskingFailed, and the counted kinds are merged.
+/// What the Talker's port declares for the Listeners at all other ports (IEEE Std 802.1Q-2018,
+/// 35.2.4.4), each row one such port, in any order; None exactly where there are no rows. A row
+/// that isn't booked counts as AskingFailed, and the counted kinds are merged.
 pub fn listener_out(rows: &[PortListener]) -> Option<ListenerKind>
     ensures { result ≡ listener_out_spec rows.now }
 {

@@ -1,5 +1,5 @@
--- What a port declares of a Talker that is registered at another port (IEEE Std 802.1Q-2018, 35.2.4.3). The
--- order in which reasons to refuse are checked is this project's own.
+-- What a port declares of a Talker that is registered at another port (IEEE Std 802.1Q-2018,
+-- 35.2.4.3). The order in which reasons to refuse are checked is this project's own.
 use Rattle.std.specs.Prelude.{◌≡◌, ℕ, ◌+◌, ◌-◌, ◌^◌, min, ◌==◌, Bool, nat_lt, if◌then◌else◌, is_none, Option, Some, None, option_map}
 use Rattle.std.specs.Option.{option_or}
 use Rattle.srp_base.specs.declared.{bandwidth.Class.Class, bandwidth.Class.TheVariants.A, bandwidth.Class.TheVariants.B, streams.Failure.Failure, streams.Talker.Talker, streams.TalkerReg.TalkerReg}
@@ -7,12 +7,13 @@ use Rattle.srp_base.specs.declared.streams.TalkerReg.TheVariants.{Absent, Advert
 use Rattle.stream_importance.specs.declared.{entry.Fit.Fit, entry.Fit.TheVariants.Fits, entry.Fit.TheVariants.TooLittle}
 use Rattle.msrp_talker.specs.declared.port_config.PortConfig.{PortConfig}
 
--- the SR class of a priority: 3 is class A, 2 is class B, and no other has one (34.5, the default of two classes)
+-- the SR class of a priority: 3 is class A, 2 is class B, and no other has one (34.5, the default
+-- of two classes)
 abbrev pub class_of_priority : ℕ → Option Class
 class_of_priority priority = if priority == 3 then Some A else if priority == 2 then Some B else None
 
--- why no port can serve a Talker: code 13 where its priority has no SR class, else 14 where its MaxFrameSize is
--- too large for the medium (35.2.2.8.7)
+-- why no port can serve a Talker: code 13 where its priority has no SR class, else 14 where its
+-- MaxFrameSize is too large for the medium (35.2.2.8.7)
 abbrev pub check_of : Talker → Option ℕ
 check_of talker =
     if is_none (class_of_priority talker.priority)
@@ -24,17 +25,19 @@ abbrev pub fit_code : Fit → Option ℕ
 fit_code Fits = None
 fit_code (TooLittle more_important cap code) = Some code
 
--- the failure code of a port at the boundary of an SRP domain (35.1.4): 8, "egress port is not AVB capable"
+-- the failure code of a port at the boundary of an SRP domain (35.1.4): 8, "egress port is not AVB
+-- capable"
 abbrev pub boundary_code : Bool → Option ℕ
 boundary_code boundary = if boundary then Some 8 else None
 
--- the code for which a port refuses an advertised Talker: what no port can serve comes before the domain's boundary,
--- and that before what doesn't fit
+-- the code for which a port refuses an advertised Talker: what no port can serve comes before the
+-- domain's boundary, and that before what doesn't fit
 abbrev pub refusal_of : Talker → Bool → Fit → Option ℕ
 refusal_of talker boundary fit =
     option_or (check_of talker) (option_or (boundary_code boundary) (fit_code fit))
 
--- a Talker whose accumulated latency has grown, in ns; it stands still at the greatest number of 32 bits
+-- a Talker whose accumulated latency has grown, in ns; it stands still at the greatest number of 32
+-- bits
 abbrev pub delayed_by : ℕ → Talker → Talker
 delayed_by latency talker = record talker { latency = min (talker.latency + latency) (2 ^ 32 - 1) }
 
@@ -43,7 +46,8 @@ abbrev pub declared_of : PortConfig → Talker → Option ℕ → TalkerReg
 declared_of config talker None = Advertise talker
 declared_of config talker (Some code) = Failed talker (record { bridge = config.bridge; code = code })
 
--- what a port declares of what is registered; `boundary` is whether the port is one for the Talker's class
+-- what a port declares of what is registered; `boundary` is whether the port is one for the
+-- Talker's class
 abbrev pub talker_out : TalkerReg → PortConfig → Bool → Fit → TalkerReg
 talker_out Absent config boundary fit = Absent
 talker_out (Failed talker failure) config boundary fit = Failed (delayed_by config.latency talker) failure

@@ -1,5 +1,5 @@
-//! What the cases come to along a path of ports: laws over the definitions that the contracts cite. Each is a
-//! function that does nothing; calling it brings the law to a proof.
+//! What the cases come to along a path of ports: laws over the definitions that the contracts cite.
+//! Each is a function that does nothing; calling it brings the law to a proof.
 
 ghost use Rattle.std.specs.Prelude.{◌≡◌, ◌↔◌, ◌⊎◌, ◌≤◌, ◌<◌, ◌+◌, ◌^◌, ℕ, Bool, true, false, Some, None};
 ghost use Rattle.srp_base.specs.declared.{streams.Failure.Failure, streams.Talker.Talker, streams.TalkerReg.TalkerReg};
@@ -8,8 +8,8 @@ ghost use Rattle.stream_importance.specs.declared.{entry.Fit.Fit, entry.Fit.TheV
 ghost use Rattle.msrp_talker.specs.declared.port_config.PortConfig.{PortConfig};
 ghost use Rattle.msrp_talker.specs.TalkerOut.{check_of, fit_code, delayed_by, IsCarriedOn, IsOfPort, refusal_of, statement_of, talker_in, talker_out};
 
-/// A Talker is advertised onwards exactly where it is advertised, `check` finds nothing, the port is no boundary
-/// for it, and it fits.
+/// A Talker is advertised onwards exactly where it is advertised, `check` finds nothing, the port
+/// is no boundary for it, and it fits.
 pub fn advertised_where_it_fits()
     ensures onwards { (talker : Talker) (config : PortConfig) (boundary : Bool) (fit : Fit)
         → (talker_out (Advertise talker) config boundary fit
@@ -18,13 +18,15 @@ pub fn advertised_where_it_fits()
     ensures only { (reg : TalkerReg) (config : PortConfig) (boundary : Bool) (fit : Fit)
         (talker : Talker)
         → talker_out reg config boundary fit ≡ Advertise talker
-        → (before : Talker) × (reg ≡ Advertise before) × (talker ≡ delayed_by config.latency before) }
+        → (before : Talker) × (reg ≡ Advertise before)
+        × (talker ≡ delayed_by config.latency before) }
 {}
 
-/// A failure that a port declares is the one that was registered, or the port's own refusal, which names its
-/// bridge.
+/// A failure that a port declares is the one that was registered, or the port's own refusal, which
+/// names its bridge.
 pub fn a_failure_is_carried_on_or_of_the_port()
-    ensures { (reg : TalkerReg) (config : PortConfig) (boundary : Bool) (fit : Fit) (talker : Talker)
+    ensures { (reg : TalkerReg) (config : PortConfig) (boundary : Bool) (fit : Fit)
+        (talker : Talker)
         (failure : Failure)
         → talker_out reg config boundary fit ≡ Failed talker failure
         → IsCarriedOn reg failure ⊎ IsOfPort config boundary fit reg failure }
@@ -38,8 +40,9 @@ pub fn bandwidth_codes_come_of_the_fit()
         → (check_of talker ≡ None) × (boundary ≡ false) × (fit_code fit ≡ Some code) }
 {}
 
-/// A boundary refuses with code 8 each advertised Talker for which `check` finds nothing, whether it fits or not. Where
-/// `check` finds something its code comes first, and inside a domain the fit alone decides.
+/// A boundary refuses with code 8 each advertised Talker for which `check` finds nothing, whether
+/// it fits or not. Where `check` finds something its code comes first, and inside a domain the fit
+/// alone decides.
 pub fn a_boundary_refuses_with_code_8()
     ensures boundary { (talker : Talker) (fit : Fit) → check_of talker ≡ None
         → refusal_of talker true fit ≡ Some 8 }
@@ -49,7 +52,8 @@ pub fn a_boundary_refuses_with_code_8()
         → refusal_of talker false fit ≡ fit_code fit }
 {}
 
-/// A port declares a Talker exactly where one is registered, and changes nothing that the Talker states.
+/// A port declares a Talker exactly where one is registered, and changes nothing that the Talker
+/// states.
 pub fn only_the_latency_changes()
     ensures absent { (reg : TalkerReg) (config : PortConfig) (boundary : Bool) (fit : Fit)
         → (talker_out reg config boundary fit ≡ Absent) ↔ (reg ≡ Absent) }

@@ -16,12 +16,13 @@ pub struct PortConfig {
     pub latency: u32,
 }
 
-/// What a port declares of a Talker that is registered so at another port (IEEE Std 802.1Q-2018, 35.2.4.3).
-/// `boundary` is whether this port is at the boundary of the SRP domain of the Talker's class (35.1.4), and `fit`
-/// whether the stream's want fits at this port. Absent stays so, and Failed keeps its Failure. Advertise becomes
-/// Failed with this bridge and the first code that there is: `check`'s code, 8 where `boundary` holds, and the
-/// fit's code where that is `TooLittle`; else it stays Advertise. Each Talker has the port's latency added, up to
-/// the greatest u32.
+/// What a port declares of a Talker that is registered so at another port (IEEE Std 802.1Q-2018,
+/// 35.2.4.3). `boundary` is whether this port is at the boundary of the SRP domain of the Talker's
+/// class (35.1.4), and `fit` whether the stream's want fits at this port. Absent stays so, and
+/// Failed keeps its Failure. Advertise becomes Failed with this bridge and the first code that
+/// there is: `check`'s code, 8 where `boundary` holds, and the fit's code where that is
+/// `TooLittle`; else it stays Advertise. Each Talker has the port's latency added, up to the
+/// greatest u32.
 pub fn talker_out(reg: TalkerReg, config: &PortConfig, boundary: bool, fit: Fit) -> TalkerReg
     ensures { result ≡ talker_out_spec reg config.now boundary fit }
 {

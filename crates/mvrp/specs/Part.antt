@@ -1,5 +1,5 @@
--- The participant of MVRP at a port, with VIDs as keys and no content (IEEE Std 802.1Q-2018, 11.2.3): the words on a
--- flat participant, for VIDs.
+-- The participant of MVRP at a port, with VIDs as keys and no content (IEEE Std 802.1Q-2018,
+-- 11.2.3): the words on a flat participant, for VIDs.
 use Rattle.std.specs.Prelude.{ℕ, Bool, List}
 use Rattle.std.specs.Ordering.{nat_cmp}
 use Rattle.srp_base.specs.declared.{numbers.Cs.Cs, mrp.MrpEvent.MrpEvent}
@@ -10,11 +10,13 @@ use Rattle.flat_side.specs.Codec.{Codec}
 use Rattle.flat_side.specs.Part as flat
 use Rattle.flat_side.specs.Side as side
 
--- the stated octets of a PDU without VIDs: ProtocolVersion, a Message with the vector of a LeaveAll alone, two EndMarks
+-- the stated octets of a PDU without VIDs: ProtocolVersion, a Message with the vector of a LeaveAll
+-- alone, two EndMarks
 abbrev pub base : ℕ
 base = 11
 
--- the stated octets of a VID: those of a vector of it alone, with its header, FirstValue and one of ThreePackedEvents
+-- the stated octets of a VID: those of a vector of it alone, with its header, FirstValue and one of
+-- ThreePackedEvents
 abbrev pub octets : Unit {0} → ℕ
 octets _ = 5
 
@@ -45,7 +47,8 @@ received_part now pdu s = flat.received_part nat_cmp now pdu.leave_all pdu.event
 abbrev pub told_by_receipt : Cs → MvrpPdu → Part → List ℕ
 told_by_receipt now pdu s = flat.told_by_receipt nat_cmp now pdu.leave_all pdu.events s
 
--- the PDU that is sent: a LeaveAll where the LeaveAll machine is Active, and what those rows say that find room in it
+-- the PDU that is sent: a LeaveAll where the LeaveAll machine is Active, and what those rows say
+-- that find room in it
 abbrev pub pdu_sent : Cs → Part → MvrpPdu
 pdu_sent now s = side.pdu_sent nat_cmp vlan_codec base octets now s
 

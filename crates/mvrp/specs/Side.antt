@@ -7,8 +7,8 @@ use Rattle.flat_side.specs.Codec as codec
 use Rattle.flat_side.specs.Side as flat
 use Rattle.mvrp.specs.Part.{Part, base, octets, vlan_codec}
 
--- the participants of the link ports, in the order of the ports; the VIDs that await settling at each, ascending; and
--- the VIDs that the application declares, ascending
+-- the participants of the link ports, in the order of the ports; the VIDs that await settling at
+-- each, ascending; and the VIDs that the application declares, ascending
 abbrev pub Vlans : Type 0
 Vlans = flat.FlatState ℕ
 
@@ -16,8 +16,8 @@ Vlans = flat.FlatState ℕ
 abbrev pub has_own : ℕ → Vlans → Bool
 has_own vid side = flat.has_own nat_cmp vid side
 
--- the flat rule at a port of a side: whether it is to declare a VID, since a port other than it, or the application, has
--- the VID registered
+-- the flat rule at a port of a side: whether it is to declare a VID, since a port other than it, or
+-- the application, has the VID registered
 abbrev pub is_flat : Vlans → ℕ → ℕ → Bool
 is_flat side at vid = flat.is_flat nat_cmp side at vid
 
@@ -31,7 +31,8 @@ new_vlans leave_time periodic ports = flat.new_flat leave_time periodic ports
 abbrev pub with_told_part : ℕ → Part → List ℕ → Vlans → Vlans
 with_told_part at s vids side = flat.with_told_part nat_cmp at s vids side
 
--- the participant at a place received a PDU, and the VIDs whose registration that changed await at every other port
+-- the participant at a place received a PDU, and the VIDs whose registration that changed await at
+-- every other port
 abbrev pub received_vlans : Cs → ℕ → MvrpPdu → Vlans → Vlans
 received_vlans now at pdu side = flat.received_flat nat_cmp now at pdu.leave_all pdu.events side
 
@@ -43,11 +44,13 @@ due_vlans now at side = flat.due_flat nat_cmp now at side
 abbrev pub left_vids : ℕ → Part → List ℕ
 left_vids vid s = flat.left_key nat_cmp vid s
 
--- the leave timer of one VID has ended at a place, and where the VID left, it awaits at every other port
+-- the leave timer of one VID has ended at a place, and where the VID left, it awaits at every other
+-- port
 abbrev pub left_vlans : ℕ → ℕ → Vlans → Vlans
 left_vlans at vid side = flat.left_flat nat_cmp at vid side
 
--- the LeaveAll timer has fired at a place: the LeaveAll machine is Active, and the timer restarts (10.7.9)
+-- the LeaveAll timer has fired at a place: the LeaveAll machine is Active, and the timer restarts
+-- (10.7.9)
 abbrev pub leave_all_vlans : Cs → ℕ → Vlans → Vlans
 leave_all_vlans now at side = flat.leave_all_flat now at side
 
@@ -73,8 +76,8 @@ requested_vlans vid declared side = flat.requested_flat nat_cmp vid declared sid
 
 -- ---- what is kept, and what is written
 
--- what every side keeps: participants' rows, a set of awaiting VIDs for each, its own VIDs ascending, and that each
--- port's VIDs that don't await are declared there exactly by the flat rule
+-- what every side keeps: participants' rows, a set of awaiting VIDs for each, its own VIDs
+-- ascending, and that each port's VIDs that don't await are declared there exactly by the flat rule
 abbrev pub IsKept : Vlans → Type 0
 IsKept side = flat.IsKept nat_cmp side
 

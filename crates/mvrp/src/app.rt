@@ -1,4 +1,5 @@
-//! MVRP as an application of MRP (IEEE Std 802.1Q-2018, 11.2.3): its attributes are VIDs without content.
+//! MVRP as an application of MRP (IEEE Std 802.1Q-2018, 11.2.3): its attributes are VIDs without
+//! content.
 
 ghost use Rattle.std.specs.Prelude.{IfOk};
 ghost use Rattle.flat_side.specs.Codec.{IsFitting};
@@ -11,8 +12,8 @@ use mvrp_codec::{DecodeErr, MvrpPdu, decode, encode};
 use srp_base::{MrpEvent, NoMemory, Seq, Vid};
 use std::alloc::Global;
 
-/// MVRP as an application of MRP: a key is a VID, and there is no content. A PDU takes 11 octets, and each
-/// VID that stands apart 5 more.
+/// MVRP as an application of MRP: a key is a VID, and there is no content. A PDU takes 11 octets,
+/// and each VID that stands apart 5 more.
 pub struct MvrpApp;
 
 impl MrpApp for MvrpApp {

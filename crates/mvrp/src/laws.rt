@@ -1,5 +1,5 @@
-//! What MVRP at a node keeps at each call, and what it sends: laws over the states that contracts see. Each is a
-//! function that does nothing; calling it brings the law to a proof.
+//! What MVRP at a node keeps at each call, and what it sends: laws over the states that contracts
+//! see. Each is a function that does nothing; calling it brings the law to a proof.
 
 ghost use Rattle.std.specs.Prelude.{◌≡◌, ℕ, Bool, false, List};
 ghost use Rattle.std.specs.Ordering.{nat_cmp};
@@ -51,7 +51,8 @@ pub fn settling_and_requests_keep_a_side_proper()
     of_flat::settling_and_requests_keep_a_side_proper::<MvrpApp>();
 }
 
-/// What a participant sends, where it isn't silent, is written in octets that read as it, at most 1,500.
+/// What a participant sends, where it isn't silent, is written in octets that read as it, at most
+/// 1,500.
 pub fn what_is_sent_is_read()
     ensures { (now : Cs) (s : Part) → AreRows nat_cmp s.rows → HasVidRows s → is_silent s ≡ false
         → IsWritten (pdu_sent now s) (mvrp_spelling (pdu_sent now s)) }

@@ -31,7 +31,8 @@ streaks_maximal [] = tt
 streaks_maximal (x ∷ xs) = join_maximal x (streaks xs) (streaks_maximal xs)
 
 -- a streak in front of others
-in_front : (streak : List (MrpEvent × ℕ)) (others : List (List (MrpEvent × ℕ))) (rest : List (MrpEvent × ℕ)) → IsStreak streak → EndsBefore streak others → streaks rest ≡ others → streaks (streak ++ rest) ≡ streak ∷ others
+in_front : (streak : List (MrpEvent × ℕ)) (others : List (List (MrpEvent × ℕ))) (rest : List (MrpEvent × ℕ)) → IsStreak streak → EndsBefore streak others
+    → streaks rest ≡ others → streaks (streak ++ rest) ≡ streak ∷ others
 in_front [] others rest is ends e = absurd is
 in_front (x ∷ []) [] rest is ends e = ap (join x) e
 in_front (x ∷ []) ([] ∷ others) rest is ends e = absurd ends

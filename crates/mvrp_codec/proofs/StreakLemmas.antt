@@ -37,7 +37,8 @@ vids_push : (xs : List (MrpEvent × ℕ)) (x : MrpEvent × ℕ) → AreVids xs �
 vids_push [] x all one = (one, tt)
 vids_push (y ∷ ys) x all one = (all.0, vids_push ys x all.1 one)
 
-pub vids_more : (events : List (MrpEvent × ℕ)) (i : ℕ) (x : MrpEvent × ℕ) → i < length events → x ≡ get_or events i x → (1 ≤ x.1) × (x.1 ≤ 4094) → AreVids (take i events) → AreVids (take (i + 1) events)
+pub vids_more : (events : List (MrpEvent × ℕ)) (i : ℕ) (x : MrpEvent × ℕ) → i < length events → x ≡ get_or events i x → (1 ≤ x.1) × (x.1 ≤ 4094)
+    → AreVids (take i events) → AreVids (take (i + 1) events)
 vids_more events i x lt is one all =
     subst AreVids (sym (take_more events i x lt ∙ ap (λ (y : MrpEvent × ℕ). take i events ++ y ∷ []) (sym is))) (vids_push (take i events) x all one)
 
@@ -91,7 +92,8 @@ octets_go_on out new total leave (x ∷ xs) n some e so_far new-is =
     let cut : streaks (x ∷ xs) ≡ streak ∷ after = streaks_cut x xs ∙ ap (λ (k : ℕ). take k (x ∷ xs) ∷ streaks (drop k (x ∷ xs))) (sym e) in
     let all : streaks_octets leave (streaks (x ∷ xs)) ≡ vector_octets (vector_for (streak_vector leave streak)) ++ streaks_octets false after =
     ap (streaks_octets leave) cut ∙ ap (λ (vs : List VectorAttr). vectors_octets (vectors_for vs)) (vectors_more leave streak after) in
-    ap (λ (os : List ℕ). os ++ streaks_octets false after) new-is ∙ append_assoc out (vector_octets (vector_for (streak_vector leave streak))) (streaks_octets false after) ∙ ap (λ (os : List ℕ). out ++ os) (sym all) ∙ so_far
+    ap (λ (os : List ℕ). os ++ streaks_octets false after) new-is
+    ∙ append_assoc out (vector_octets (vector_for (streak_vector leave streak))) (streaks_octets false after) ∙ ap (λ (os : List ℕ). out ++ os) (sym all) ∙ so_far
 
 -- no event is left
 pub octets_end : (out total : List ℕ) (leave : Bool) (rest : List (MrpEvent × ℕ)) → length rest ≡ 0 → leave ≡ false → out ++ streaks_octets leave (streaks rest) ≡ total → out ≡ total

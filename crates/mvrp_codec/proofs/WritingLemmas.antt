@@ -165,6 +165,7 @@ framed_spelling vs =
     let mark : List ℕ = 0 ∷ 0 ∷ [] in
     ap (λ (os : List ℕ). 0 ∷ 1 ∷ 2 ∷ os) (sym (ap (λ (os : List ℕ). os ++ mark) (append-nil (octets ++ mark)) ∙ append_assoc octets mark mark))
 
-pub octets_are : (octets : List ℕ) (events : List (MrpEvent × ℕ)) (read : MvrpPdu) → octets ≡ pdu_around (streaks_octets read.leave_all (streaks events)) → events ≡ read.events → octets ≡ mvrp_spelling read
+pub octets_are : (octets : List ℕ) (events : List (MrpEvent × ℕ)) (read : MvrpPdu) → octets ≡ pdu_around (streaks_octets read.leave_all (streaks events))
+    → events ≡ read.events → octets ≡ mvrp_spelling read
 octets_are octets events read e f =
     e ∙ ap (λ (es : List (MrpEvent × ℕ)). pdu_around (streaks_octets read.leave_all (streaks es))) f ∙ framed_spelling (streak_vectors read.leave_all (streaks read.events))

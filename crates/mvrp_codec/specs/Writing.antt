@@ -1,5 +1,5 @@
--- The one spelling in which the events of VIDs are written (IEEE Std 802.1Q-2018, 10.8.1.2): one Message,
--- in which each maximal streak of consecutive VIDs is one vector.
+-- The one spelling in which the events of VIDs are written (IEEE Std 802.1Q-2018, 10.8.1.2): one
+-- Message, in which each maximal streak of consecutive VIDs is one vector.
 use Rattle.std.specs.Prelude.{◌≡◌, ◌≢◌, ℕ, ◌+◌, ◌≤◌, Bool, true, false, ◌||◌, List, [], ◌∷◌, ◌++◌, length, map, nat_lt, ◌==◌, if◌then◌else◌}
 use Rattle.std.specs.List.{flat_map, AllByRecursion}
 use Rattle.srp_base.specs.declared.mrp.MrpEvent.{MrpEvent}

@@ -1,5 +1,5 @@
-//! Laws of what octets say, and of the streaks in which VIDs are written. A crate above that needs one calls
-//! it, and its proof has the clauses.
+//! Laws of what octets say, and of the streaks in which VIDs are written. A crate above that needs
+//! one calls it, and its proof has the clauses.
 
 ghost use Rattle.std.specs.Prelude.{◌≡◌, ◌≤◌, ◌↔◌, List, ℕ, length, Ok, Err};
 ghost use Rattle.srp_base.specs.declared.mrp.MrpEvent.{MrpEvent};
@@ -9,8 +9,8 @@ ghost use Rattle.mvrp_codec.specs.declared.pdu.MvrpPdu.{MvrpPdu};
 ghost use Rattle.mvrp_codec.specs.Meaning.{SaysMvrp, mvrp_reading};
 ghost use Rattle.mvrp_codec.specs.Writing.{streaks, AreMaximal, events_of_streaks, mvrp_spelling, IsWritable, AreVids};
 
-/// The reading as a function is the grammar with the meaning of a PDU: octets read as exactly what the
-/// PDU that they spell says, or as exactly the place where they break.
+/// The reading as a function is the grammar with the meaning of a PDU: octets read as exactly what
+/// the PDU that they spell says, or as exactly the place where they break.
 pub fn reading_is_the_grammar()
     ensures reads { (octets : List ℕ) (read : MvrpPdu)
         → (mvrp_reading octets ≡ Ok read) ↔ SaysMvrp octets read }
@@ -20,8 +20,8 @@ pub fn reading_is_the_grammar()
     mrpdu_codec::reading_is_the_grammar();
 }
 
-/// The law of the streaks: one after another they are the events, they are maximal, and no other streaks are
-/// both.
+/// The law of the streaks: one after another they are the events, they are maximal, and no other
+/// streaks are both.
 pub fn streaks_are_maximal()
     ensures whole { (events : List (MrpEvent × ℕ)) → events_of_streaks (streaks events) ≡ events }
     ensures maximal { (events : List (MrpEvent × ℕ)) → AreMaximal (streaks events) }

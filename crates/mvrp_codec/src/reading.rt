@@ -57,7 +57,8 @@ fn push_octet(
     Ok(())
 }
 
-/// Puts the first n events of packed octets at the end, with consecutive VIDs. Those past 4,094 give none.
+/// Puts the first n events of packed octets at the end, with consecutive VIDs. Those past 4,094
+/// give none.
 fn push_events(
     out: &mut Vec<(MrpEvent, Vid)>,
     first: u16,
@@ -115,14 +116,14 @@ fn meaning(alloc: Global, raw: &RawPdu<'_>) -> Result<MvrpPdu, NoMemory>
     })
 }
 
-/// What the octets of an MRPDU of MVRP say: whether any vector has a LeaveAll, and the events of VIDs in
-/// the order of the octets. VIDs outside 1 to 4,094 give none (IEEE Std 802.1Q-2018, 11.2.3.1). There are
-/// fewer than 2^32 octets.
+/// What the octets of an MRPDU of MVRP say: whether any vector has a LeaveAll, and the events of
+/// VIDs in the order of the octets. VIDs outside 1 to 4,094 give none (IEEE Std 802.1Q-2018,
+/// 11.2.3.1). There are fewer than 2^32 octets.
 ///
 /// # Errors
 ///
-/// `Malformed` carries the offset, in octets from 0, of the first field that breaks its rule or that the
-/// octets are too short for. `NoMemory` comes where memory for the events runs out.
+/// `Malformed` carries the offset, in octets from 0, of the first field that breaks its rule or
+/// that the octets are too short for. `NoMemory` comes where memory for the events runs out.
 pub fn decode(alloc: Global, octets: &[u8]) -> Result<MvrpPdu, DecodeErr>
     requires { length octets.now < 2 ^ 32 }
 
@@ -131,8 +132,8 @@ pub fn decode(alloc: Global, octets: &[u8]) -> Result<MvrpPdu, DecodeErr>
     ensures broken { (place : ℕ)
         → result ≡ Err (errors.Malformed place) → Breaks Mvrp octets.now place }
 
-    // Want of memory alone is free: else the answer is the reading, which the law `reading_is_the_grammar`
-    // says is all that the octets read as and each place where they break.
+    // Want of memory alone is free: else the answer is the reading, which the law
+    // `reading_is_the_grammar` says is all that the octets read as and each place where they break.
     ensures exact { Answers result (mvrp_reading octets.now) }
 {
     let raw = mrpdu_codec::decode_in_place(alloc, AppForm::Mvrp, octets)?;

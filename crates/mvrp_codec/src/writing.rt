@@ -110,10 +110,11 @@ fn written(alloc: Global, leave_all: bool, events: &[(MrpEvent, Vid)]) -> Result
     Ok(out)
 }
 
-/// The octets that say a LeaveAll and the events of VIDs (IEEE Std 802.1Q-2018, 10.8.1.2, 11.2.3.1), in the
-/// order given: each maximal streak of consecutive VIDs is one vector, and a LeaveAll stands in the first.
-/// Where the VIDs ascend this is the canonical encoding. There has to be a LeaveAll
-/// or an event, and there have to be at most 297 events, so that the octets are at most 1,500.
+/// The octets that say a LeaveAll and the events of VIDs (IEEE Std 802.1Q-2018, 10.8.1.2,
+/// 11.2.3.1), in the order given: each maximal streak of consecutive VIDs is one vector, and a
+/// LeaveAll stands in the first. Where the VIDs ascend this is the canonical encoding. There has to
+/// be a LeaveAll or an event, and there have to be at most 297 events, so that the octets are at
+/// most 1,500.
 ///
 /// # Errors
 ///

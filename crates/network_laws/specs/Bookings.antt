@@ -1,6 +1,7 @@
--- Bookings: a stream has bandwidth at a port exactly where the port declares that it is advertised, and Listeners that can have
--- it are registered there (IEEE Std 802.1Q-2018, 35.2.4). Either side by its own definition: one looks at the port's ledger, the
--- other at its participant, at what it declares and at what it has registered.
+-- Bookings: a stream has bandwidth at a port exactly where the port declares that it is advertised,
+-- and Listeners that can have it are registered there (IEEE Std 802.1Q-2018, 35.2.4). Either side
+-- by its own definition: one looks at the port's ledger, the other at its participant, at what it
+-- declares and at what it has registered.
 use Rattle.std.specs.Prelude.{◌≡◌, ◌↔◌, Bool, true, false, is_some}
 use Rattle.std.specs.Option.{option_map_or}
 use Rattle.srp_base.specs.declared.{numbers.EgressPort.EgressPort, numbers.StreamId.StreamId}
@@ -28,8 +29,8 @@ declares_advertise stream port = is_advertised (talker_reg_of (declared_at key_c
 abbrev pub registers_ready : StreamId → PortState → Bool
 registers_ready stream port = is_ready (registered_listener stream port.part)
 
--- a port has booked a stream exactly where it declares a Talker Advertise of it and has Listener Ready or Ready Failed of it
--- registered
+-- a port has booked a stream exactly where it declares a Talker Advertise of it and has Listener
+-- Ready or Ready Failed of it registered
 abbrev pub IsBookedAsAdvertised : StreamId → PortState → Type 0
 IsBookedAsAdvertised stream port =
     (is_booked_in stream port ≡ true)
@@ -42,8 +43,8 @@ abbrev pub at_port_of : (PortState → Bool) → EgressPort → WorldState → B
 at_port_of test p w =
     option_map_or (λ (s : NodeState). of_port test false (place_of p.port) s.streams) (node_at p.node w) false
 
--- a stream is booked at a port of a network exactly where the port declares a Talker Advertise of it and has Listener Ready or
--- Ready Failed of it registered
+-- a stream is booked at a port of a network exactly where the port declares a Talker Advertise of
+-- it and has Listener Ready or Ready Failed of it registered
 abbrev pub BookingsMatch : WorldState → StreamId → Type 0
 BookingsMatch w stream =
     (p : EgressPort) → HasPort w.tree p

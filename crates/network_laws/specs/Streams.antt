@@ -1,6 +1,7 @@
--- The laws of streams: where a Talker is registered, when an application hears Ready, and what a Talker Failed for want of
--- bandwidth comes of (IEEE Std 802.1Q-2018, 35.2.4). Either side by its own definition: one looks at what is registered or
--- heard at one place, the other at the tree's walks, at what the stations' applications talk, and at bookings.
+-- The laws of streams: where a Talker is registered, when an application hears Ready, and what a
+-- Talker Failed for want of bandwidth comes of (IEEE Std 802.1Q-2018, 35.2.4). Either side by its
+-- own definition: one looks at what is registered or heard at one place, the other at the tree's
+-- walks, at what the stations' applications talk, and at bookings.
 use Rattle.std.specs.Prelude.{◌≡◌, ◌↔◌, ◌<◌, ◌+◌, ◌==◌, ℕ, Bool, true, false, ◌&&◌, ◌||◌, if◌then◌else◌, List, [], ◌∷◌, length, find, slice_get, Option, Some, None, is_some, option_and_then}
 use Rattle.std.specs.{Option.option_map_or, Option.option_or, List.AllByRecursion, List.list_all, List.range_with_len}
 use Rattle.srp_base.specs.declared.{numbers.EgressPort.EgressPort, numbers.StreamId.StreamId, streams.Failure.Failure, streams.Talker.Talker, streams.TalkerReg.TalkerReg, streams.ListenerKind.ListenerKind}
@@ -50,7 +51,8 @@ abbrev pub HasTalkerBehind : WorldState → StreamId → EgressPort → Type 0
 HasTalkerBehind w stream p =
     (y : ℕ) × HasNode w.tree y × LiesBehind w.tree.links p y × (is_talked_at w stream y ≡ true)
 
--- a Talker of the stream is registered at a port exactly where a station that talks it is behind the port
+-- a Talker of the stream is registered at a port exactly where a station that talks it is behind
+-- the port
 abbrev pub TalkersMatch : WorldState → StreamId → Type 0
 TalkersMatch w stream =
     (p : EgressPort) → HasPort w.tree p
@@ -104,7 +106,8 @@ abbrev pub is_listened_at : WorldState → StreamId → ℕ → Bool
 is_listened_at w stream l =
     option_map_or (λ (s : NodeState). is_station s.kind && has_listen stream s.streams) (node_of l w) false
 
--- a station that listens to the stream, and isn't the Talker's, hears Ready exactly where the path has booked
+-- a station that listens to the stream, and isn't the Talker's, hears Ready exactly where the path
+-- has booked
 abbrev pub AreReadyOnPath : WorldState → StreamId → Type 0
 AreReadyOnPath w stream =
     (l : ℕ) → HasNode w.tree l → is_listened_at w stream l ≡ true → is_talked_at w stream l ≡ false
@@ -112,7 +115,8 @@ AreReadyOnPath w stream =
 
 -- ---- what a refusal comes of
 
--- a code of bandwidth: insufficient bandwidth, or bandwidth that a stream of higher rank takes (35.2.2.8.7)
+-- a code of bandwidth: insufficient bandwidth, or bandwidth that a stream of higher rank takes
+-- (35.2.2.8.7)
 abbrev pub is_bandwidth_code : ℕ → Bool
 is_bandwidth_code code = (code == 1) || (code == 6)
 
@@ -122,7 +126,8 @@ bandwidth_failure Absent = None
 bandwidth_failure (Advertise talker) = None
 bandwidth_failure (Failed talker failure) = if is_bandwidth_code failure.code then Some failure else None
 
--- the failure for want of bandwidth that is registered of a stream's Talker at a node's first port, a station's only one
+-- the failure for want of bandwidth that is registered of a stream's Talker at a node's first port,
+-- a station's only one
 abbrev pub failure_in : StreamId → NodeState → Option Failure
 failure_in stream s = bandwidth_failure (talker_at_place stream 0 s)
 
@@ -136,14 +141,15 @@ want_at w stream t =
     option_and_then (λ (s : NodeState). option_and_then want_of_talker (talk_of stream s.streams.talks))
     (node_of t w)
 
--- What a ledger has booked leaves no place for a want at a moment: the more important bookings, of which there may be none,
--- with its own slope pass its cap, and that gives this code.
+-- What a ledger has booked leaves no place for a want at a moment: the more important bookings, of
+-- which there may be none, with its own slope pass its cap, and that gives this code.
 pub record IsPushedOut (now : ℕ) (book : Book) (want : Want) (code : ℕ) : Type 0 where
   pub passes : cap_of book.caps want.class
       < above now (tested_entry book.entries want) (booked_of book.entries) + want.slope
   pub code_is : code ≡ code_of now book.caps (booked_of book.entries) (tested_entry book.entries want)
 
--- at a port of the node with the failure's BridgeID, bookings leave no place for what station t asks
+-- at a port of the node with the failure's BridgeID, bookings leave no place for what station t
+-- asks
 pub record IsRefusedAt (w : WorldState) (stream : StreamId) (t : ℕ) (failure : Failure) (p : EgressPort) : Type 0 where
   pub node : NodeState
   pub node_is : node_at p.node w ≡ Some node
@@ -159,9 +165,10 @@ abbrev pub IsOnPath : WorldState → ℕ → ℕ → EgressPort → Type 0
 IsOnPath w t l p =
     (ports : List EgressPort) × (i : ℕ) × IsPortPath w.tree.links t l ports × (slice_get ports i ≡ Some p)
 
--- Where a node's first port has a Talker Failed for want of bandwidth, and the node isn't the Talker's, some station talks
--- the stream, and at a port of the named bridge on the path from there bookings leave no place for it. It is said of every
--- node, bridges too; a station has that port alone.
+-- Where a node's first port has a Talker Failed for want of bandwidth, and the node isn't the
+-- Talker's, some station talks the stream, and at a port of the named bridge on the path from there
+-- bookings leave no place for it. It is said of every node, bridges too; a station has that port
+-- alone.
 abbrev pub AreRefusalsShown : WorldState → StreamId → Type 0
 AreRefusalsShown w stream =
     (l : ℕ) (failure : Failure) → HasNode w.tree l → is_talked_at w stream l ≡ false
@@ -188,14 +195,16 @@ refusal_of p slope code (Some (TooLittle more cap given)) =
     then Some (record { at = p; more_important = more; slope = slope; cap = cap; code = given })
     else None
 
--- the refusal of a stream by a node's port, where the node has the failure's BridgeID and its fit the failure's code
+-- the refusal of a stream by a node's port, where the node has the failure's BridgeID and its fit
+-- the failure's code
 abbrev pub refusal_in : StreamId → Failure → EgressPort → NodeState → Option Refusal
 refusal_in stream failure p s =
     if s.bridge.0 == failure.bridge.0
     then refusal_of p (slope_of_reg (talker_of stream s.streams)) failure.code (fit_of (place_of p.port) stream s)
     else None
 
--- the refusal of a stream by a port of the network, where that port's node and its fit match the failure
+-- the refusal of a stream by a port of the network, where that port's node and its fit match the
+-- failure
 abbrev pub refusal_at : WorldState → StreamId → Failure → EgressPort → Option Refusal
 refusal_at w stream failure p = option_and_then (refusal_in stream failure p) (node_at p.node w)
 
@@ -204,8 +213,8 @@ abbrev pub first_refusal : (EgressPort → Option Refusal) → List EgressPort �
 first_refusal refuses [] = None
 first_refusal refuses (p ∷ ports) = option_or (refuses p) (first_refusal refuses ports)
 
--- the first refusal that a failure names on the path from the Talker's station to a node; there is no path where no
--- station talks the stream
+-- the first refusal that a failure names on the path from the Talker's station to a node; there is
+-- no path where no station talks the stream
 abbrev pub refusal_named : WorldState → StreamId → ℕ → Failure → Option Refusal
 refusal_named w stream l failure =
     option_and_then (λ t. first_refusal (refusal_at w stream failure) (path_between w.tree.links t l))
@@ -215,8 +224,9 @@ refusal_named w stream l failure =
 abbrev pub refusal_to : WorldState → StreamId → ℕ → Option Refusal
 refusal_to w stream l = option_and_then (refusal_named w stream l) (failure_at w stream l)
 
--- A port is named: the station's port has a Talker Failed for want of bandwidth, the port is on the path from the Talker's
--- station, its node has the BridgeID of the failure, and its ledger refuses the stream with the failure's code.
+-- A port is named: the station's port has a Talker Failed for want of bandwidth, the port is on the
+-- path from the Talker's station, its node has the BridgeID of the failure, and its ledger refuses
+-- the stream with the failure's code.
 pub record IsNamedAt (w : WorldState) (stream : StreamId) (l : ℕ) (p : EgressPort) : Type 0 where
   pub failure : Failure
   pub failure_is : failure_at w stream l ≡ Some failure
@@ -231,8 +241,8 @@ pub record IsNamedAt (w : WorldState) (stream : StreamId) (l : ℕ) (p : EgressP
   pub cap : ℕ
   pub fit : fit_of (place_of p.port) stream node ≡ Some (TooLittle more cap failure.code)
 
--- a refusal is of a port that is named, with what its ledger says and the slope that the stream's Talker asks there; and what is
--- more important, with that slope, passes the cap
+-- a refusal is of a port that is named, with what its ledger says and the slope that the stream's
+-- Talker asks there; and what is more important, with that slope, passes the cap
 pub record IsRefusalTo (w : WorldState) (stream : StreamId) (l : ℕ) (refusal : Refusal) : Type 0 where
   pub port : IsNamedAt w stream l refusal.at
   pub more_is : refusal.more_important ≡ port.more

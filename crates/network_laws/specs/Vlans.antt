@@ -1,6 +1,6 @@
--- The law of VLANs: a VID is registered at a port exactly where a station behind the port has declared it (IEEE Std
--- 802.1Q-2018, 11.2). Either side by its own definition: one looks at the registrars, the other at the tree and at what
--- the stations' applications declare.
+-- The law of VLANs: a VID is registered at a port exactly where a station behind the port has
+-- declared it (IEEE Std 802.1Q-2018, 11.2). Either side by its own definition: one looks at the
+-- registrars, the other at the tree and at what the stations' applications declare.
 use Rattle.std.specs.Prelude.{◌≡◌, ◌↔◌, ℕ, Bool, true, false, ◌&&◌, length}
 use Rattle.std.specs.{Option.option_map_or, List.list_any, List.range_with_len}
 use Rattle.srp_base.specs.declared.numbers.EgressPort.{EgressPort}
@@ -29,8 +29,9 @@ HasDeclaredBehind w vid p = (y : ℕ) × HasNode w.tree y × LiesBehind w.tree.l
 abbrev pub VlansMatch : WorldState → Type 0
 VlansMatch w = (p : EgressPort) (vid : ℕ) → HasPort w.tree p → (is_registered w vid p ≡ true) ↔ HasDeclaredBehind w vid p
 
--- nothing is pending, and every port is sound in each application: it has sent a LeaveAll since a PDU of the application was
--- last lost or forged on its link, or since then took one of its neighbour's on a clear way (`is_sound_in` of world_core)
+-- nothing is pending, and every port is sound in each application: it has sent a LeaveAll since a
+-- PDU of the application was last lost or forged on its link, or since then took one of its
+-- neighbour's on a clear way (`is_sound_in` of world_core)
 pub record IsAtRest (w : WorldState) : Type 0 where
   pub quiet : is_quiet w ≡ true
   pub in_step : is_in_step w ≡ true

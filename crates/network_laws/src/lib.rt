@@ -1,4 +1,5 @@
-//! The laws of a network at rest: what is registered and declared anywhere is what the tree and the stations say.
+//! The laws of a network at rest: what is registered and declared anywhere is what the tree and the
+//! stations say.
 //!
 //! ```text
 //!   duty on a link        where both ends are still, a VID is registered exactly where the neighbour declares it
@@ -14,18 +15,20 @@
 //!                              so the port before it has the Talker advertised and a Ready Listener too, and has booked
 //! ```
 //!
-//! So the Talker is registered exactly where its station is behind, a listener hears Ready exactly where every egress port on
-//! the path has booked, and a failure for want of bandwidth comes of a port of the path at which more important bookings leave
-//! no place.
+//! So the Talker is registered exactly where its station is behind, a listener hears Ready exactly
+//! where every egress port on the path has booked, and a failure for want of bandwidth comes of a
+//! port of the path at which more important bookings leave no place.
 //!
-//! A network is at rest where nothing is pending (`is_quiet`) and every port is sound (`is_in_step`): it has sent a
-//! LeaveAll since a PDU of the application was last lost or forged on its link, or since then took one of its neighbour's
-//! on a clear way. `vlans_match` and `ready_on_path` answer both sides of their laws in every network, at rest or not, each
-//! by its own definition (`specs/Vlans.antt`, `specs/Streams.antt`), and `refusal_shown` the port that refuses; `laws` says
-//! that the sides are equal at rest, and that there is such a port.
+//! A network is at rest where nothing is pending (`is_quiet`) and every port is sound
+//! (`is_in_step`): it has sent a LeaveAll since a PDU of the application was last lost or forged on
+//! its link, or since then took one of its neighbour's on a clear way. `vlans_match` and
+//! `ready_on_path` answer both sides of their laws in every network, at rest or not, each by its
+//! own definition (`specs/Vlans.antt`, `specs/Streams.antt`), and `refusal_shown` the port that
+//! refuses; `laws` says that the sides are equal at rest, and that there is such a port.
 //!
-//! A further law has its two sides in a file of `specs/`, a call that answers both, and its sentence in `laws`, over networks
-//! and over the moments of a run; the command that prints a run takes it into its record of what holds.
+//! A further law has its two sides in a file of `specs/`, a call that answers both, and its
+//! sentence in `laws`, over networks and over the moments of a run; the command that prints a run
+//! takes it into its record of what holds.
 #![tactic(auto)]
 
 pub mod laws;

@@ -28,7 +28,8 @@ use world_core::World;
 pub struct Refusal {
     /// The port.
     pub at: EgressPort,
-    /// The slopes of the more important booked streams together, in bit/s, without the stream's own.
+    /// The slopes of the more important booked streams together, in bit/s, without the stream's
+    /// own.
     pub more_important: u128,
     /// The stream's own slope, in bit/s.
     pub slope: u64,
@@ -38,9 +39,10 @@ pub struct Refusal {
     pub code: u8,
 }
 
-/// Whether a listener's application hears that it has a stream (IEEE Std 802.1Q-2018, 35.2.4), and whether every egress port
-/// from the Talker's station to the listener has booked the stream, each by its own definition in every network. The Talker's
-/// station is the lowest-numbered that talks the stream; where there is none, no path has booked. The listener exists.
+/// Whether a listener's application hears that it has a stream (IEEE Std 802.1Q-2018, 35.2.4), and
+/// whether every egress port from the Talker's station to the listener has booked the stream, each
+/// by its own definition in every network. The Talker's station is the lowest-numbered that talks
+/// the stream; where there is none, no path has booked. The listener exists.
 pub fn ready_on_path(
     alloc: Global,
     world: &World,
@@ -62,12 +64,13 @@ pub fn ready_on_path(
     Ok(Sides { found, expected })
 }
 
-/// Why a listener's port has a Talker Failed with a code of bandwidth, 1 or 6 (IEEE Std 802.1Q-2018, 35.2.2.8.7): the first
-/// port along the path from the Talker's station whose node has the BridgeID that the failure names, and whose ledger refuses
-/// the stream with that code. None exactly where the listener's port has no Talker Failed of the stream, where its code is
-/// another, where no node with a port on the path has that BridgeID, or where no such port refuses the stream with that code.
-/// The Talker's station is the lowest-numbered that talks the stream; where there is none, there is no path. The listener
-/// exists.
+/// Why a listener's port has a Talker Failed with a code of bandwidth, 1 or 6 (IEEE Std
+/// 802.1Q-2018, 35.2.2.8.7): the first port along the path from the Talker's station whose node has
+/// the BridgeID that the failure names, and whose ledger refuses the stream with that code. None
+/// exactly where the listener's port has no Talker Failed of the stream, where its code is another,
+/// where no node with a port on the path has that BridgeID, or where no such port refuses the
+/// stream with that code. The Talker's station is the lowest-numbered that talks the stream; where
+/// there is none, there is no path. The listener exists.
 pub fn refusal_shown(
     alloc: Global,
     world: &World,

@@ -11,16 +11,17 @@ use srp_base::{EgressPort, NoMemory, NodeNo, Vid};
 use tree_topology::NodeKind;
 use world_core::World;
 
-/// The two sides of a law at one place: what is found there, and what the law expects. They are equal where the network is
-/// at rest.
+/// The two sides of a law at one place: what is found there, and what the law expects. They are
+/// equal where the network is at rest.
 #[derive(Clone, Copy, PartialEq, Eq)]
 pub struct Sides {
     pub found: bool,
     pub expected: bool,
 }
 
-/// Whether a VID is registered at a port, and whether a station behind the port declares it (IEEE Std 802.1Q-2018, 11.2), each
-/// by its own definition in every network. The port exists. It takes no memory, so it always answers.
+/// Whether a VID is registered at a port, and whether a station behind the port declares it (IEEE
+/// Std 802.1Q-2018, 11.2), each by its own definition in every network. The port exists. It takes
+/// no memory, so it always answers.
 pub fn vlans_match(world: &World, at: EgressPort, vid: Vid) -> Result<Sides, NoMemory>
     requires { HasPort world.now.tree at }
     ensures found { IfOk result (λ s. s.found ≡ is_registered world.now vid at) }

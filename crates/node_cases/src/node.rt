@@ -95,7 +95,8 @@ fn asked(node: &mut Node, request: AppRequest) -> Result<Option<StepReply>, NoMe
     }
 }
 
-// The same, at a second try where memory ran out: `tools/memory` refuses each growth of a test in turn.
+// The same, at a second try where memory ran out: `tools/memory` refuses each growth of a test in
+// turn.
 fn asked_again(node: &mut Node, request: &AppRequest) -> Result<Option<StepReply>, NoMemory> {
     match asked(node, *request) {
         Ok(reply) => Ok(reply),
@@ -354,7 +355,8 @@ fn goes_through_new(alloc: Global) -> bool {
 
 // ---- a VID that a LeaveAll leaves
 
-// The steps at port 1 of a bridge before the LeaveAll timers of both applications are due, and then.
+// The steps at port 1 of a bridge before the LeaveAll timers of both applications are due, and
+// then.
 fn working() -> [(PortStep, StepReply); 3] {
     [(Work, Received(1)), (Work, Nothing), (Due, Fired(0))]
 }
@@ -425,8 +427,8 @@ fn leaves_new(alloc: Global) -> bool {
 
 // ---- a PDU that no neighbour sent
 
-// Whether a PDU of MVRP with these octets came to stand at an index in the inbox of port 1; None where
-// memory ran out.
+// Whether a PDU of MVRP with these octets came to stand at an index in the inbox of port 1; None
+// where memory ran out.
 fn is_forged(alloc: Global, node: &mut Node, index: u32, octets: &[u8]) -> Option<bool> {
     if !has(node, ONE) || 1500 < octets.len() {
         return None;

@@ -1,7 +1,8 @@
-//! A bridge with two ports: what comes in at one is declared at the other, and what is withdrawn leaves. One that is made
-//! ready before does and answers the same.
+//! A bridge with two ports: what comes in at one is declared at the other, and what is withdrawn
+//! leaves. One that is made ready before does and answers the same.
 //!
-//! The calls stand in functions of their own without contracts, so that a test's own proof is short.
+//! The calls stand in functions of their own without contracts, so that a test's own proof is
+//! short.
 
 ghost use Rattle.std.specs.Prelude.{◌≡◌, length, IfSome};
 ghost use Rattle.attribute_propagation.specs.Ports.{IsLinkPort};
@@ -99,8 +100,8 @@ fn make_ready(side: &mut MvrpSide, port: PortNo, is_asked: bool) -> Result<(), N
     Ok(())
 }
 
-// What is answered where a Join comes in at port 1 and is settled at port 2, for which the side is made ready or not, and
-// what port 2 states then.
+// What is answered where a Join comes in at port 1 and is settled at port 2, for which the side is
+// made ready or not, and what port 2 states then.
 fn settled(
     side: &mut MvrpSide,
     vid: Vid,
@@ -115,8 +116,8 @@ fn settled(
     Ok((received, count, states(side, two, vid)))
 }
 
-// What is answered where a Lv comes in at port 1 and its leave timer ends, for which the side is made ready or not, and how
-// many VIDs await at port 2 then.
+// What is answered where a Lv comes in at port 1 and its leave timer ends, for which the side is
+// made ready or not, and how many VIDs await at port 2 then.
 fn fired(side: &mut MvrpSide, is_ready: bool) -> Result<(bool, u32, usize), NoMemory>
     requires { length side.old.state.parts ≡ 2 }
 {

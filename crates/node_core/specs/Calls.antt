@@ -22,7 +22,8 @@ outcome_of_saying app None before after outbox = (before, outbox, Silent)
 outcome_of_saying app (Some octets) before after outbox =
     (after, with_octets app octets outbox, Sent (count_of (length octets)))
 
--- what an application has to say is said into its outbox; after want of memory both are as they were
+-- what an application has to say is said into its outbox; after want of memory both are as they
+-- were
 abbrev pub IsSaying : {S : Type 0} → App → Option (List ℕ) → S → S → List Wire → Result StepReply NoMemory → S → List Wire → Type 0
 IsSaying app octets before after outbox (Ok reply) side outbox' =
     outcome_of_saying app octets before after outbox ≡ (side, outbox', reply)

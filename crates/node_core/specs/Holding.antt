@@ -1,5 +1,5 @@
--- What a node holds: its state, and whether the memory is taken that its next clock needs. What a call does is said of the
--- states alone.
+-- What a node holds: its state, and whether the memory is taken that its next clock needs. What a
+-- call does is said of the states alone.
 use Rattle.std.specs.Prelude.{ℕ, Bool, not, ◌||◌, List, map}
 use Rattle.std.specs.List.{list_any}
 use Rattle.msrp.specs.{Holding.SideHolding, Side.shows_at}
@@ -14,6 +14,7 @@ pub record NodeHolding : Type 0 where
 abbrev pub states_in : List NodeHolding → List NodeState
 states_in nodes = map (λ n. n.state) nodes
 
--- whether a clock that is set to a moment takes no memory of a side of MSRP: it is ready, or the clock shows nothing there
+-- whether a clock that is set to a moment takes no memory of a side of MSRP: it is ready, or the
+-- clock shows nothing there
 abbrev pub is_ready_at : ℕ → SideHolding → Bool
 is_ready_at now side = side.ready || not (list_any (shows_at now) side.state.ports)

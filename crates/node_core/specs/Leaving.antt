@@ -28,7 +28,8 @@ octets_leave Msrp octets = streams_leave (msrp_reading octets)
 abbrev pub has_leave_all : Wire → Bool
 has_leave_all wire = octets_leave wire.app wire.octets
 
--- whether the LeaveAll machine of an application at a place is Active, so that the next PDU sent there has LeaveAll
+-- whether the LeaveAll machine of an application at a place is Active, so that the next PDU sent
+-- there has LeaveAll
 abbrev pub is_leave_all_at : App → ℕ → NodeState → Bool
 is_leave_all_at Mvrp at s = of_part (λ part. is_active part.leave_all) false at s.vlans
 is_leave_all_at Msrp at s = of_port (λ port. is_active port.part.leave_all) false at s.streams

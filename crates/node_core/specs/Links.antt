@@ -32,7 +32,8 @@ lost_at at index s = with_inbox at (without index (box_at at s.inboxes)) s
 abbrev pub repeated_at : ℕ → ℕ → NodeState → NodeState
 repeated_at at index s = with_inbox at (with_repeat index (box_at at s.inboxes)) s
 
--- whether an inbox reaches to an index, so that a PDU may stand there: the index is at most the number of those that wait
+-- whether an inbox reaches to an index, so that a PDU may stand there: the index is at most the
+-- number of those that wait
 abbrev pub has_place : ℕ → ℕ → NodeState → Bool
 has_place at index s = nat_le index (length (box_at at s.inboxes))
 
@@ -45,8 +46,9 @@ abbrev pub spoilt_at : App → ℕ → NodeState → NodeState
 spoilt_at Mvrp at s = record s { vlans = spoilt_vlans at s.vlans }
 spoilt_at Msrp at s = record s { streams = spoilt_streams at s.streams }
 
--- What every node keeps: what each application keeps of it, an inbox and an outbox for each of at most 255 link ports,
--- short PDUs, a clock that stands below the end of time, and the same moment at the ledgers.
+-- What every node keeps: what each application keeps of it, an inbox and an outbox for each of at
+-- most 255 link ports, short PDUs, a clock that stands below the end of time, and the same moment
+-- at the ledgers.
 pub record IsKeptNode (s : NodeState) : Type 0 where
   pub vlans : IsKept s.vlans
   pub streams : IsKeptStreams s.streams

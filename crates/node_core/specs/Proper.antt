@@ -1,5 +1,5 @@
--- What every node keeps: VIDs, numbers that fit in their fields (IEEE Std 802.1Q-2018, 9.6, 35.2.2.8), and a bridge that
--- asks for nothing of its own; and the steps that name none but such.
+-- What every node keeps: VIDs, numbers that fit in their fields (IEEE Std 802.1Q-2018, 9.6,
+-- 35.2.2.8), and a bridge that asks for nothing of its own; and the steps that name none but such.
 use Rattle.std.specs.Prelude.{◌≡◌, ℕ, List, [], Ok}
 use Rattle.std.specs.List.{AllByRecursion}
 use Rattle.srp_base.specs.declared.{mrp.App.App, mrp.App.TheVariants.Mvrp, mrp.App.TheVariants.Msrp}
@@ -13,8 +13,8 @@ use Rattle.node_core.specs.declared.types.AppRequest.TheVariants.{Declare, Withd
 use Rattle.node_core.specs.declared.types.NodeEvent.TheVariants.{Request, Port, Clock}
 use Rattle.node_core.specs.{State.NodeState, Links.IsKeptNode}
 
--- the octets of a PDU of an application say nothing that doesn't fit: those of MSRP, where they read, read as events
--- that fit in their fields
+-- the octets of a PDU of an application say nothing that doesn't fit: those of MSRP, where they
+-- read, read as events that fit in their fields
 abbrev pub SayWhatFits : App → List ℕ → Type 0
 SayWhatFits Mvrp octets = Unit {0}
 SayWhatFits Msrp octets = (pdu : MsrpPdu) → msrp_reading octets ≡ Ok pdu → AreInRange pdu.events
@@ -37,8 +37,8 @@ pub record AsksNothing (s : NodeState) : Type 0 where
 abbrev pub IsIdleBridge : NodeState → Type 0
 IsIdleBridge s = s.kind ≡ Bridge → AsksNothing s
 
--- What a node keeps: each key of MVRP is a VID, what MSRP keeps fits in its fields, its ports have the node's BridgeID,
--- so it is with the PDUs that wait, and a bridge asks for nothing.
+-- What a node keeps: each key of MVRP is a VID, what MSRP keeps fits in its fields, its ports have
+-- the node's BridgeID, so it is with the PDUs that wait, and a bridge asks for nothing.
 pub record IsProperNode (s : NodeState) : Type 0 where
   pub kept : IsKeptNode s
   pub vids : AreOfVids s.vlans
@@ -63,7 +63,7 @@ IsInRange (Request request) = AsksInRange request
 IsInRange (Port port step) = Unit {0}
 IsInRange Clock = Unit {0}
 
--- how each link port of a node is set up: its BridgeID and its latency, the caps of its ledger, and the Domain values
--- that it declares
+-- how each link port of a node is set up: its BridgeID and its latency, the caps of its ledger, and
+-- the Domain values that it declares
 abbrev pub port_setups : NodeState → List Setup
 port_setups s = setups_of s.streams

@@ -17,8 +17,8 @@ use Rattle.msrp.specs.{PortState.PortState, Part.key_cmp, Stream.fit_at, Stream.
 use Rattle.node_core.specs.declared.{types.Wire.Wire, types.NodeKey.NodeKey, types.NodeKey.TheVariants.Vlan, types.NodeKey.TheVariants.Srp, types.PortStep.PortStep}
 use Rattle.node_core.specs.declared.types.PortStep.TheVariants.{Work, Due, Settle, Send}
 
--- what a node is, its clock, what each application keeps, and the PDUs that wait at each link port: those that
--- came in and those that are to go out, in order
+-- what a node is, its clock, what each application keeps, and the PDUs that wait at each link port:
+-- those that came in and those that are to go out, in order
 pub record NodeState : Type 0 where
   pub kind : NodeKind
   pub bridge : BridgeId
@@ -32,8 +32,8 @@ pub record NodeState : Type 0 where
 abbrev pub ports_of : NodeState → ℕ
 ports_of s = length s.vlans.parts
 
--- a new node with these ports: nothing but its Domain values is declared, nothing is registered or booked, and no PDU
--- waits
+-- a new node with these ports: nothing but its Domain values is declared, nothing is registered or
+-- booked, and no PDU waits
 abbrev pub new_node : NodeKind → BridgeId → Cs → Bool → DomainSet → List PortSetup → NodeState
 new_node kind bridge leave_time periodic domain ports =
     record {
@@ -124,7 +124,8 @@ bookings_at at s = of_port (λ port. booked_of port.ledger.entries) [] at s.stre
 abbrev pub slope_at : Class → ℕ → NodeState → ℕ
 slope_at class at s = of_port (λ port. booked_slope port.ledger.entries class) 0 at s.streams
 
--- whether what a stream's Talker asks for fits at a place, by the ledger there and at the moment of the clock
+-- whether what a stream's Talker asks for fits at a place, by the ledger there and at the moment of
+-- the clock
 abbrev pub fit_of : ℕ → StreamId → NodeState → Option Fit
 fit_of at stream s =
     of_port
@@ -133,7 +134,8 @@ fit_of at stream s =
 
 -- ---- what a port has to do
 
--- whether a node is busy at a moment: a PDU came in at some port, a timer is due there, or an attribute awaits
+-- whether a node is busy at a moment: a PDU came in at some port, a timer is due there, or an
+-- attribute awaits
 abbrev pub is_busy_at : Cs → NodeState → Bool
 is_busy_at now s =
     not (are_empty s.inboxes) || vlans_are_busy now s.vlans
@@ -143,8 +145,8 @@ is_busy_at now s =
 abbrev pub is_busy_node : NodeState → Bool
 is_busy_node s = is_busy_at s.clock s
 
--- whether a node is at rest up to a moment: it isn't busy then, and at no port a want that isn't booked may fit otherwise
--- once the clock goes on
+-- whether a node is at rest up to a moment: it isn't busy then, and at no port a want that isn't
+-- booked may fit otherwise once the clock goes on
 abbrev pub is_at_rest : Cs → NodeState → Bool
 is_at_rest until s = not (is_busy_at until s) && not (list_any (shows_at (s.clock.0 + 1)) s.streams.ports)
 
@@ -160,8 +162,8 @@ join_time = 20
 abbrev pub is_sending_time : Cs → Bool
 is_sending_time now = now.0 % join_time == 0
 
--- The steps of a link port in one tick: where the node is busy, a Work for each PDU that came in at the port, Due and
--- Settle; and at the moments of sending a Send of each application.
+-- The steps of a link port in one tick: where the node is busy, a Work for each PDU that came in at
+-- the port, Due and Settle; and at the moments of sending a Send of each application.
 abbrev pub job_list : ℕ → NodeState → List PortStep
 job_list at s =
     (if is_busy_node s then works (box_at at s.inboxes) ++ (Due ∷ Settle ∷ []) else [])

@@ -165,7 +165,8 @@ abbrev pub with_said : App → ℕ → List ℕ → NodeState → NodeState
 with_said app at octets s =
     record s { outboxes = slice_set s.outboxes at (with_octets app octets (box_at at s.outboxes)) }
 
--- an application says these octets, which go to the end of the outbox, or it has none to say and is silent
+-- an application says these octets, which go to the end of the outbox, or it has none to say and is
+-- silent
 abbrev pub sent_octets : App → ℕ → Option (List ℕ) → NodeState → Stepped
 sent_octets app at None s = (s, Silent)
 sent_octets app at (Some octets) s =
@@ -213,7 +214,8 @@ node_step Clock s = (clocked_node s, Taken)
 
 -- ---- when a step may be made
 
--- a port is a link port of the node, a request is made at a station, and the clock goes on from below 2^61
+-- a port is a link port of the node, a request is made at a station, and the clock goes on from
+-- below 2^61
 abbrev pub CanStep : NodeEvent → NodeState → Type 0
 CanStep (Request request) s = s.kind ≡ Station
 CanStep (Port port step) s = IsLinkPort port (ports_of s)

@@ -15,6 +15,7 @@ AreShort wires = AllByRecursion IsShort wires
 abbrev pub without : ℕ → List Wire → List Wire
 without index wires = take index wires ++ drop (suc index) wires
 
--- the PDUs with one more at the place of an index, counted from 0; those that stood there and behind come after it
+-- the PDUs with one more at the place of an index, counted from 0; those that stood there and
+-- behind come after it
 abbrev pub with_wire : ℕ → Wire → List Wire → List Wire
 with_wire index wire wires = take index wires ++ wire ∷ drop index wires

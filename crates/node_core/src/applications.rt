@@ -1,5 +1,6 @@
-//! What a step of a node does at its applications, MVRP and MSRP. Each function says what it makes of them, as the words of
-//! `specs/Step.antt` have it; what stays of a node at each step is a law over those (`every_step_keeps_a_node_proper`).
+//! What a step of a node does at its applications, MVRP and MSRP. Each function says what it makes
+//! of them, as the words of `specs/Step.antt` have it; what stays of a node at each step is a law
+//! over those (`every_step_keeps_a_node_proper`).
 
 ghost use Rattle.std.specs.Prelude.{◌≡◌, ◌<◌, ◌≤◌, ◌^◌, length, slice_get, vec_len, vec_capacity, true, false, Some, IsOk, IfOk, IfSome, OnOk, OnErr};
 ghost use Rattle.std.specs.List.{list_any};
@@ -340,7 +341,8 @@ pub(crate) fn spoil_streams(side: &mut MsrpSide, port: PortNo)
     side.spoil(port);
 }
 
-// Makes the side ready for a clock that is set to a moment. It takes memory only where that shows something.
+// Makes the side ready for a clock that is set to a moment. It takes memory only where that shows
+// something.
 pub(crate) fn make_ready(side: &mut MsrpSide, now: Cs) -> Result<(), NoMemory>
     ensures state { side.new.state ≡ side.old.state }
     ensures ready { OnOk result (is_ready_at now.0 side.new ≡ true) }

@@ -1,5 +1,5 @@
-//! What a node hands out that says what is in force at a port: where frames of a VLAN go (IEEE Std 802.1Q-2018, 8.8), and
-//! which streams have bandwidth there.
+//! What a node hands out that says what is in force at a port: where frames of a VLAN go (IEEE Std
+//! 802.1Q-2018, 8.8), and which streams have bandwidth there.
 
 ghost use Rattle.std.specs.Prelude.{◌≡◌, slice_get, Some, IfSome};
 ghost use Rattle.attribute_propagation.specs.Ports.{IsLinkPort, place_of};

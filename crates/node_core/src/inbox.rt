@@ -11,8 +11,8 @@ use std::alloc::{AllocError, Global};
 use std::collections::VecDeque;
 use std::marker::Model;
 
-// The PDUs that wait in an inbox, in order: a queue, from whose front one is taken without moving the others. Contracts see
-// the list of the PDUs.
+// The PDUs that wait in an inbox, in order: a queue, from whose front one is taken without moving
+// the others. Contracts see the list of the PDUs.
 #[derive(Drop)]
 pub(crate) struct Inbox {
     wires: VecDeque<Wire>,

@@ -13,9 +13,10 @@ use srp_base::{App, Cs, NoMemory, PortNo, Seq};
 use std::alloc::{AllocError, Global};
 
 impl Node {
-    /// The steps of a link port in one tick. Where the node is busy, that is where a PDU came in at some port, a timer is
-    /// due or an attribute awaits: a Work for each PDU in the port's inbox, Due and Settle. At moments divisible by
-    /// JoinTime, of any node, a Send of each application follows.
+    /// The steps of a link port in one tick. Where the node is busy, that is where a PDU came in at
+    /// some port, a timer is due or an attribute awaits: a Work for each PDU in the port's inbox,
+    /// Due and Settle. At moments divisible by JoinTime, of any node, a Send of each application
+    /// follows.
     pub fn jobs(&self, port: PortNo) -> Result<Seq<PortStep>, NoMemory>
         requires { IsLinkPort port (ports_of self.now.state) }
         ensures { IfOk result (λ steps. steps ≡ job_list (place_of port) self.now.state) }
@@ -26,15 +27,17 @@ impl Node {
         Ok(with_send(steps, is_sending_time(self.clock))?)
     }
 
-    /// Whether the node is busy: a PDU came in at some port, a timer is due there, or an attribute awaits.
+    /// Whether the node is busy: a PDU came in at some port, a timer is due there, or an attribute
+    /// awaits.
     pub fn is_busy(&self) -> bool
         ensures { result ≡ is_busy_node self.now.state }
     {
         self.is_busy_at(self.clock)
     }
 
-    /// Whether the node is at rest up to a moment, in cs: it isn't busy then, and at no port a want that isn't booked may fit
-    /// otherwise once the clock goes on. So it has nothing to do but send up to then, unless something happens to it.
+    /// Whether the node is at rest up to a moment, in cs: it isn't busy then, and at no port a want
+    /// that isn't booked may fit otherwise once the clock goes on. So it has nothing to do but send
+    /// up to then, unless something happens to it.
     pub fn is_at_rest(&self, until: Cs) -> bool
         ensures { result ≡ is_at_rest until self.now.state }
     {
@@ -49,7 +52,8 @@ impl Node {
     }
 }
 
-/// JoinTime, in cs: the time between two moments at which each application sends (IEEE Std 802.1Q-2018, 10.7.11).
+/// JoinTime, in cs: the time between two moments at which each application sends (IEEE Std
+/// 802.1Q-2018, 10.7.11).
 pub const JOIN_TIME: u64 = 20;
 
 /// Whether each application sends at a moment.
@@ -59,8 +63,8 @@ pub fn is_sending_time(now: Cs) -> bool
     now.0 % JOIN_TIME == 0
 }
 
-/// No attribute. A function that makes a list of steps has to have a value of a step's key beside it, so that the check
-/// finds where that type stands; it begins with this.
+/// No attribute. A function that makes a list of steps has to have a value of a step's key beside
+/// it, so that the check finds where that type stands; it begins with this.
 pub fn no_key() -> Option<NodeKey>
     ensures { result ≡ None }
 {

@@ -1,5 +1,5 @@
-//! What every node keeps: laws over the states that contracts see. Each is a function that does nothing; calling it brings
-//! the law to a proof.
+//! What every node keeps: laws over the states that contracts see. Each is a function that does
+//! nothing; calling it brings the law to a proof.
 
 ghost use Rattle.std.specs.Prelude.{◌≡◌, ◌<◌, ◌≤◌, ◌^◌, ℕ, Bool, true, false, List, [], length};
 ghost use Rattle.srp_base.specs.declared.{numbers.Cs.Cs, numbers.BridgeId.BridgeId, numbers.PortNo.PortNo, mrp.App.App, ports.PortSetup.PortSetup};
@@ -31,8 +31,8 @@ pub fn a_new_node_is_proper()
     of_streams::a_new_side_is_proper();
 }
 
-/// Each step that may be made keeps it, where what a request asks for fits: of a bridge that it asks for nothing, since a
-/// request is made at a station.
+/// Each step that may be made keeps it, where what a request asks for fits: of a bridge that it
+/// asks for nothing, since a request is made at a station.
 pub fn every_step_keeps_a_node_proper()
     ensures { (event : NodeEvent) (s : NodeState)
         → CanStep event s → IsInRange event → IsProperNode s → IsProperNode (node_step event s).0 }
@@ -49,8 +49,9 @@ pub fn every_step_keeps_a_node_proper()
     msrp_codec::laws::what_is_read_belongs_to_its_keys();
 }
 
-/// So does what happens to the PDUs that wait: an outbox is taken out or becomes short PDUs that say what fits, such PDUs come
-/// in, one is lost, there twice or forged, and a participant is spoilt.
+/// So does what happens to the PDUs that wait: an outbox is taken out or becomes short PDUs that
+/// say what fits, such PDUs come in, one is lost, there twice or forged, and a participant is
+/// spoilt.
 pub fn links_keep_a_node_proper()
     ensures taken { (at : ℕ) (s : NodeState) → IsProperNode s → IsProperNode (with_outbox at [] s) }
     ensures given { (at : ℕ) (wires : List Wire) (s : NodeState) → AreShort wires
@@ -78,7 +79,8 @@ pub fn octets_say_what_fits()
     msrp_codec::laws::what_is_read_is_in_range();
 }
 
-/// A step keeps what a node is, and how many link ports it has; and no step but the clock's moves the clock.
+/// A step keeps what a node is, and how many link ports it has; and no step but the clock's moves
+/// the clock.
 pub fn steps_keep_what_a_node_is()
     ensures kind { (event : NodeEvent) (s : NodeState) → (node_step event s).0.kind ≡ s.kind }
     ensures ports { (event : NodeEvent) (s : NodeState) → ports_of (node_step event s).0
@@ -91,8 +93,8 @@ pub fn steps_keep_what_a_node_is()
     of_streams::calls_keep_the_ports();
 }
 
-/// A step keeps the node's BridgeID, and how each link port is set up: its BridgeID, its latency, the caps of its ledger and
-/// the Domain values that it declares.
+/// A step keeps the node's BridgeID, and how each link port is set up: its BridgeID, its latency,
+/// the caps of its ledger and the Domain values that it declares.
 pub fn a_port_stays_set_up()
     ensures bridge { (event : NodeEvent) (s : NodeState) → (node_step event s).0.bridge ≡ s.bridge }
     ensures ports { (event : NodeEvent) (s : NodeState) → port_setups (node_step event s).0
@@ -101,8 +103,9 @@ pub fn a_port_stays_set_up()
     of_streams::calls_keep_the_ports();
 }
 
-/// A node that is at rest at its own moment isn't busy; one that is at rest up to a moment is so up to an earlier one, and
-/// stays so while the clock goes on. So it isn't busy at any moment up to then, while its clock alone goes on.
+/// A node that is at rest at its own moment isn't busy; one that is at rest up to a moment is so up
+/// to an earlier one, and stays so while the clock goes on. So it isn't busy at any moment up to
+/// then, while its clock alone goes on.
 pub fn a_node_at_rest_stays_so()
     ensures idle { (s : NodeState) → is_at_rest s.clock s ≡ true → is_busy_node s ≡ false }
     ensures sooner { (soon late : Cs) (s : NodeState) → soon.0 ≤ late.0 → is_at_rest late s ≡ true

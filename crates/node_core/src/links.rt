@@ -1,4 +1,5 @@
-//! The PDUs that wait at a link port: what comes in, what goes out, what is lost, what comes twice, and what is forged.
+//! The PDUs that wait at a link port: what comes in, what goes out, what is lost, what comes twice,
+//! and what is forged.
 
 ghost use Rattle.std.specs.Prelude.{◌≡◌, ◌<◌, ◌≤◌, ◌++◌, [], if◌then◌else◌, length, OnOk, OnErr, IfErr, IfOk};
 ghost use Rattle.attribute_propagation.specs.Ports.{IsLinkPort, place_of};
@@ -29,8 +30,8 @@ impl Node {
         mem::replace(&mut self.outboxes[at], Seq::new(alloc))
     }
 
-    /// Puts PDUs of at most 1,500 octets behind those of a port's inbox. After want of memory the node is as it was, and
-    /// the PDUs are handed back.
+    /// Puts PDUs of at most 1,500 octets behind those of a port's inbox. After want of memory the
+    /// node is as it was, and the PDUs are handed back.
     pub fn put_in(&mut self, port: PortNo, wires: Seq<Wire>) -> Result<(), (NoMemory, Seq<Wire>)>
         requires port { IsLinkPort port (ports_of self.old.state) }
         requires short { AreShort wires }
@@ -44,7 +45,8 @@ impl Node {
         self.inboxes[usize::from(port.0) - 1].append(wires)
     }
 
-    /// Makes these PDUs of at most 1,500 octets a port's outbox, which was empty. It takes no memory.
+    /// Makes these PDUs of at most 1,500 octets a port's outbox, which was empty. It takes no
+    /// memory.
     pub fn put_back(&mut self, port: PortNo, wires: Seq<Wire>)
         requires port { IsLinkPort port (ports_of self.old.state) }
         requires short { AreShort wires }
@@ -57,8 +59,8 @@ impl Node {
         self.outboxes[at] = wires;
     }
 
-    /// Loses the PDU with this index from a port's inbox, counted from 0. False exactly where no PDU has it; then nothing
-    /// changes.
+    /// Loses the PDU with this index from a port's inbox, counted from 0. False exactly where no
+    /// PDU has it; then nothing changes.
     pub fn lose(&mut self, port: PortNo, index: u32) -> bool
         requires { IsLinkPort port (ports_of self.old.state) }
         ensures done { result ≡ has_index (place_of port) index self.old.state }
@@ -74,8 +76,8 @@ impl Node {
         true
     }
 
-    /// Puts a copy of the PDU with this index in a port's inbox right behind it. False exactly where no PDU has the index;
-    /// then nothing changes.
+    /// Puts a copy of the PDU with this index in a port's inbox right behind it. False exactly
+    /// where no PDU has the index; then nothing changes.
     pub fn repeat(&mut self, port: PortNo, index: u32) -> Result<bool, NoMemory>
         requires { IsLinkPort port (ports_of self.old.state) }
         ensures done { IfOk result (λ done. done ≡ has_index (place_of port) index self.old.state) }
@@ -93,10 +95,11 @@ impl Node {
         Ok(true)
     }
 
-    /// Puts a PDU of at most 1,500 octets that no neighbour sent at the place of this index in a port's inbox, counted from
-    /// 0; those from there on come behind it. It stands for a device that doesn't run MRP as this node does, or for a frame
-    /// that was corrupted and passed its check. False exactly where the index is above the number of PDUs that wait; then
-    /// nothing changes.
+    /// Puts a PDU of at most 1,500 octets that no neighbour sent at the place of this index in a
+    /// port's inbox, counted from 0; those from there on come behind it. It stands for a device
+    /// that doesn't run MRP as this node does, or for a frame that was corrupted and passed its
+    /// check. False exactly where the index is above the number of PDUs that wait; then nothing
+    /// changes.
     pub fn forge(&mut self, port: PortNo, index: u32, wire: Wire) -> Result<bool, NoMemory>
         requires port { IsLinkPort port (ports_of self.old.state) }
         requires short { IsShort wire }
@@ -117,7 +120,8 @@ impl Node {
         Ok(true)
     }
 
-    /// Ends the soundness of an application's participant at a port, as after a loss on its link. It takes no memory.
+    /// Ends the soundness of an application's participant at a port, as after a loss on its link.
+    /// It takes no memory.
     pub fn spoil(&mut self, port: PortNo, app: App)
         requires { IsLinkPort port (ports_of self.old.state) }
         ensures { self.new.state ≡ spoilt_at app (place_of port) self.old.state }

@@ -29,8 +29,8 @@ use std::marker::Model;
 use stream_importance::{Entry, Fit};
 use tree_topology::NodeKind;
 
-/// A node, a bridge or a station. Contracts see a `NodeHolding`: the `NodeState`, and whether the node is ready for the
-/// clock.
+/// A node, a bridge or a station. Contracts see a `NodeHolding`: the `NodeState`, and whether the
+/// node is ready for the clock.
 #[derive(Drop)]
 pub struct Node {
     pub(crate) kind: NodeKind,
@@ -40,7 +40,8 @@ pub struct Node {
     pub(crate) msrp: MsrpSide,
     pub(crate) inboxes: Vec<Inbox>,
     pub(crate) outboxes: Vec<Seq<Wire>>,
-    // Whether `clock_room` was called since the last step. Contracts see readiness by it, and nothing else reads it.
+    // Whether `clock_room` was called since the last step. Contracts see readiness by it, and
+    // nothing else reads it.
     pub(crate) ready: bool,
 }
 
@@ -76,9 +77,10 @@ impl Model for Node {
 }
 
 impl Node {
-    /// A node with these link ports, at the moment 0: at each of them it declares these Domain values of MSRP for good
-    /// (IEEE Std 802.1Q-2018, 35.2.2.9), nothing else is declared, nothing is registered or booked, and no PDU waits.
-    /// LeaveTime and each port's period are 1 to 10,000 cs, and the two shares of each port sum to at most 90 percent.
+    /// A node with these link ports, at the moment 0: at each of them it declares these Domain
+    /// values of MSRP for good (IEEE Std 802.1Q-2018, 35.2.2.9), nothing else is declared, nothing
+    /// is registered or booked, and no PDU waits. LeaveTime and each port's period are 1 to 10,000
+    /// cs, and the two shares of each port sum to at most 90 percent.
     pub fn new(
         alloc: Global,
         kind: NodeKind,
@@ -115,16 +117,17 @@ impl Node {
         })
     }
 
-    /// What every node keeps: its VIDs, Talkers and Listeners are settled but for those that await, and its ports have
-    /// short PDUs alone. It is a law, and does nothing.
+    /// What every node keeps: its VIDs, Talkers and Listeners are settled but for those that await,
+    /// and its ports have short PDUs alone. It is a law, and does nothing.
     pub fn keeps(&self)
         ensures { IsKeptNode self.now.state }
     {
         let _ = &self.mvrp;
     }
 
-    /// All that every node keeps, that and more: each VID is one, each number that it keeps or that a PDU at a port says fits
-    /// in its field, and a bridge asks for nothing. It is a law, and does nothing.
+    /// All that every node keeps, that and more: each VID is one, each number that it keeps or that
+    /// a PDU at a port says fits in its field, and a bridge asks for nothing. It is a law, and does
+    /// nothing.
     pub fn keeps_all(&self)
         ensures { IsProperNode self.now.state }
     {
@@ -159,7 +162,8 @@ impl Node {
         self.mvrp.ports() as u8
     }
 
-    /// The application of the PDU with this index in a port's inbox, counted from 0; None exactly where no PDU has it.
+    /// The application of the PDU with this index in a port's inbox, counted from 0; None exactly
+    /// where no PDU has it.
     pub fn app_at(&self, port: PortNo, index: u32) -> Option<App>
         requires { IsLinkPort port (ports_of self.now.state) }
         ensures { result
@@ -190,7 +194,8 @@ impl Node {
         }
     }
 
-    /// What is registered of an attribute of MSRP at a port. None exactly where its registrar is MT.
+    /// What is registered of an attribute of MSRP at a port. None exactly where its registrar is
+    /// MT.
     pub fn content(&self, port: PortNo, key: MsrpKey) -> Option<MsrpContent>
         requires { IsLinkPort port (ports_of self.now.state) }
         ensures { result ≡ content_at key (place_of port) self.now.state }
@@ -198,7 +203,8 @@ impl Node {
         self.msrp.participant(port).registered(key)
     }
 
-    /// The attributes that are registered at a port: VIDs, and then those of MSRP, each kind ascending.
+    /// The attributes that are registered at a port: VIDs, and then those of MSRP, each kind
+    /// ascending.
     pub fn keys(&self, port: PortNo) -> Result<Seq<NodeKey>, NoMemory>
         requires { IsLinkPort port (ports_of self.now.state) }
         ensures { IfOk result (λ keys. keys ≡ registered_keys (place_of port) self.now.state) }
@@ -233,16 +239,17 @@ impl Node {
         self.msrp.ledger(port).slope(class)
     }
 
-    /// What is registered of a stream at the Talker's port, the lowest-numbered port where a Talker of it is
-    /// registered, the application first; Absent where there is none.
+    /// What is registered of a stream at the Talker's port, the lowest-numbered port where a Talker
+    /// of it is registered, the application first; Absent where there is none.
     pub fn talker(&self, stream: StreamId) -> TalkerReg
         ensures { result ≡ talker_of stream self.now.state.streams }
     {
         self.msrp.talker(stream)
     }
 
-    /// Whether what a stream's Talker asks for fits at a port, by its ledger. None exactly where the stream has no
-    /// Talker's port, where that is this port, or where the Talker's priority has no SR class.
+    /// Whether what a stream's Talker asks for fits at a port, by its ledger. None exactly where
+    /// the stream has no Talker's port, where that is this port, or where the Talker's priority has
+    /// no SR class.
     pub fn fit(&self, port: PortNo, stream: StreamId) -> Option<Fit>
         requires { IsLinkPort port (ports_of self.now.state) }
         ensures { result ≡ fit_of (place_of port) stream self.now.state }
@@ -271,16 +278,17 @@ impl Node {
         self.msrp.listens(stream)
     }
 
-    /// What a listening application hears of a stream: Ready where the Talker at the Talker's port is advertised,
-    /// AskingFailed where it failed. None exactly where it doesn't listen, or where no link port is the Talker's port.
+    /// What a listening application hears of a stream: Ready where the Talker at the Talker's port
+    /// is advertised, AskingFailed where it failed. None exactly where it doesn't listen, or where
+    /// no link port is the Talker's port.
     pub fn heard(&self, stream: StreamId) -> Option<ListenerKind>
         ensures { result ≡ heard_of stream self.now.state.streams }
     {
         self.msrp.heard(stream)
     }
 
-    /// Whether nothing is pending at the node: no PDU waits in an inbox or an outbox, every participant is at rest, and
-    /// no attribute awaits.
+    /// Whether nothing is pending at the node: no PDU waits in an inbox or an outbox, every
+    /// participant is at rest, and no attribute awaits.
     pub fn still(&self) -> bool
         ensures { result ≡ is_still_node self.now.state }
     {
@@ -297,7 +305,8 @@ impl Node {
         self.mvrp.all_sound() && self.msrp.all_sound()
     }
 
-    /// Whether the participant of an application at a port is sound: it was never spoilt, or has sent a LeaveAll since.
+    /// Whether the participant of an application at a port is sound: it was never spoilt, or has
+    /// sent a LeaveAll since.
     pub fn sound(&self, port: PortNo, app: App) -> bool
         requires { IsLinkPort port (ports_of self.now.state) }
         ensures { result ≡ is_sound_at app (place_of port) self.now.state }

@@ -23,9 +23,10 @@ use srp_base::{App, Cs, NoMemory, PortNo, Seq, Vid};
 use std::mem;
 
 impl Node {
-    /// Makes one step, and answers what came of it. A port is a link port of the node, a request is made at a station, and
-    /// the clock goes on from below 2^61. After want of memory, which a clock of a ready node doesn't meet, the node is as it
-    /// was, in both applications. Each step ends the readiness.
+    /// Makes one step, and answers what came of it. A port is a link port of the node, a request is
+    /// made at a station, and the clock goes on from below 2^61. After want of memory, which a
+    /// clock of a ready node doesn't meet, the node is as it was, in both applications. Each step
+    /// ends the readiness.
     pub fn step(&mut self, event: NodeEvent) -> Result<StepReply, NoMemory>
         requires { CanStep event self.old.state }
         ensures ok { IfOk result (λ reply. node_step event self.old.state
@@ -39,10 +40,11 @@ impl Node {
         reply
     }
 
-    /// Makes the node ready for the clock: afterwards a `Clock` takes no memory, and all else is as before. So the clocks of
-    /// many nodes go on together or not at all: each is made ready before the first goes on. It takes memory only where the
-    /// next clock shows something of a ledger, and the node isn't ready. Each step ends the readiness. After want of memory
-    /// the state is as it was.
+    /// Makes the node ready for the clock: afterwards a `Clock` takes no memory, and all else is as
+    /// before. So the clocks of many nodes go on together or not at all: each is made ready before
+    /// the first goes on. It takes memory only where the next clock shows something of a ledger,
+    /// and the node isn't ready. Each step ends the readiness. After want of memory the state is as
+    /// it was.
     pub fn clock_room(&mut self) -> Result<(), NoMemory>
         ensures state { self.new.state ≡ self.old.state }
         ensures ready { OnOk result (self.new.ready ≡ true) }

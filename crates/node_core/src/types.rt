@@ -21,7 +21,8 @@ pub struct Wire {
 }
 
 impl Wire {
-    /// What every PDU keeps by its type: each of its octets is below 256. It is a law, and does nothing.
+    /// What every PDU keeps by its type: each of its octets is below 256. It is a law, and does
+    /// nothing.
     pub fn keeps(&self)
         ensures { AreOctets self.now.octets }
     {
@@ -36,8 +37,8 @@ pub enum AppRequest {
     Declare(Vid),
     /// It withdraws a VID.
     Withdraw(Vid),
-    /// It talks a stream, as this Talker states it (IEEE Std 802.1Q-2018, 35.2.3.1). A Talker takes the place of another
-    /// of its stream.
+    /// It talks a stream, as this Talker states it (IEEE Std 802.1Q-2018, 35.2.3.1). A Talker takes
+    /// the place of another of its stream.
     Talk(Talker),
     /// It talks a stream no more.
     Hush(StreamId),
@@ -48,8 +49,8 @@ pub enum AppRequest {
 }
 
 impl AppRequest {
-    /// What every request keeps by its type: its VID is one (IEEE Std 802.1Q-2018, 9.6), and its Talker's numbers fit in
-    /// their fields (35.2.2.8). It is a law, and does nothing.
+    /// What every request keeps by its type: its VID is one (IEEE Std 802.1Q-2018, 9.6), and its
+    /// Talker's numbers fit in their fields (35.2.2.8). It is a law, and does nothing.
     pub fn keeps(&self)
         ensures { AsksInRange self.now }
     {

@@ -26,8 +26,8 @@ impl Node {
         self.inboxes[usize::from(port.0) - 1].copied(alloc)
     }
 
-    /// The PDU that waits first in a port's inbox, which the port's next `Work` takes; `None` where none waits. A PDU that
-    /// waits has at most 1,500 octets. It takes no memory.
+    /// The PDU that waits first in a port's inbox, which the port's next `Work` takes; `None` where
+    /// none waits. A PDU that waits has at most 1,500 octets. It takes no memory.
     pub fn front_pdu(&self, port: PortNo) -> Option<&Wire>
         requires { IsLinkPort port (ports_of self.now.state) }
         ensures front { option_map (λ w. w.now) result
@@ -46,8 +46,8 @@ impl Node {
         self.outboxes[usize::from(port.0) - 1].len()
     }
 
-    /// Whether the LeaveAll machine of an application at a port is Active, so that the next PDU that it sends there has
-    /// LeaveAll (IEEE Std 802.1Q-2018, 10.7.10).
+    /// Whether the LeaveAll machine of an application at a port is Active, so that the next PDU
+    /// that it sends there has LeaveAll (IEEE Std 802.1Q-2018, 10.7.10).
     pub fn leaves_next(&self, port: PortNo, app: App) -> bool
         requires { IsLinkPort port (ports_of self.now.state) }
         ensures { result ≡ is_leave_all_at app (place_of port) self.now.state }
@@ -59,8 +59,8 @@ impl Node {
     }
 }
 
-/// Whether what the octets of a PDU say has LeaveAll; malformed octets say nothing. There are fewer than 2^32 octets, as each
-/// `decode` asks.
+/// Whether what the octets of a PDU say has LeaveAll; malformed octets say nothing. There are fewer
+/// than 2^32 octets, as each `decode` asks.
 pub fn wire_leaves(alloc: Global, wire: &Wire) -> Result<bool, NoMemory>
     requires { length wire.now.octets < 2 ^ 32 }
     ensures { IfOk result (λ leaves. leaves ≡ has_leave_all wire.now) }

@@ -1,4 +1,5 @@
-//! Streams that come to a port and leave. More of them, by what is printed, are the files of examples/.
+//! Streams that come to a port and leave. More of them, by what is printed, are the files of
+//! examples/.
 
 ghost use Rattle.std.specs.Prelude.{◌≡◌, ◌+◌, ◌^◌, ◌≤◌, ◌<◌, IfSome, OnOk};
 
@@ -42,7 +43,8 @@ fn small(stream: u64) -> Want {
     want_of(stream, Class::A, Rank::Normal, SMALL)
 }
 
-/// What a want changes, asked once more of the same ledger where memory ran out: `tools/memory` refuses each growth in turn.
+/// What a want changes, asked once more of the same ledger where memory ran out: `tools/memory`
+/// refuses each growth in turn.
 fn want_again(ledger: &mut Ledger, now: Cs, want: Want) -> Result<Changed, NoMemory>
     requires { ledger.old.book.moment ≤ now.0 }
     ensures { OnOk result (ledger.new.book.moment ≡ now.0) }
@@ -117,8 +119,8 @@ fn four_are_booked(ledger: &Ledger) -> bool {
         && is_booked(ledger, 5, 5)
 }
 
-/// Whether the fifth of five small streams is booked once the first has left, which it does once, and
-/// time shows something then and not again.
+/// Whether the fifth of five small streams is booked once the first has left, which it does once,
+/// and time shows something then and not again.
 fn decides_anew(ledger: &mut Ledger) -> Result<bool, NoMemory>
     requires { ledger.old.book.moment ≡ 0 }
 {
@@ -229,7 +231,8 @@ fn has_changed(ledger: &Ledger) -> bool {
     }
 }
 
-/// Whether both streams are moved since then: the emergency stream, which is booked, before the other.
+/// Whether both streams are moved since then: the emergency stream, which is booked, before the
+/// other.
 fn has_moved(alloc: Global, ledger: &Ledger) -> Result<bool, NoMemory> {
     let before = Entry {
         want: small(9),
@@ -370,7 +373,8 @@ fn a_million_streams_come_in_turn(rt: HostRuntime) {
     assert!(rt; are_a_million_taken(rt.alloc()));
 }
 
-/// The same behind a stream that doesn't fit: one that waits doesn't make the others be decided at each call.
+/// The same behind a stream that doesn't fit: one that waits doesn't make the others be decided at
+/// each call.
 fn takes_a_million_behind_one(ledger: &mut Ledger) -> Result<bool, NoMemory>
     requires { ledger.old.book.moment ≡ 0 }
 {

@@ -9,11 +9,11 @@
 //! tree                             tree_topology
 //! ```
 //!
-//! The crate has tests alone, called as a user calls: a crate with tests beside its code is proved once
-//! more with them.
+//! The crate has tests alone, called as a user calls: a crate with tests beside its code is proved
+//! once more with them.
 //!
-//! To add one: a test in the file of its crate, or a row of a machine's table there. A ledger's bookings are better
-//! shown by a file of `examples/`.
+//! To add one: a test in the file of its crate, or a row of a machine's table there. A ledger's
+//! bookings are better shown by a file of `examples/`.
 #![tactic(auto)]
 
 #[cfg(test)]

@@ -197,8 +197,8 @@ fn declares_in_room(participant: &mut Participant<Numbers>, first: u32, last: u3
         && declares(participant, last, last)
 }
 
-// Two keys are declared in room made ahead, and planned and sent alike; the timers of a participant that was made ready
-// fire.
+// Two keys are declared in room made ahead, and planned and sent alike; the timers of a participant
+// that was made ready fire.
 #[test]
 fn memory_taken_first(rt: HostRuntime) {
     let mut participant = new_participant(rt.alloc(), false);

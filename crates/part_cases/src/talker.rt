@@ -87,7 +87,8 @@ fn registered(talker: Talker, failure: Option<Failure>) -> TalkerReg {
     }
 }
 
-/// Whether a Talker, registered with a failure or none, is declared with one where too little is free.
+/// Whether a Talker, registered with a failure or none, is declared with one where too little is
+/// free.
 fn fails(priority: u8, max_frame: u16, before: Option<Failure>, after: Failure) -> Option<bool> {
     let heard = registered(talker(priority, max_frame, 0)?, before);
     let said = TalkerReg::Failed(talker(priority, max_frame, 500)?, after);

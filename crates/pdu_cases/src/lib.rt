@@ -5,8 +5,8 @@
 //! mvrp, msrp   mvrp_codec, msrp_codec
 //! ```
 //!
-//! The crate has tests alone, called as a user calls. To add one: a test in the file of its crate. Octets with their wanted
-//! reading are better shown by a line in `examples/pdus/`.
+//! The crate has tests alone, called as a user calls. To add one: a test in the file of its crate.
+//! Octets with their wanted reading are better shown by a line in `examples/pdus/`.
 #![tactic(auto)]
 
 #[cfg(test)]

@@ -70,7 +70,8 @@ fn reads(alloc: Global, octets: &[u8], leave_all: bool, events: &[Event]) -> boo
     }
 }
 
-/// Two Talkers whose StreamID carries into the high half, and whose destination into the first octets.
+/// Two Talkers whose StreamID carries into the high half, and whose destination into the first
+/// octets.
 const CARRIES: [u8; 37] = [
     0, 1, 25, 0, 30, 0, 2, 2, 0, 0, 0, 0xff, 0xff, 0xff, 0xff, 0x91, 0xe0, 0xff, 0xff, 0xff, 0xff,
     0, 2, 0, 200, 0, 1, 0x70, 0, 0, 1, 0xf4, 0x7e, 0, 0, 0, 0,

@@ -1,5 +1,5 @@
--- The lines of what an MRPDU says, one event each (IEEE Std 802.1Q-2018, 10.8.2, 10.12.1, 11.2.3.1, 35.2.2). A line ends with a
--- line feed.
+-- The lines of what an MRPDU says, one event each (IEEE Std 802.1Q-2018, 10.8.2, 10.12.1, 11.2.3.1,
+-- 35.2.2). A line ends with a line feed.
 use Rattle.std.specs.Prelude.{ℕ, Bool, true, false, List, [], ◌∷◌, ◌++◌, flat_map, codes}
 use Rattle.std.specs.Fmt.{decimal}
 use Rattle.srp_base.specs.{Hexadecimal.hex12_text, Hexadecimal.hex16_text, Text.whole_of}
@@ -53,7 +53,8 @@ mac_line x = whole_of (event_name x.0 ∷ codes " mac " ∷ hex12_text x.1 ∷ c
 abbrev pub address_text : Talker → List ℕ
 address_text t = whole_of (codes " dest " ∷ hex12_text t.dest ∷ codes " vid " ∷ decimal t.vid ∷ [])
 
--- how large they are at most, how many come in a class measurement interval at most, and their priority and rank
+-- how large they are at most, how many come in a class measurement interval at most, and their
+-- priority and rank
 abbrev pub traffic_text : Talker → List ℕ
 traffic_text t = whole_of (
     codes " octets " ∷ decimal t.max_frame ∷ codes " frames " ∷ decimal t.frames
@@ -82,8 +83,8 @@ content_text (Listener kind) = whole_of (codes " " ∷ kind_name kind ∷ codes 
 content_text (Domain priority vid) = whole_of (
     codes " priority " ∷ decimal priority ∷ codes " vid " ∷ decimal vid ∷ codes "\n" ∷ [])
 
--- `joinmt talker ID advertise ..`, `joinmt talker ID failed bridge B code C ..`, `joinmt listener ID ready` or
--- `joinmt domain 6 priority 3 vid 2`
+-- `joinmt talker ID advertise ..`, `joinmt talker ID failed bridge B code C ..`,
+-- `joinmt listener ID ready` or `joinmt domain 6 priority 3 vid 2`
 abbrev pub declaration_line : MrpEvent × MsrpKey × MsrpContent → List ℕ
 declaration_line x = whole_of (event_name x.0 ∷ key_text x.1 ∷ content_text x.2 ∷ [])
 

@@ -10,9 +10,10 @@ use mrpdu_codec::AppForm;
 use srp_base::NoMemory;
 use std::alloc::Global;
 
-/// What a capture of PDUs of an application says: of each line, in order, whether its PDU has a LeaveAll and then its events in
-/// the order of the octets, a line each; or the offset in octets, from 0, of the first field that breaks its rule (IEEE Std
-/// 802.1Q-2018, 10.8, 11.2.3.1, 35.2.2); or that it has no octets. An empty line and a line that begins with `#` say nothing.
+/// What a capture of PDUs of an application says: of each line, in order, whether its PDU has a
+/// LeaveAll and then its events in the order of the octets, a line each; or the offset in octets,
+/// from 0, of the first field that breaks its rule (IEEE Std 802.1Q-2018, 10.8, 11.2.3.1, 35.2.2);
+/// or that it has no octets. An empty line and a line that begins with `#` say nothing.
 pub fn decoded_text(alloc: Global, form: AppForm, capture: &[u8]) -> Result<String, NoMemory>
     requires { length capture.now < 2 ^ 32 }
     ensures { IfOk result (λ text. string_bytes text ≡ decoded_text_spec form capture.now) }

@@ -31,7 +31,8 @@ pub(crate) fn write_octets(
 
 // What a PDU says.
 fn write_pdu(out: &mut String, number: u64, pdu: &MvrpPdu) -> Result<(), AllocError>
-    ensures { OnOk result (string_bytes out.new ≡ string_bytes out.old ++ vlan_lines number pdu.now) }
+    ensures { OnOk result
+        (string_bytes out.new ≡ string_bytes out.old ++ vlan_lines number pdu.now) }
 {
     write_leaveall(out, number, pdu.leave_all)?;
     write_events(out, pdu.events.as_slice())

@@ -1,4 +1,5 @@
-//! Gates that hold one port: until another has answered, or inside its turn while another asks for its own.
+//! Gates that hold one port: until another has answered, or inside its turn while another asks for
+//! its own.
 
 use bridge_book::Gate;
 use srp_base::{NodeNo, PortNo};
@@ -23,7 +24,8 @@ pub(crate) struct Holding {
     place: Place,
     held: (u16, u8),
     other: (u16, u8),
-    // Whether the port is held in each tick in which it comes by, and not only until the other's first answer.
+    // Whether the port is held in each tick in which it comes by, and not only until the other's
+    // first answer.
     anew: bool,
     // In how many ticks the other has answered.
     answers: AtomicU64,
@@ -47,8 +49,8 @@ impl Holding {
         }
     }
 
-    /// Holds port `held` of a node before its steps of each tick until port `other` of a node has answered in that tick. Both
-    /// have to have steps in the same ticks.
+    /// Holds port `held` of a node before its steps of each tick until port `other` of a node has
+    /// answered in that tick. Both have to have steps in the same ticks.
     pub(crate) fn in_each_tick(held: (u16, u8), other: (u16, u8)) -> Holding {
         Holding {
             place: Place::Arriving,
@@ -108,8 +110,9 @@ impl Gate for Holding {
     }
 }
 
-/// Holds a port once inside its turn: until another port of its node asks for its own, and then for many looks more, or until
-/// some port of the node is inside its turn too. The other doesn't ask before the port is held.
+/// Holds a port once inside its turn: until another port of its node asks for its own, and then for
+/// many looks more, or until some port of the node is inside its turn too. The other doesn't ask
+/// before the port is held.
 #[derive(Drop)]
 pub(crate) struct Alone {
     held: (u16, u8),
@@ -140,8 +143,8 @@ impl Alone {
         }
     }
 
-    /// Whether the other asked for its turn while the port was held in its own, and no other port of the node came inside its
-    /// turn before the port went on.
+    /// Whether the other asked for its turn while the port was held in its own, and no other port
+    /// of the node came inside its turn before the port went on.
     pub(crate) fn was_alone(&self) -> bool {
         self.asked.load(Ordering::SeqCst) && !self.met.load(Ordering::SeqCst)
     }

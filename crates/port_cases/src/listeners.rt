@@ -1,5 +1,6 @@
-//! A Talker and three Listeners behind two bridges: with a thread for each port all three hear the stream in the end, as in the
-//! plain run; and the ports of a bridge go on beside each other, so that one may be held until another has answered.
+//! A Talker and three Listeners behind two bridges: with a thread for each port all three hear the
+//! stream in the end, as in the plain run; and the ports of a bridge go on beside each other, so
+//! that one may be held until another has answered.
 
 ghost use Rattle.std.specs.Prelude.{IsTrue};
 ghost use Rattle.tree_topology.specs.Topology.{HasNode};
@@ -167,7 +168,8 @@ fn so_is_the_other_port(rt: HostRuntime) {
     assert!(rt; gate.was_let_go());
 }
 
-// Whether a port is alone in its turn, in a run of one tick in which it is held there while another of its bridge asks.
+// Whether a port is alone in its turn, in a run of one tick in which it is held there while another
+// of its bridge asks.
 fn is_alone<R: Threads + Wait + Sync>(rt: &R, alloc: Global, held: u8, other: u8) -> bool {
     let gate = Alone::new((2, held), (2, other));
     let run = by_ports(rt, alloc, FIRST_TICK, &gate);
@@ -183,7 +185,8 @@ fn a_port_that_is_held_in_its_turn_is_alone_there_while_another_of_its_bridge_as
     assert!(rt; is_alone(&rt, rt.alloc(), 1, 2));
 }
 
-// Whether the Listeners hear the stream in the end of a run in which a port is held in each tick, in more than these ticks.
+// Whether the Listeners hear the stream in the end of a run in which a port is held in each tick,
+// in more than these ticks.
 fn goes_on_anew<R: Threads + Wait + Sync>(rt: &R, alloc: Global, gate: &Holding) -> bool {
     let run = by_ports(rt, alloc, SCENE, gate);
     let so = is_ready(&run);

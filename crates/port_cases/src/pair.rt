@@ -1,5 +1,6 @@
-//! Two stations, one of which declares a VID, and the first two PDUs that say so are lost: each port has a thread, and whichever
-//! of the two is held until the other has answered, the run is the plain one, since a node of one port has one order.
+//! Two stations, one of which declares a VID, and the first two PDUs that say so are lost: each
+//! port has a thread, and whichever of the two is held until the other has answered, the run is the
+//! plain one, since a node of one port has one order.
 
 use crate::gate::{Holding, Place};
 use crate::scene::{by_ports, plainly};
@@ -16,7 +17,8 @@ pub(crate) const SCENE: &str = "ticks = 22\n\
     { tick = 1, kind = 'lose', from = 's1', to = 's2', index = 0 }, \
     { tick = 21, kind = 'lose', from = 's1', to = 's2', index = 0 }]\n";
 
-// Whether two runs have one journal of 22 ticks, one timeline, and a quiet network out of step at the end.
+// Whether two runs have one journal of 22 ticks, one timeline, and a quiet network out of step at
+// the end.
 pub(crate) fn are_one(ports: &Run, plain: &Run) -> bool {
     ports.journal.ticks.len() == 22
         && ports.journal == plain.journal

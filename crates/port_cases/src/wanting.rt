@@ -1,7 +1,8 @@
 //! Runs with a gate that want memory: each ends with no run, and at a second try as it should.
 //!
-//! In the gate nothing is refused. `tools/memory` runs the tests once for each growth, and refuses just that one. A thread that
-//! can't be started then is none that a gate could wait for, and its port goes on once all looks were spent.
+//! In the gate nothing is refused. `tools/memory` runs the tests once for each growth, and refuses
+//! just that one. A thread that can't be started then is none that a gate could wait for, and its
+//! port goes on once all looks were spent.
 
 use crate::gate::{Holding, Place};
 use crate::listeners::{FIRST_TICK, is_held};
@@ -19,8 +20,8 @@ fn are_alike(ports: &Option<Run>, plain: &Option<Run>) -> Option<bool> {
     }
 }
 
-// Whether a run in which a station is held in its turn until the other one has answered is the plain one; None where memory ran
-// out.
+// Whether a run in which a station is held in its turn until the other one has answered is the
+// plain one; None where memory ran out.
 fn is_plain<R: Threads + Wait + Sync>(
     rt: &R,
     alloc: Global,
@@ -58,8 +59,8 @@ fn the_other_station_held_runs_plainly_after_want_of_memory(rt: HostRuntime) {
     assert!(rt; is_plain_in_the_end(&rt, rt.alloc(), 2, 1));
 }
 
-// Whether the steps of a port of bridge 2, which is held until another has answered, come after those of that one, where not all
-// looks were spent; None where memory ran out.
+// Whether the steps of a port of bridge 2, which is held until another has answered, come after
+// those of that one, where not all looks were spent; None where memory ran out.
 fn comes_later<R: Threads + Wait + Sync>(
     rt: &R,
     alloc: Global,

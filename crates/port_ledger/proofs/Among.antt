@@ -22,7 +22,8 @@ pub found_in : (x : Entry) (those : List Entry) → IsAscending those → list_a
 found_in x [] up h = cc
 found_in x (y ∷ ys) up h = by (same_entry x y) refl h (found_in x ys up.1)
   where
-    by : (b : Bool) → same_entry x y ≡ b → (b || list_any (same_entry x) ys) ≡ true → (list_any (same_entry x) ys ≡ true → entry_of ys x.want.stream ≡ Some x) → entry_of (y ∷ ys) x.want.stream ≡ Some x
+    by : (b : Bool) → same_entry x y ≡ b → (b || list_any (same_entry x) ys) ≡ true → (list_any (same_entry x) ys ≡ true → entry_of ys x.want.stream ≡ Some x)
+        → entry_of (y ∷ ys) x.want.stream ≡ Some x
     by true e k rest =
         let same : x ≡ y = same_entry-is x y e in
         let own : (stream_of y == x.want.stream.0) ≡ true = subst (λ (z : Entry). (stream_of z == x.want.stream.0) ≡ true) same (grind (arith, nat_tests)) in

@@ -161,7 +161,8 @@ module _ (now : ℕ) (o : IsImportanceOrder now) (caps : Caps) (standing : Stand
         (with_want_exchanged want es h.kept.ascending other)
         (IsPermutation-trans (unbooked_entry want ∷ without es want.stream) (unbooked_entry want ∷ (f ++ without r want.stream)) ((f ++ without r want.stream) ++ unbooked_entry want ∷ [])
         (IsPermutation-cons (unbooked_entry want) (without es want.stream) (f ++ without r want.stream) rest)
-        (IsPermutation-sym ((f ++ without r want.stream) ++ unbooked_entry want ∷ []) (unbooked_entry want ∷ (f ++ without r want.stream)) (IsPermutation-to_front (f ++ without r want.stream) (unbooked_entry want))))))
+        (IsPermutation-sym ((f ++ without r want.stream) ++ unbooked_entry want ∷ []) (unbooked_entry want ∷ (f ++ without r want.stream))
+        (IsPermutation-to_front (f ++ without r want.stream) (unbooked_entry want))))))
         (all_join (IsBehind now f) (without r want.stream) (unbooked_entry want ∷ []) (all-without (IsBehind now f) want.stream r is_ahead.behind) (behind_new now (unbooked_entry want) f ne new, tt))
 
     -- an entry goes

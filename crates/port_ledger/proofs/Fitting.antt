@@ -31,7 +31,9 @@ tested_booked want (x ∷ xs) up =
     elim (cases_Bool (stream_of x == want.stream.0)) [
       | inl e ↦
           (let none : entry_of (booked_of xs) want.stream ≡ None =
-          none_of want.stream (booked_of xs) (all_booked (λ y. want.stream.0 < stream_of y) xs (subst (λ (n : ℕ). AllByRecursion (λ y. n < stream_of y) xs) (eqb-true (stream_of x) want.stream.0 e) up.0)) in
+          none_of want.stream (booked_of xs)
+          (all_booked (λ y. want.stream.0 < stream_of y) xs
+          (subst (λ (n : ℕ). AllByRecursion (λ y. n < stream_of y) xs) (eqb-true (stream_of x) want.stream.0 e) up.0)) in
           ap (λ v. tested_since want (cond v (Some x) (entry_of xs want.stream))) e
           ∙ elim (cases_Bool (is_booked x)) [
             | inl h ↦ ap (λ v. tested_since want (cond v (Some x) (entry_of (booked_of xs) want.stream))) (sym e)
@@ -87,7 +89,9 @@ all_before moment (x ∷ xs) h none =
 same_preceded : (moment now : ℕ) (x y : Entry) → moment ≤ now → IsBefore moment y.since
     → comes_after now x y ≡ comes_after moment x y
 same_preceded moment now x y up before =
-    ap (λ o. not (stream_of y == stream_of x) && is_lt (ordering_then (nat_cmp (class_number y.want.class) (class_number x.want.class)) (ordering_then (nat_cmp (rank_number y.want.rank) (rank_number x.want.rank)) (ordering_then o (nat_cmp (stream_of y) (stream_of x))))))
+    ap (λ o. not (stream_of y == stream_of x) && is_lt
+    (ordering_then (nat_cmp (class_number y.want.class) (class_number x.want.class))
+    (ordering_then (nat_cmp (rank_number y.want.rank) (rank_number x.want.rank)) (ordering_then o (nat_cmp (stream_of y) (stream_of x))))))
     (by_since y.since x.since before)
   where
     by_since : (a b : Option Cs) → IsBefore moment a → nat_cmp (moment_or now a) (moment_or now b) ≡ nat_cmp (moment_or moment a) (moment_or moment b)
@@ -112,7 +116,8 @@ same_fit moment now caps set x up h =
     let normal : above now x (filter is_normal set) ≡ above moment x (filter is_normal set) =
     same_above moment now x (filter is_normal set) up (all_filtered (λ y. IsBefore moment y.since) is_normal set h) in
     ap (λ n. cond (nat_le (n + entry_slope x) (cap_of caps x.want.class)) Fits (TooLittle n (cap_of caps x.want.class) (code_of now caps set x))) all
-    ∙ ap (λ n. cond (does_fit moment caps set x) Fits (TooLittle (above moment x set) (cap_of caps x.want.class) (cond (is_normal x && nat_le (n + entry_slope x) (cap_of caps x.want.class)) 6 1))) normal
+    ∙ ap (λ n. cond (does_fit moment caps set x) Fits
+    (TooLittle (above moment x set) (cap_of caps x.want.class) (cond (is_normal x && nat_le (n + entry_slope x) (cap_of caps x.want.class)) 6 1))) normal
 
 pub fits_by_clock : (book : Book) (now : ℕ) (want : Want) → IsKept book → book.moment ≤ now
     → (nat_lt book.moment now && has_new_booking book) ≡ false → fit_for now book want ≡ fit_for book.moment book want

@@ -99,7 +99,8 @@ pub ascending_after : (now : ℕ) (caps : Caps) (before after : List Entry) → 
 ascending_after now caps before after up d = subst (λ (ys : List Entry). IsAscending ys) (sym d.moments) (ascending-settled now before (marks_of after) up)
 
 -- a decided list of entries makes a ledger
-pub kept_after : (caps : Caps) (now : ℕ) (before after : List Entry) → caps.class_a ≤ caps.both → IsAscending before → AllByRecursion (λ x. moment_or now x.since ≤ now) before → Decides now caps before after → IsKept (record { caps = caps; moment = now; entries = after })
+pub kept_after : (caps : Caps) (now : ℕ) (before after : List Entry) → caps.class_a ≤ caps.both → IsAscending before
+    → AllByRecursion (λ x. moment_or now x.since ≤ now) before → Decides now caps before after → IsKept (record { caps = caps; moment = now; entries = after })
 kept_after caps now before after shares up moments d =
     record {
       ascending = ascending_after now caps before after up d;
@@ -109,13 +110,16 @@ kept_after caps now before after shares up moments d =
     }
 
 -- the ledger after a want
-pub kept_with_want : (book : Book) (now : ℕ) (want : Want) (after : List Entry) → IsKept book → book.moment ≤ now → Decides now book.caps (with_want book.entries want) after → IsKept (record { caps = book.caps; moment = now; entries = after })
+pub kept_with_want : (book : Book) (now : ℕ) (want : Want) (after : List Entry) → IsKept book → book.moment ≤ now
+    → Decides now book.caps (with_want book.entries want) after → IsKept (record { caps = book.caps; moment = now; entries = after })
 kept_with_want book now want after kept up d =
     kept_after book.caps now (with_want book.entries want) after kept.shares (ascending-with_want want book.entries kept.ascending)
     (moments-with_want now want book.entries (moments_later book.moment now book.entries up kept.moments)) d
 
 -- a want is tested against the entries that the book has
-pub fit_in_book : (now moment : ℕ) (caps : Caps) (entries one two : List Entry) (want : Want) (x : Entry) (fit : Fit) (book : Book) → fit ≡ fit_in now caps (booked_of two) x → x ≡ tested_entry one want → one ≡ entries → two ≡ entries → record { caps = caps; moment = moment; entries = entries } ≡ book → fit ≡ fit_in now book.caps (booked_of book.entries) (tested_entry book.entries want)
+pub fit_in_book : (now moment : ℕ) (caps : Caps) (entries one two : List Entry) (want : Want) (x : Entry) (fit : Fit) (book : Book)
+    → fit ≡ fit_in now caps (booked_of two) x → x ≡ tested_entry one want → one ≡ entries → two ≡ entries
+    → record { caps = caps; moment = moment; entries = entries } ≡ book → fit ≡ fit_in now book.caps (booked_of book.entries) (tested_entry book.entries want)
 fit_in_book now moment caps entries one two want x fit book e tested first second same =
     subst (λ (b : Book). fit ≡ fit_in now b.caps (booked_of b.entries) (tested_entry b.entries want)) same
     (e ∙ (ap (λ ys. fit_in now caps (booked_of ys) x) second ∙ ap (λ y. fit_in now caps (booked_of entries) y) (tested ∙ ap (λ ys. tested_entry ys want) first)))

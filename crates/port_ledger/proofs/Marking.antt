@@ -92,5 +92,6 @@ pub decision_exists : (now : ℕ) (o : IsImportanceOrder now) (caps : Caps) (xs 
     → AreOfDifferentStreams xs → (marks : List Bool) × IsDecision now caps xs marks
 decision_exists now o caps xs different = (
   map (λ x. is_among (streams_let_in caps 0 (importance_order now xs)) (stream_of x)) xs,
-  decision_from_pass now o caps xs (importance_order now xs) (IsPermutation-ranked now xs) (ranked_is_ranked now o xs different) (different_permuted xs (importance_order now xs) (IsPermutation-ranked now xs) different),
+  decision_from_pass now o caps xs (importance_order now xs) (IsPermutation-ranked now xs) (ranked_is_ranked now o xs different)
+      (different_permuted xs (importance_order now xs) (IsPermutation-ranked now xs) different),
 )

@@ -168,7 +168,8 @@ module _ (before after : List Entry) (i : ℕ) (x d : Entry) (booked dropped : L
   any_is = subst (λ (ys : List Entry). list_any (same_entry x) ys ≡ begins_with_entry ys x) (sym is) (first_found x rest h.down)
 
   -- x isn't first in what is left, so it is in none of it
-  pub walk-notes : (later more : List StreamId) → later ≡ dropped ++ booked_streams_below rest x.want.stream → more ≡ booked ++ booked_stream x → begins_with_entry next x ≡ false → WalksBoth before after (i + 1) more later next
+  pub walk-notes : (later more : List StreamId) → later ≡ dropped ++ booked_streams_below rest x.want.stream → more ≡ booked ++ booked_stream x
+      → begins_with_entry next x ≡ false → WalksBoth before after (i + 1) more later next
   walk-notes later more e m none = record {
     new =
         new_before
@@ -180,7 +181,8 @@ module _ (before after : List Entry) (i : ℕ) (x d : Entry) (booked dropped : L
     down = goes_down;
   }
 
-  shared_by : (later : List StreamId) (ys tail : List Entry) → next ≡ ys → begins_with_entry ys x ≡ true → tail ≡ drop 1 ys → later ≡ dropped ++ booked_streams_below rest x.want.stream → WalksBoth before after (i + 1) booked later tail
+  shared_by : (later : List StreamId) (ys tail : List Entry) → next ≡ ys → begins_with_entry ys x ≡ true → tail ≡ drop 1 ys
+      → later ≡ dropped ++ booked_streams_below rest x.want.stream → WalksBoth before after (i + 1) booked later tail
   shared_by later [] tail n first t e = cc
   shared_by later (y ∷ ys) tail n first t e =
       let one : next ≡ x ∷ ys = n ∙ ap (λ z. z ∷ ys) (sym (same_entry-is x y first)) in
@@ -194,7 +196,8 @@ module _ (before after : List Entry) (i : ℕ) (x d : Entry) (booked dropped : L
       })
 
   -- both lists have x
-  pub walk-shares : (later : List StreamId) (tail : List Entry) → begins_with_entry next x ≡ true → tail ≡ drop 1 next → later ≡ dropped ++ booked_streams_below rest x.want.stream → WalksBoth before after (i + 1) booked later tail
+  pub walk-shares : (later : List StreamId) (tail : List Entry) → begins_with_entry next x ≡ true → tail ≡ drop 1 next
+      → later ≡ dropped ++ booked_streams_below rest x.want.stream → WalksBoth before after (i + 1) booked later tail
   walk-shares later tail first t e = shared_by later next tail refl first t e
 
 -- what begins with an entry isn't empty

@@ -54,7 +54,8 @@ module _ (caps : Caps) (sum i room : ℕ) (order : List Entry) (d y : Entry) (wh
       noted-more gains caps sum sum i room room order d y whole done done l no_sum refl
       (ap (λ v. noted room done (stream_where (gains (get_or order i d) v) (get_or order i d))) (sym full)) h
 
-  pub skipped_loses : is_some (get_or order i d).since ≡ false → whole ≡ noted room done (streams_passed loses caps sum (drop i order)) → whole ≡ noted room done (streams_passed loses caps sum (drop (i + 1) (set order i y)))
+  pub skipped_loses : is_some (get_or order i d).since ≡ false → whole ≡ noted room done (streams_passed loses caps sum (drop i order))
+      → whole ≡ noted room done (streams_passed loses caps sum (drop (i + 1) (set order i y)))
   skipped_loses unbooked h =
       noted-more loses caps sum sum i room room order d y whole done done l no_sum refl
       (ap (λ v. noted room done (stream_where v (get_or order i d))) (sym (ap (loses (get_or order i d)) full ∙ unbooked))) h
@@ -340,7 +341,8 @@ module _ (now : ℕ) (caps : Caps) (sum : ℕ) (want : Want) (goes : Option Entr
     where
       none_next : (x : Entry) → entry_of es want.stream ≡ Some x → list_any (same_entry x) passed ≡ false
       none_next x e =
-          list_any-IsPermutation (same_entry x) passed (map (settled_at now choice) next) (IsPermutation-map (settled_at now choice) ranked next (IsPermutation-sym next ranked (IsPermutation-ranked now next)))
+          list_any-IsPermutation (same_entry x) passed (map (settled_at now choice) next)
+          (IsPermutation-map (settled_at now choice) ranked next (IsPermutation-sym next ranked (IsPermutation-ranked now next)))
           ∙ any_none (same_entry x) next
           (all_join (λ z. same_entry x (settled_at now choice z) ≡ false) left (unbooked_entry want ∷ [])
           (all_with left (others_left want.stream were) (others_left want.stream were) (λ z ne _. differ x (settled_at now choice z) (λ f. ne (sym f ∙ entry_of-stream want.stream x es e))))
@@ -380,7 +382,8 @@ module _ (now : ℕ) (caps : Caps) (sum : ℕ) (want : Want) (goes : Option Entr
       let here : IsPermutation (only_in es new) (filter lost (option_to_list goes ++ left)) =
       IsPermutation-trans (only_in es new) (only_in were passed) (filter lost (option_to_list goes ++ left)) (only_permuted front were passed es new was new_behind)
       (filter_permuted lost were (option_to_list goes ++ left) all) in
-      let named : IsPermutation (booked_only_in es new) (streams (filter lost (option_to_list goes ++ left))) = IsPermutation-map (λ (x : Entry). x.want.stream) (only_in es new) (filter lost (option_to_list goes ++ left)) here in
+      let named : IsPermutation (booked_only_in es new) (streams (filter lost (option_to_list goes ++ left)))
+      = IsPermutation-map (λ (x : Entry). x.want.stream) (only_in es new) (filter lost (option_to_list goes ++ left)) here in
       let apart' : streams (filter lost (option_to_list goes ++ left)) ≡ booking_of goes ++ streams (filter lost left) =
       ap streams (filter-append lost (option_to_list goes) left)
       ∙ (map-append (λ (x : Entry). x.want.stream) (filter lost (option_to_list goes)) (filter lost left) ∙ ap (λ ys. ys ++ streams (filter lost left)) goes_lost) in
@@ -501,7 +504,9 @@ module _ (now : ℕ) (o : IsImportanceOrder now) (caps : Caps) (place : ℕ) (to
   behind = drop place order
 
   is : AreBehind (take place order) (importance_order now (entries_passed now caps (both_of totals) (importance_order now (exchanged behind want)))) new
-  is = subst (λ (ys : List Entry). AreBehind (take place order) (importance_order now (entries_passed now caps (both_of totals) (importance_order now (exchanged behind want)))) ys) (sym decided) (joined_behind now o caps place totals (with_want es want) order (exchanged behind want) le h)
+  is = subst (λ (ys : List Entry). AreBehind (take place order)
+      (importance_order now (entries_passed now caps (both_of totals) (importance_order now (exchanged behind want)))) ys) (sym decided)
+      (joined_behind now o caps place totals (with_want es want) order (exchanged behind want) le h)
 
   d : AreOfDifferentStreams (exchanged behind want)
   d = joined_different now o caps place totals (with_want es want) order (exchanged behind want) le h

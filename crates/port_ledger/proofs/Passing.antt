@@ -64,7 +64,8 @@ one_settled now b x xs e ne only =
           ∙ (cond-false (is_stream_in xs x) (settled_at now b (settled_at now b x)) (settled_at now b x) (not_in x xs ne)
           ∙ sym (cond-true (is_stream_in (x ∷ xs) x) (settled_at now b x) x (or_left (stream_of x == stream_of x) (is_stream_in xs x) (eq-eqb (stream_of x) (stream_of x) refl)))))
       | inr h ↦ ap (λ v. settled_in now b xs (cond v (record e { since = since_after now x.since (b x) }) e)) h
-          ∙ ap (λ v. cond (v || is_stream_in xs e) (settled_at now b e) e) (sym (ne_eqb (stream_of x) (stream_of e) (λ k. absurd (let l : false ≡ true = sym h ∙ eq-eqb (stream_of e) (stream_of x) (sym k) in cc))))
+          ∙ ap (λ v. cond (v || is_stream_in xs e) (settled_at now b e) e)
+          (sym (ne_eqb (stream_of x) (stream_of e) (λ k. absurd (let l : false ≡ true = sym h ∙ eq-eqb (stream_of e) (stream_of x) (sym k) in cc))))
     ]
 
 all_settled : (now : ℕ) (b : Entry → Bool) (x : Entry) (xs es : List Entry)
@@ -273,7 +274,8 @@ pass_more now caps start first before sum i order es d since sum' l set_to next 
     let step = pass_head now caps start first before sum i order es (get_or order i d) since l (drop-cons order i d l) set_to at in
     let on : suc i ≡ i + 1 = omega arith in
     subst (λ (n : ℕ). PassesAt now caps start first before n (i + 1) (set order i (record (get_or order i d) { since = since })) (with_since es (get_or order i d) since)) (sym next)
-    (subst (λ (n : ℕ). PassesAt now caps start first before (sum_with sum (get_or order i d) (has_room caps sum (get_or order i d))) n (set order i (record (get_or order i d) { since = since })) (with_since es (get_or order i d) since)) on step)
+    (subst (λ (n : ℕ). PassesAt now caps start first before (sum_with sum (get_or order i d) (has_room caps sum (get_or order i d))) n
+    (set order i (record (get_or order i d) { since = since })) (with_since es (get_or order i d) since)) on step)
 
 -- at the start nothing is passed, and at the end all is
 pub passes_first : (now : ℕ) (caps : Caps) (start : ℕ) (order es : List Entry) → IsAscending es → AreOfDifferentStreams order

@@ -64,7 +64,8 @@ pub ranked_is_ranked : (now : ℕ) (o : IsImportanceOrder now) (xs : List Entry)
     → IsRanked now (importance_order now xs)
 ranked_is_ranked now o [] different = tt
 ranked_is_ranked now o (x ∷ xs) different =
-    ranked-place now o x (importance_order now xs) (all_permuted (λ y. stream_of x ≢ stream_of y) xs (importance_order now xs) (IsPermutation-ranked now xs) different.0) (ranked_is_ranked now o xs different.1)
+    ranked-place now o x (importance_order now xs) (all_permuted (λ y. stream_of x ≢ stream_of y) xs (importance_order now xs) (IsPermutation-ranked now xs) different.0)
+    (ranked_is_ranked now o xs different.1)
 
 abbrev one_if : Bool → ℕ
 one_if true = 1

@@ -70,7 +70,8 @@ follows_from : (n now : ℕ) (caps : Caps) (xs : List Entry) (x : Entry)
 follows_from n now caps xs x =
     ap (λ set. does_fit now caps set x) (set_after-found n now caps xs)
     ∙ (sym (choice_above (found_in n now caps xs) now caps xs x)
-    ∙ ap (λ k. nat_le (0 + k + entry_slope x) (cap_of caps x.want.class)) (sym (part-IsPermutation (found_in n now caps xs) (comes_after now x) xs (importance_order now xs) (IsPermutation-ranked now xs))))
+    ∙ ap (λ k. nat_le (0 + k + entry_slope x) (cap_of caps x.want.class))
+    (sym (part-IsPermutation (found_in n now caps xs) (comes_after now x) xs (importance_order now xs) (IsPermutation-ranked now xs))))
 
 rounds_agree : (n now : ℕ) (o : IsImportanceOrder now) (caps : Caps) (b : Entry → Bool) (xs : List Entry)
     → IsRanked now (importance_order now xs) → AllByRecursion (Holds now caps 0 b (importance_order now xs)) (importance_order now xs)

@@ -107,7 +107,9 @@ pub runs_from_holds : (now : ℕ) (o : IsImportanceOrder now) (caps : Caps) (sum
 runs_from_holds now o caps sum b [] importance_order holds = tt
 runs_from_holds now o caps sum b (x ∷ xs) importance_order holds =
     let none : sum + total b now x (x ∷ xs) ≡ sum = omega (arith, total-head b now o x xs importance_order.0) in
-    let rest : AllByRecursion (Holds now caps (sum + cond (b x) (entry_slope x) 0) b xs) xs = all_with xs importance_order.0 holds.1 (λ y before h. h ∙ ap (λ n. nat_le (n + entry_slope y) (cap_of caps y.want.class)) (sym (total-tail b now x y xs sum before))) in (
+    let rest : AllByRecursion (Holds now caps (sum + cond (b x) (entry_slope x) 0) b xs) xs
+    = all_with xs importance_order.0 holds.1
+    (λ y before h. h ∙ ap (λ n. nat_le (n + entry_slope y) (cap_of caps y.want.class)) (sym (total-tail b now x y xs sum before))) in (
       holds.0 ∙ ap (λ n. nat_le (n + entry_slope x) (cap_of caps x.want.class)) none,
       runs_from_holds now o caps (sum + cond (b x) (entry_slope x) 0) b xs importance_order.1 rest,
     )

@@ -222,7 +222,8 @@ runs_front now o caps sum b (x ∷ f) r a holds =
     let xs : List Entry = f ++ r in
     let first : AllByRecursion (λ y. comes_after now y x ≡ true) xs = ahead_first now x f r a in
     let none : sum + total b now x (x ∷ xs) ≡ sum = omega (arith, total-head b now o x xs first) in
-    let rest : AllByRecursion (Holds now caps (sum + cond (b x) (entry_slope x) 0) b xs) xs = all_with xs first holds.1 (λ y before h. h ∙ ap (λ n. nat_le (n + entry_slope y) (cap_of caps y.want.class)) (sym (total-tail b now x y xs sum before))) in (
+    let rest : AllByRecursion (Holds now caps (sum + cond (b x) (entry_slope x) 0) b xs) xs
+    = all_with xs first holds.1 (λ y before h. h ∙ ap (λ n. nat_le (n + entry_slope y) (cap_of caps y.want.class)) (sym (total-tail b now x y xs sum before))) in (
       holds.0 ∙ ap (λ n. nat_le (n + entry_slope x) (cap_of caps x.want.class)) none,
       runs_front now o caps (sum + cond (b x) (entry_slope x) 0) b f r (ahead_tail now x f r a) rest,
     )

@@ -49,7 +49,8 @@ not_a_after_b now x y class A e f g h =
     let first : nat_cmp (class_number x.want.class) (class_number y.want.class) ≡ Greater =
     ap (λ c. nat_cmp (class_number c) (class_number y.want.class)) (e ∙ g) ∙ ap (λ c. nat_cmp (class_number B) (class_number c)) f in
     absurd (greater_isnt_less (nat_cmp (class_number x.want.class) (class_number y.want.class))
-    (ordering_then (nat_cmp (rank_number x.want.rank) (rank_number y.want.rank)) (ordering_then (nat_cmp (moment_or now x.since) (moment_or now y.since)) (nat_cmp (stream_of x) (stream_of y)))) first lt)
+    (ordering_then (nat_cmp (rank_number x.want.rank) (rank_number y.want.rank))
+    (ordering_then (nat_cmp (moment_or now x.since) (moment_or now y.since)) (nat_cmp (stream_of x) (stream_of y)))) first lt)
   where
     greater_isnt_less : (o rest : Ordering) → o ≡ Greater → is_lt (ordering_then o rest) ≡ true → ⊥
     greater_isnt_less Less rest e h = cc

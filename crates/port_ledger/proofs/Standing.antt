@@ -91,7 +91,8 @@ above_grows now later x (e ∷ es) up =
       sum-filter-cons (comes_after later (left_out now x)) (kept now e) (map (kept now) es),
     )
 
-one_stands : (now later : ℕ) (caps : Caps) (set : List Entry) (x : Entry) (mark : Bool) → moment_or now x.since ≤ later → mark ≡ does_fit now caps set x → mark ≡ does_fit later caps (map (kept now) set) (record x { since = since_after now x.since mark })
+one_stands : (now later : ℕ) (caps : Caps) (set : List Entry) (x : Entry) (mark : Bool) → moment_or now x.since ≤ later → mark ≡ does_fit now caps set x
+    → mark ≡ does_fit later caps (map (kept now) set) (record x { since = since_after now x.since mark })
 one_stands now later caps set x true up h = h ∙ ap (λ n. nat_le (n + entry_slope x) (cap_of caps x.want.class)) (sym (above-kept now later x set))
 one_stands now later caps set x false up h =
     let over : cap_of caps x.want.class < above now x set + entry_slope x = leb-false (above now x set + entry_slope x) (cap_of caps x.want.class) (sym h) in

@@ -52,7 +52,8 @@ module _ (xs : List Entry) (i : ℕ) (x : Entry) (below : i < length xs) (at : x
   pub slope-room : (class : Class) (sum : ℕ) → booked_slope xs class ≡ sum + booked_slope (drop i xs) class → sum + slope_within x class ≤ booked_slope xs class
   slope-room class sum h = let more = slope-step class sum h in omega (arith, more)
 
-  new-step : (moment count : ℕ) → sum_by (new_within moment) xs ≡ count + sum_by (new_within moment) (drop i xs) → sum_by (new_within moment) xs ≡ (count + new_within moment x) + sum_by (new_within moment) (drop (i + 1) xs)
+  new-step : (moment count : ℕ) → sum_by (new_within moment) xs ≡ count + sum_by (new_within moment) (drop i xs)
+      → sum_by (new_within moment) xs ≡ (count + new_within moment x) + sum_by (new_within moment) (drop (i + 1) xs)
   new-step moment count h =
       let here : sum_by (new_within moment) (drop i xs) ≡ new_within moment x + sum_by (new_within moment) (drop (i + 1) xs) =
       ap (sum_by (new_within moment)) rest_is ∙ sum_by-cons (new_within moment) x (drop (i + 1) xs) in
@@ -107,7 +108,8 @@ new_later moment now xs false e h up =
     ap (λ m. sum_by (new_within m) xs) same
 
 -- the totals at a later moment
-pub totals_later : (moment now : ℕ) (xs : List Entry) (t : Totals) (moved : Bool) → t ≡ totals_of moment xs → moved ≡ nat_lt moment now → AllByRecursion (λ x. moment_or moment x.since ≤ moment) xs → moment ≤ now
+pub totals_later : (moment now : ℕ) (xs : List Entry) (t : Totals) (moved : Bool) → t ≡ totals_of moment xs → moved ≡ nat_lt moment now
+    → AllByRecursion (λ x. moment_or moment x.since ≤ moment) xs → moment ≤ now
     → later_totals moved t ≡ totals_of now xs
 totals_later moment now xs t moved is moves h up =
     ap (later_totals moved) is ∙ ap (λ n. totals (booked_slope xs A) (booked_slope xs B) n) (new_later moment now xs moved (sym moves) h up)
@@ -118,7 +120,8 @@ new_any moment [] = refl
 new_any moment (x ∷ xs) =
     ap (nat_lt 0) (sum_by-cons (new_within moment) x xs) ∙ by_test (is_since moment x.since) (new_any moment xs)
   where
-    by_test : (v : Bool) → nat_lt 0 (sum_by (new_within moment) xs) ≡ list_any (λ y. is_since moment y.since) xs → nat_lt 0 ((if v then 1 else 0) + sum_by (new_within moment) xs) ≡ (v || list_any (λ y. is_since moment y.since) xs)
+    by_test : (v : Bool) → nat_lt 0 (sum_by (new_within moment) xs) ≡ list_any (λ y. is_since moment y.since) xs
+        → nat_lt 0 ((if v then 1 else 0) + sum_by (new_within moment) xs) ≡ (v || list_any (λ y. is_since moment y.since) xs)
     by_test true h = lt-ltb 0 (1 + sum_by (new_within moment) xs) (omega arith)
     by_test false h = ap (nat_lt 0) (zero-add (sum_by (new_within moment) xs)) ∙ h
 

@@ -18,7 +18,9 @@ still_booked [] those s up out h = cc
 still_booked (x ∷ xs) those s up out h = by (stream_of x == s.0) refl (is_booked x) refl (list_any (same_entry x) those) refl out h (still_booked xs those s up)
   where
     by : (a : Bool) → (stream_of x == s.0) ≡ a → (b : Bool) → is_booked x ≡ b → (c : Bool) → list_any (same_entry x) those ≡ c
-        → is_among s (map (λ (y : Entry). y.want.stream) (if is_booked x && not (list_any (same_entry x) those) then x ∷ filter (λ y. is_booked y && not (list_any (same_entry y) those)) xs else filter (λ y. is_booked y && not (list_any (same_entry y) those)) xs)) ≡ false
+        → is_among s (map (λ (y : Entry). y.want.stream)
+        (if is_booked x && not (list_any (same_entry x) those) then x ∷ filter (λ y. is_booked y && not (list_any (same_entry y) those)) xs else filter
+        (λ y. is_booked y && not (list_any (same_entry y) those)) xs)) ≡ false
         → is_some (since_of (x ∷ xs) s) ≡ true
         → (is_among s (booked_only_in xs those) ≡ false → is_some (since_of xs s) ≡ true → is_some (since_of those s) ≡ true) → is_some (since_of those s) ≡ true
     by true e true f true g out h rest =

@@ -82,7 +82,8 @@ booked_hasnt : (s : StreamId) (xs : List Entry) → has_stream s xs ≡ false �
 booked_hasnt s [] h = refl
 booked_hasnt s (x ∷ xs) h =
     elim (is_booked x) as (λ v. has_stream s (cond v (x ∷ booked_of xs) (booked_of xs)) ≡ false) [
-      | true ↦ or_from (stream_of x == s.0) (has_stream s (booked_of xs)) (or_parts (stream_of x == s.0) (has_stream s xs) h).0 (booked_hasnt s xs (or_parts (stream_of x == s.0) (has_stream s xs) h).1)
+      | true ↦ or_from (stream_of x == s.0) (has_stream s (booked_of xs)) (or_parts (stream_of x == s.0) (has_stream s xs) h).0
+          (booked_hasnt s xs (or_parts (stream_of x == s.0) (has_stream s xs) h).1)
       | false ↦ booked_hasnt s xs (or_parts (stream_of x == s.0) (has_stream s xs) h).1
     ]
 

@@ -14,7 +14,8 @@ module _ (entries : List Entry) (i : ℕ) (d : Entry) (below : i < length entrie
   booked-front : (x : Entry) (b : Bool) → is_booked x ≡ b → booked_of (x ∷ rest) ≡ (if b then x ∷ booked_of rest else booked_of rest)
   booked-front x b e = rw (← e) refl
 
-  pub booked-more : (whole done new : List Entry) → whole ≡ done ++ booked_of (drop i entries) → is_booked (get_or entries i d) ≡ true → new ≡ done ++ get_or entries i d ∷ [] → whole ≡ new ++ booked_of (drop (i + 1) entries)
+  pub booked-more : (whole done new : List Entry) → whole ≡ done ++ booked_of (drop i entries) → is_booked (get_or entries i d) ≡ true
+      → new ≡ done ++ get_or entries i d ∷ [] → whole ≡ new ++ booked_of (drop (i + 1) entries)
   booked-more whole done new so_far booked pushed =
       so_far
       ∙ ap (λ l. done ++ l) (at_drop_more booked_of entries i d below ∙ booked-front (get_or entries i d) true booked)
@@ -31,7 +32,8 @@ module _ (entries : List Entry) (i : ℕ) (d : Entry) (below : i < length entrie
   all-front x true e = rw e refl
   all-front x false e = rw e refl
 
-  pub all-more : (whole done new : List StreamId) → whole ≡ done ++ booked_only_in (drop i entries) [] → new ≡ done ++ booked_stream (get_or entries i d) → whole ≡ new ++ booked_only_in (drop (i + 1) entries) []
+  pub all-more : (whole done new : List StreamId) → whole ≡ done ++ booked_only_in (drop i entries) [] → new ≡ done ++ booked_stream (get_or entries i d)
+      → whole ≡ new ++ booked_only_in (drop (i + 1) entries) []
   all-more whole done new so_far more =
       so_far
       ∙ ap (λ l. done ++ l) (at_drop_more (λ l. booked_only_in l []) entries i d below ∙ all-front (get_or entries i d) (is_booked (get_or entries i d)) refl)
@@ -44,7 +46,8 @@ module _ (entries : List Entry) (i : ℕ) (d : Entry) (below : i < length entrie
   below-end : (x : Entry) (stream : StreamId) → stream.0 ≤ stream_of x → booked_streams_below (x ∷ rest) stream ≡ []
   below-end x stream past = rw (le-ltb (stream_of x) stream.0 past) refl
 
-  pub below-more : (stream : StreamId) (whole done new : List StreamId) → whole ≡ done ++ booked_streams_below (drop i entries) stream → stream_of (get_or entries i d) < stream.0 → new ≡ done ++ booked_stream (get_or entries i d) → whole ≡ new ++ booked_streams_below (drop (i + 1) entries) stream
+  pub below-more : (stream : StreamId) (whole done new : List StreamId) → whole ≡ done ++ booked_streams_below (drop i entries) stream
+      → stream_of (get_or entries i d) < stream.0 → new ≡ done ++ booked_stream (get_or entries i d) → whole ≡ new ++ booked_streams_below (drop (i + 1) entries) stream
   below-more stream whole done new so_far less more =
       so_far
       ∙ ap (λ l. done ++ l) (at_drop_more (λ l. booked_streams_below l stream) entries i d below ∙ below-front (get_or entries i d) stream less)

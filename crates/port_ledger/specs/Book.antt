@@ -99,11 +99,13 @@ abbrev pub is_since : ℕ → Option Cs → Bool
 is_since moment None = false
 is_since moment (Some since) = since.0 == moment
 
--- some booking is as old as the book's moment, so that with a later moment it is older than what isn't booked
+-- some booking is as old as the book's moment, so that with a later moment it is older than what
+-- isn't booked
 abbrev pub has_new_booking : Book → Bool
 has_new_booking book = list_any (λ x. is_since book.moment x.since) book.entries
 
--- the streams, ascending, whose booked entry with its want and its moment is in these and not in those
+-- the streams, ascending, whose booked entry with its want and its moment is in these and not in
+-- those
 abbrev pub booked_only_in : List Entry → List Entry → List StreamId
 booked_only_in these those =
     map (λ x. x.want.stream) (filter (λ x. is_booked x && not (list_any (same_entry x) those)) these)
@@ -117,7 +119,8 @@ booked_slope entries class =
 abbrev pub since_if_same : Entry → Want → Option Cs
 since_if_same x want = if same_want x.want want then x.since else None
 
--- the entry as which a want is tested: with the moment of the stream's entry where that has this same want
+-- the entry as which a want is tested: with the moment of the stream's entry where that has this
+-- same want
 abbrev pub tested_entry : List Entry → Want → Entry
 tested_entry entries want =
     record { want = want; since = option_and_then (λ x. since_if_same x want) (entry_of entries want.stream) }
@@ -126,8 +129,8 @@ tested_entry entries want =
 abbrev pub is_normal : Entry → Bool
 is_normal x = rank_number x.want.rank == 1
 
--- the failure code of what doesn't fit: 6 where the want is of rank 1 and would fit if the bookings of
--- rank 0 weren't there, else 1; so a want of rank 0 has 1 (IEEE Std 802.1Q-2018, 35.2.2.8.7)
+-- the failure code of what doesn't fit: 6 where the want is of rank 1 and would fit if the bookings
+-- of rank 0 weren't there, else 1; so a want of rank 0 has 1 (IEEE Std 802.1Q-2018, 35.2.2.8.7)
 abbrev pub code_of : ℕ → Caps → List Entry → Entry → ℕ
 code_of now caps set x = if is_normal x && does_fit now caps (filter is_normal set) x then 6 else 1
 

@@ -1,5 +1,5 @@
--- Which entries of an egress port are booked, as a condition on a set. The caps are those of IEEE Std
--- 802.1Q-2018, 34.3; in which order streams get what there is, is this project's own rule.
+-- Which entries of an egress port are booked, as a condition on a set. The caps are those of IEEE
+-- Std 802.1Q-2018, 34.3; in which order streams get what there is, is this project's own rule.
 use Rattle.std.specs.Prelude.{ℕ, zero, suc, ◌+◌, ◌<◌, ◌≡◌, ◌≢◌, Bool, true, false, not, ◌&&◌, ◌==◌, nat_le, List, [], ◌∷◌, map, filter, length, sum_by, is_some, Option, Some, None, if◌then◌else◌}
 use Rattle.std.specs.List.{AllByRecursion}
 use Rattle.srp_base.specs.declared.numbers.Cs.{Cs}
@@ -74,17 +74,18 @@ pub record Decides (now : ℕ) (caps : Caps) (before after : List Entry) : Type 
   pub decision : IsDecision now caps before (marks_of after)
   pub moments : after ≡ with_moments now before (marks_of after)
 
--- the set that rounds of judging come to: the first round finds the empty set, and each later one the entries
--- that fit in the set before it
+-- the set that rounds of judging come to: the first round finds the empty set, and each later one
+-- the entries that fit in the set before it
 unfoldable pub set_after : (rounds now : ℕ) → Caps → List Entry → List Entry
 set_after zero now caps entries = []
 set_after (suc rounds) now caps entries = filter (does_fit now caps (set_after rounds now caps entries)) entries
 
--- the decided set: each round judges one more entry for good, the most important first, so that as many rounds
--- as there are entries suffice
+-- the decided set: each round judges one more entry for good, the most important first, so that as
+-- many rounds as there are entries suffice
 abbrev pub decided_set : ℕ → Caps → List Entry → List Entry
 decided_set now caps entries = set_after (length entries) now caps entries
 
--- the entries after a decision: those of the decided set keep their moment or get this one, others have none
+-- the entries after a decision: those of the decided set keep their moment or get this one, others
+-- have none
 unfoldable pub decided_entries : ℕ → Caps → List Entry → List Entry
 decided_entries now caps entries = with_moments now entries (map (does_fit now caps (decided_set now caps entries)) entries)

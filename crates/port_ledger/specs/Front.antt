@@ -1,5 +1,6 @@
--- How the code knows from which place of the order of importance on a call decides anew: the entries before that
--- place, the front, stay as they are, and what they take is known. No public contract names it.
+-- How the code knows from which place of the order of importance on a call decides anew: the
+-- entries before that place, the front, stay as they are, and what they take is known. No public
+-- contract names it.
 use Rattle.std.specs.Prelude.{ℕ, suc, ◌+◌, ◌≡◌, ◌≤◌, ◌<◌, ◌^◌, ◌++◌, Bool, true, false, not, ◌&&◌, ◌||◌, ◌==◌, nat_le, List, [], ◌∷◌, Option, Some, None, IsPermutation, length, take, drop, if◌then◌else◌}
 use Rattle.std.specs.List.{AllByRecursion}
 use Rattle.stream_importance.specs.declared.{entry.Entry.Entry, slope.Caps.Caps}
@@ -22,8 +23,8 @@ Runs caps sum b (x ∷ xs) =
 abbrev pub same_level : Entry → Entry → Bool
 same_level x y = (class_number x.want.class == class_number y.want.class) && (rank_number x.want.rank == rank_number y.want.rank)
 
--- y comes after x at a moment, and so at every later one: an entry that isn't booked counts with the moment, so that
--- one of its level that is booked comes before it in the end
+-- y comes after x at a moment, and so at every later one: an entry that isn't booked counts with
+-- the moment, so that one of its level that is booked comes before it in the end
 abbrev pub stays_after : ℕ → Entry → Entry → Bool
 stays_after now y x = comes_after now y x && (is_booked x || not (is_booked y && same_level x y))
 
@@ -45,8 +46,8 @@ pub record IsAhead (now : ℕ) (front rest : List Entry) : Type 0 where
   pub lasting : AreLasting now front
   pub behind : AllByRecursion (IsBehind now front) rest
 
--- the first entries, as many as a number says, stand before all behind them and in their order, at this moment and at
--- every later one, however what is behind them is decided
+-- the first entries, as many as a number says, stand before all behind them and in their order, at
+-- this moment and at every later one, however what is behind them is decided
 pub record IsSettled (now n : ℕ) (order : List Entry) : Type 0 where
   pub within : n ≤ length order
   pub ahead : IsAhead now (take n order) (drop n order)
@@ -61,7 +62,8 @@ abbrev pub has_level : Entry → Option Entry → Bool
 has_level x None = false
 has_level x (Some y) = same_level x y
 
--- the number of entries before the first that isn't booked and has one behind it that is booked, of its level
+-- the number of entries before the first that isn't booked and has one behind it that is booked, of
+-- its level
 abbrev pub settled_front : List Entry → ℕ
 settled_front [] = 0
 settled_front (x ∷ xs) = if not (is_booked x) && has_level x (first_booked xs) then 0 else suc (settled_front xs)
@@ -123,7 +125,8 @@ pub record IsOrderedBook (now : ℕ) (caps : Caps) (standing : Standing) (entrie
   pub range : caps.both < 2 ^ 64
   pub ordered : IsOrdered now standing entries order
 
--- entries that may be decided from a place of their order on: the front before that place is as it stays
+-- entries that may be decided from a place of their order on: the front before that place is as it
+-- stays
 pub record IsFront (now : ℕ) (caps : Caps) (place : ℕ) (front : Totals) (entries order : List Entry) : Type 0 where
   pub ascending : IsAscending entries
   pub shares : caps.class_a ≤ caps.both

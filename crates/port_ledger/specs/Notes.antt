@@ -21,7 +21,8 @@ moves x let_in = gains x let_in || loses x let_in
 abbrev pub stream_where : Bool → Entry → List StreamId
 stream_where holds x = if holds then x.want.stream ∷ [] else []
 
--- the streams of those entries of which a test holds as a pass lets them in or not, beside a sum that is taken already
+-- the streams of those entries of which a test holds as a pass lets them in or not, beside a sum
+-- that is taken already
 abbrev pub streams_passed : (Entry → Bool → Bool) → Caps → ℕ → List Entry → List StreamId
 streams_passed test caps sum [] = []
 streams_passed test caps sum (x ∷ xs) =

@@ -1,7 +1,7 @@
--- How the code finds the decided set: it keeps the entries in the order of importance, puts those from the
--- first changed place on back into that order at each decision, and goes through them once with a running sum;
--- and how it compares two lists in one walk, and sums what precedes an entry. No public contract names it; what is promised is the condition
--- on a set in `Decision`.
+-- How the code finds the decided set: it keeps the entries in the order of importance, puts those
+-- from the first changed place on back into that order at each decision, and goes through them once
+-- with a running sum; and how it compares two lists in one walk, and sums what precedes an entry.
+-- No public contract names it; what is promised is the condition on a set in `Decision`.
 use Rattle.std.specs.Prelude.{◌≡◌, ℕ, ◌+◌, Bool, false, nat_le, nat_lt, List, [], ◌∷◌, ◌++◌, map, Option, Some, None, if◌then◌else◌, ◌==◌}
 use Rattle.std.specs.List.{AllByRecursion}
 use Rattle.srp_base.specs.declared.{numbers.Cs.Cs, numbers.StreamId.StreamId}

@@ -1,4 +1,5 @@
--- What a walk over the entries of a ledger finds, which the ledger keeps. No public contract names it.
+-- What a walk over the entries of a ledger finds, which the ledger keeps. No public contract names
+-- it.
 use Rattle.std.specs.Prelude.{ℕ, ◌+◌, Bool, ◌&&◌, ◌==◌, List, sum_by, if◌then◌else◌}
 use Rattle.srp_base.specs.declared.{bandwidth.Class.Class, bandwidth.Class.TheVariants.A, bandwidth.Class.TheVariants.B}
 use Rattle.stream_importance.specs.declared.entry.Entry.{Entry}

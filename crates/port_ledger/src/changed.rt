@@ -16,8 +16,8 @@ use stream_importance::Entry;
 pub struct Changed {
     /// The streams whose booking, with its want and its moment, is new.
     pub booked: Seq<StreamId>,
-    /// The streams whose earlier booking is gone. A stream that is booked anew with another want stands
-    /// in both.
+    /// The streams whose earlier booking is gone. A stream that is booked anew with another want
+    /// stands in both.
     pub dropped: Seq<StreamId>,
 }
 
@@ -132,7 +132,8 @@ fn same_entry(x: &Entry, y: &Entry) -> bool
     *x == *y
 }
 
-/// Puts the streams whose booked entry is in these and not in those at the end, in room that is at hand.
+/// Puts the streams whose booked entry is in these and not in those at the end, in room that is at
+/// hand.
 pub(crate) fn push_only_in(moved: &mut Vec<StreamId>, these: &[Entry], those: &[Entry])
     requires those { IsAscending those.now }
     requires room { length these.now + vec_len moved.old ≤ vec_capacity moved.old }

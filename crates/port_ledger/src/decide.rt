@@ -1,5 +1,5 @@
-//! Which entries are booked at a moment: one pass with a running sum over the entries in the order of
-//! importance, from the first place that a call changes, and the moments set accordingly.
+//! Which entries are booked at a moment: one pass with a running sum over the entries in the order
+//! of importance, from the first place that a call changes, and the moments set accordingly.
 
 ghost use Rattle.std.specs.Prelude.{◌≡◌, ◌≢◌, ◌↔◌, ◌+◌, ◌-◌, ◌≤◌, ◌<◌, ◌^◌, ◌++◌, ◌||◌, None, IsSome, IsTrue, true, false, length, take, drop, vec_capacity, vec_len, IfOk, OnErr, OnOk};
 ghost use Rattle.std.specs.List.{AllByRecursion};
@@ -56,8 +56,8 @@ pub(crate) fn wanted(
     Ok((next, notes.changed()))
 }
 
-/// Takes in a want that isn't kept yet as `wanted` does, in room that is at hand, which a stream with an entry doesn't
-/// need. It takes no memory, and answers whether the booked set changed.
+/// Takes in a want that isn't kept yet as `wanted` does, in room that is at hand, which a stream
+/// with an entry doesn't need. It takes no memory, and answers whether the booked set changed.
 pub(crate) fn wanted_in_room(
     now: Cs,
     caps: &Caps,
@@ -127,8 +127,8 @@ fn cut_for(
     )
 }
 
-/// Puts a want in behind a front, where room is at hand or its stream has an entry, and decides. The notes have what
-/// changes in the booked set.
+/// Puts a want in behind a front, where room is at hand or its stream has an entry, and decides.
+/// The notes have what changes in the booked set.
 fn entered(
     now: Cs,
     caps: &Caps,
@@ -206,8 +206,9 @@ pub(crate) fn unwanted(
     decide(now, caps, &front, order, entries, &mut notes)
 }
 
-/// Decides the entries at a moment, from a place of their order on: those that are booked keep their moment or get
-/// this one, the others have none. The order is left in the order of importance that this leads to.
+/// Decides the entries at a moment, from a place of their order on: those that are booked keep
+/// their moment or get this one, the others have none. The order is left in the order of importance
+/// that this leads to.
 fn decide(
     now: Cs,
     caps: &Caps,
@@ -358,8 +359,8 @@ fn decide_behind(
     rank_where(now, lost, behind);
 }
 
-/// Puts the entries into the order of importance again where a booking was lost. Else none has moved: what is booked
-/// anew has the moment that it counted with before.
+/// Puts the entries into the order of importance again where a booking was lost. Else none has
+/// moved: what is booked anew has the moment that it counted with before.
 fn rank_where(now: Cs, lost: bool, entries: &mut [Entry])
     requires { lost ≡ false → entries.old ≡ importance_order now.0 entries.old }
     ensures { entries.new ≡ importance_order now.0 entries.old }
@@ -369,8 +370,8 @@ fn rank_where(now: Cs, lost: bool, entries: &mut [Entry])
     }
 }
 
-/// Lets in what there is room for beside what is taken, in bit/s, in the order given, and sets the moments. The answer
-/// is whether a booking is lost.
+/// Lets in what there is room for beside what is taken, in bit/s, in the order given, and sets the
+/// moments. The answer is whether a booking is lost.
 fn pass(
     now: Cs,
     caps: &Caps,

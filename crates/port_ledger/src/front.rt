@@ -1,5 +1,6 @@
-//! From which place of the order of importance on a call decides anew. The entries before it, the front, stay as they
-//! are, booked or not: none of them is touched, and what they take together is known from the totals.
+//! From which place of the order of importance on a call decides anew. The entries before it, the
+//! front, stay as they are, booked or not: none of them is touched, and what they take together is
+//! known from the totals.
 
 ghost use Rattle.std.specs.Prelude.{◌≡◌, ◌≤◌, ◌<◌, ◌+◌, ◌^◌, ◌&&◌, not, true, false, length, take, drop, Some, if◌then◌else◌};
 ghost use Rattle.std.specs.List.{AllByRecursion};
@@ -25,7 +26,8 @@ pub(crate) struct Standing {
 impl Standing {
     /// What is kept where there is no entry.
     pub(crate) fn empty() -> Standing
-        ensures { result ≡ record { settled = 0; totals = record { class_a = 0; class_b = 0; new_count = 0 } } }
+        ensures { result
+            ≡ record { settled = 0; totals = record { class_a = 0; class_b = 0; new_count = 0 } } }
     {
         Standing {
             settled: 0,
@@ -51,7 +53,8 @@ pub(crate) struct Front {
     pub totals: Totals,
 }
 
-/// Cuts an order where one entry goes and another comes, as far behind as it is settled that they concern nobody before.
+/// Cuts an order where one entry goes and another comes, as far behind as it is settled that they
+/// concern nobody before.
 pub(crate) fn cut(
     now: Cs,
     standing: &Standing,
@@ -75,7 +78,8 @@ pub(crate) fn cut(
     }
 }
 
-/// How many of the entries, which stand in an order that lasts, are more important than two others and stay so.
+/// How many of the entries, which stand in an order that lasts, are more important than two others
+/// and stay so.
 fn prior_to_both(now: Cs, ranked: &[Entry], goes: Option<Entry>, comes: Option<Entry>) -> usize
     requires { AreLasting now.0 ranked.now }
     ensures bound { result ≤ length ranked.now }
@@ -133,8 +137,8 @@ pub(crate) struct Level {
     pub rank: Rank,
 }
 
-/// The number of entries before the first that isn't booked and has one behind it that is booked, of its level: that
-/// one comes before it as soon as the moment moves.
+/// The number of entries before the first that isn't booked and has one behind it that is booked,
+/// of its level: that one comes before it as soon as the moment moves.
 pub(crate) fn settled_front(entries: &[Entry]) -> usize
     ensures value { result ≡ settled_front entries.now }
     ensures bound { result ≤ length entries.now }

@@ -1,6 +1,6 @@
-//! What a decision comes to, and what every step of a ledger keeps: laws over lists of entries and over the
-//! models of ledgers, for those who speak of whole runs. Each is a function that does nothing; calling it
-//! brings the law to a proof.
+//! What a decision comes to, and what every step of a ledger keeps: laws over lists of entries and
+//! over the models of ledgers, for those who speak of whole runs. Each is a function that does
+//! nothing; calling it brings the law to a proof.
 
 ghost use Rattle.std.specs.List.{list_any};
 ghost use Rattle.std.specs.Prelude.{◌≡◌, is_some, ◌↔◌, ◌≤◌, ◌+◌, ◌==◌, ◌&&◌, ℕ, Bool, false, nat_lt, List, [], Some, None, IfSome, IsSome, if◌then◌else◌};
@@ -11,7 +11,8 @@ ghost use Rattle.port_ledger.specs.Decision.{AreOfDifferentStreams, booked_of, d
 
 use stream_importance::importance_is_an_order;
 
-/// Of entries of different streams there is exactly one decided set, at every moment and under any caps.
+/// Of entries of different streams there is exactly one decided set, at every moment and under any
+/// caps.
 pub fn one_decision()
     ensures exists { (now : ℕ) (caps : Caps) (entries : List Entry) → AreOfDifferentStreams entries
         → (marks : List Bool) × IsDecision now caps entries marks }
@@ -22,8 +23,8 @@ pub fn one_decision()
     importance_is_an_order();
 }
 
-/// What a deciding call leaves is a function of the entries: `decided_entries` is one outcome of deciding, and
-/// the only one.
+/// What a deciding call leaves is a function of the entries: `decided_entries` is one outcome of
+/// deciding, and the only one.
 pub fn one_outcome()
     ensures decides { (now : ℕ) (caps : Caps) (entries : List Entry) → AreOfDifferentStreams entries
         → Decides now caps entries (decided_entries now caps entries) }
@@ -59,9 +60,9 @@ pub fn bookings_are_within_caps()
     importance_is_an_order();
 }
 
-/// The booked set of every ledger is the decided set of its entries at its moment and at every later one: time
-/// that passes changes no booking. Of every stream, its entry is booked exactly where it fits among the booked
-/// ones, and a want that is kept fits exactly where it is booked.
+/// The booked set of every ledger is the decided set of its entries at its moment and at every
+/// later one: time that passes changes no booking. Of every stream, its entry is booked exactly
+/// where it fits among the booked ones, and a want that is kept fits exactly where it is booked.
 pub fn decisions_stand()
     ensures decided { (book : Book) (later : ℕ) → IsKept book → book.moment ≤ later
         → IsDecision later book.caps book.entries (marks_of book.entries) }
@@ -79,7 +80,8 @@ pub fn no_booking_is_ahead()
         → IfSome (since_of book.entries s) (λ since. since.0 ≤ book.moment) }
 {}
 
-/// What leaves every want's fit as it was: a clock that shows nothing, and a booked set that is the same.
+/// What leaves every want's fit as it was: a clock that shows nothing, and a booked set that is the
+/// same.
 pub fn fits_stay()
     ensures clocked { (book : Book) (now : ℕ) (want : Want) → IsKept book → book.moment ≤ now
         → (nat_lt book.moment now && has_new_booking book) ≡ false
@@ -100,8 +102,9 @@ pub fn other_wants_stay()
         ≡ (if s.0 == stream.0 then None else want_of book.entries s) }
 {}
 
-/// A want that is kept already, and a stream that has none, change nothing but the moment. A stream that isn't
-/// booked is taken out without a trace: the booked set changes exactly where it was booked.
+/// A want that is kept already, and a stream that has none, change nothing but the moment. A stream
+/// that isn't booked is taken out without a trace: the booked set changes exactly where it was
+/// booked.
 pub fn idle_steps_only_pass_time()
     ensures wanted { (book : Book) (now : ℕ) (want : Want) → IsKept book → book.moment ≤ now
         → want_of book.entries want.stream ≡ Some want
@@ -116,8 +119,8 @@ pub fn idle_steps_only_pass_time()
     importance_is_an_order();
 }
 
-/// Both lists of what changed are empty exactly where the booked set is the same, and they depend on the booked
-/// sets alone.
+/// Both lists of what changed are empty exactly where the booked set is the same, and they depend
+/// on the booked sets alone.
 pub fn nothing_changed_where_both_lists_are_empty()
     ensures empty { (before after : List Entry) → IsAscending before → IsAscending after
         → ((booked_only_in after before ≡ []) × (booked_only_in before after ≡ []))
@@ -126,8 +129,8 @@ pub fn nothing_changed_where_both_lists_are_empty()
         → booked_only_in (booked_of these) (booked_of those) ≡ booked_only_in these those }
 {}
 
-/// A stream whose booking isn't among what changed between two lists of entries is booked after exactly where it was
-/// booked before.
+/// A stream whose booking isn't among what changed between two lists of entries is booked after
+/// exactly where it was booked before.
 pub fn what_has_not_moved_is_booked_as_before()
     ensures { (before after : List Entry) (s : StreamId) → IsAscending before → IsAscending after
         → list_any (λ x. x.0 == s.0) (booked_only_in after before) ≡ false

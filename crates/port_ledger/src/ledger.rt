@@ -19,9 +19,9 @@ use std::alloc::Global;
 use std::marker::Model;
 use stream_importance::{Caps, Entry, Fit, Want, importance_is_an_order};
 
-/// The streams that want one egress port, and which of them are booked. Contracts see the book, which is
-/// the caps, the moment, and the entries, ascending by StreamID; and for how many more streams there is
-/// room.
+/// The streams that want one egress port, and which of them are booked. Contracts see the book,
+/// which is the caps, the moment, and the entries, ascending by StreamID; and for how many more
+/// streams there is room.
 #[derive(Drop)]
 pub struct Ledger {
     caps: Caps,
@@ -53,8 +53,8 @@ impl Model for Ledger {
 
 impl Ledger {
     /// The ledger of a port of this rate, of which class A may take `delta_a` percent, and class B
-    /// `delta_b` percent and what class A leaves (IEEE Std 802.1Q-2018, 34.3). It takes no memory, and
-    /// its moment is 0.
+    /// `delta_b` percent and what class A leaves (IEEE Std 802.1Q-2018, 34.3). It takes no memory,
+    /// and its moment is 0.
     pub fn new(alloc: Global, rate: Rate, delta_a: Percent, delta_b: Percent) -> Ledger
         requires { delta_a + delta_b ≤ 90 }
         ensures { result.book
@@ -69,9 +69,10 @@ impl Ledger {
         }
     }
 
-    /// Takes a want at a moment in cs, which isn't before the ledger's, and decides anew. The same want
-    /// again keeps its booking; one with another class, rank or slope loses it first. What changed in the
-    /// booked set is answered. After want of memory, the one error, the book is as it was.
+    /// Takes a want at a moment in cs, which isn't before the ledger's, and decides anew. The same
+    /// want again keeps its booking; one with another class, rank or slope loses it first. What
+    /// changed in the booked set is answered. After want of memory, the one error, the book is as
+    /// it was.
     pub fn want(&mut self, now: Cs, want: Want) -> Result<Changed, NoMemory>
         requires { self.old.book.moment ≤ now.0 }
 
@@ -119,8 +120,8 @@ impl Ledger {
         Ok(changed)
     }
 
-    /// Makes room for so many streams beside those that have an entry. After want of memory, the one error, there is no
-    /// less room than before. The book is as it was, whatever is answered.
+    /// Makes room for so many streams beside those that have an entry. After want of memory, the
+    /// one error, there is no less room than before. The book is as it was, whatever is answered.
     pub fn room(&mut self, wants: usize) -> Result<(), NoMemory>
         ensures book { self.new.book ≡ self.old.book }
         ensures spare { OnOk result (wants ≤ self.new.spare) }
@@ -131,8 +132,8 @@ impl Ledger {
         Ok(())
     }
 
-    /// Takes a want as `want` does, in room that is at hand, which a stream with an entry doesn't need. It takes no
-    /// memory. The answer is whether the booked set changed.
+    /// Takes a want as `want` does, in room that is at hand, which a stream with an entry doesn't
+    /// need. It takes no memory. The answer is whether the booked set changed.
     pub fn enter(&mut self, now: Cs, want: Want) -> bool
         requires moment { self.old.book.moment ≤ now.0 }
         requires spare { entry_of self.old.book.entries want.stream ≡ None → 1 ≤ self.old.spare }
@@ -179,9 +180,9 @@ impl Ledger {
         changed
     }
 
-    /// Takes the stream's want out at a moment in cs, which isn't before the ledger's, and decides anew; a stream
-    /// that isn't kept changes nothing but the moment. It takes no memory. The answer is whether the booked set
-    /// changed, which it does exactly where the stream was booked.
+    /// Takes the stream's want out at a moment in cs, which isn't before the ledger's, and decides
+    /// anew; a stream that isn't kept changes nothing but the moment. It takes no memory. The
+    /// answer is whether the booked set changed, which it does exactly where the stream was booked.
     pub fn unwant(&mut self, now: Cs, stream: StreamId) -> bool
         requires { self.old.book.moment ≤ now.0 }
         ensures book { self.new.book ≡ unwanted_book now.0 stream self.old.book }
@@ -217,9 +218,10 @@ impl Ledger {
         was_booked
     }
 
-    /// Sets the ledger's moment, in cs, to one that isn't before it. It takes no memory and changes no booking.
-    /// The answer is whether a want that isn't booked may fit otherwise than before: exactly where time moved,
-    /// and some booking was of the moment before, which is older now than what isn't booked.
+    /// Sets the ledger's moment, in cs, to one that isn't before it. It takes no memory and changes
+    /// no booking. The answer is whether a want that isn't booked may fit otherwise than before:
+    /// exactly where time moved, and some booking was of the moment before, which is older now than
+    /// what isn't booked.
     pub fn clock(&mut self, now: Cs) -> bool
         requires { self.old.book.moment ≤ now.0 }
         ensures book { self.new.book ≡ clocked_book now.0 self.old.book }
@@ -235,7 +237,8 @@ impl Ledger {
         shown
     }
 
-    /// What `clock` would answer at this moment, in cs: whether a want that isn't booked may fit otherwise then.
+    /// What `clock` would answer at this moment, in cs: whether a want that isn't booked may fit
+    /// otherwise then.
     pub fn shows_at(&self, now: Cs) -> bool
         ensures { result ≡ (nat_lt self.now.book.moment now.0 && has_new_booking self.now.book) }
     {
@@ -263,12 +266,12 @@ impl Ledger {
         find_entry(&self.entries, stream).is_some()
     }
 
-    /// Whether a want fits beside what is booked, at a moment in cs that isn't before the ledger's. It is
-    /// tested with the moment of the stream's entry where that has this same want, else with none; what
-    /// the stream has booked doesn't count against it. `TooLittle` comes exactly where the slopes of the
-    /// more important booked streams, with the want's own, pass the cap of its class. It carries their sum
-    /// without the own slope and that cap, both in bit/s, and the failure code 1 or 6 of a Talker Failed
-    /// (IEEE Std 802.1Q-2018, 35.2.2.8.7).
+    /// Whether a want fits beside what is booked, at a moment in cs that isn't before the ledger's.
+    /// It is tested with the moment of the stream's entry where that has this same want, else with
+    /// none; what the stream has booked doesn't count against it. `TooLittle` comes exactly where
+    /// the slopes of the more important booked streams, with the want's own, pass the cap of its
+    /// class. It carries their sum without the own slope and that cap, both in bit/s, and the
+    /// failure code 1 or 6 of a Talker Failed (IEEE Std 802.1Q-2018, 35.2.2.8.7).
     pub fn fits(&self, now: Cs, want: &Want) -> Fit
         requires { self.now.book.moment ≤ now.0 }
         ensures value { result ≡ fit_for now.0 self.now.book want.now }
@@ -293,8 +296,9 @@ impl Ledger {
         bookings(*self.entries.allocator(), &self.entries)
     }
 
-    /// What changed in the booked set since it was that of these entries, which ascend by StreamID: a ledger's
-    /// `bookings` of an earlier moment, say. Both lists are empty exactly where it is the same.
+    /// What changed in the booked set since it was that of these entries, which ascend by StreamID:
+    /// a ledger's `bookings` of an earlier moment, say. Both lists are empty exactly where it is
+    /// the same.
     pub fn changes_since(&self, before: &[Entry]) -> Result<Changed, NoMemory>
         requires { IsAscending before.now }
         ensures booked { IfOk result (λ c. c.booked
@@ -309,9 +313,10 @@ impl Ledger {
         changes(*self.entries.allocator(), before, &self.entries)
     }
 
-    /// Puts what changed in the booked set since it was that of these entries, which ascend by StreamID, at the end of a
-    /// list with room for as many as both have: first the streams whose booking is new, ascending, and then those whose
-    /// booking is gone, ascending. A stream that is booked anew with another want comes twice. It takes no memory.
+    /// Puts what changed in the booked set since it was that of these entries, which ascend by
+    /// StreamID, at the end of a list with room for as many as both have: first the streams whose
+    /// booking is new, ascending, and then those whose booking is gone, ascending. A stream that is
+    /// booked anew with another want comes twice. It takes no memory.
     pub fn push_moved(&self, before: &[Entry], moved: &mut Vec<StreamId>)
         requires before { IsAscending before.now }
         requires room { length self.now.book.entries + length before.now + vec_len moved.old
@@ -349,8 +354,8 @@ impl Ledger {
         self.entries.len()
     }
 
-    /// The entry at this place, counted from 0 and ascending by StreamID; None exactly where the index isn't
-    /// below `len`.
+    /// The entry at this place, counted from 0 and ascending by StreamID; None exactly where the
+    /// index isn't below `len`.
     pub fn entry_at(&self, index: usize) -> Option<Entry>
         ensures { result ≡ slice_get self.now.book.entries index }
     {
@@ -371,8 +376,8 @@ impl Ledger {
         let _ = &self.entries;
     }
 
-    /// The booked set of every ledger is the decided set of its entries, at its moment and at every later
-    /// one, so that time passing changes no booking.
+    /// The booked set of every ledger is the decided set of its entries, at its moment and at every
+    /// later one, so that time passing changes no booking.
     pub fn stands(&self)
         ensures ascending { IsAscending self.now.book.entries }
         ensures decided { (later : ℕ) → self.now.book.moment ≤ later
@@ -392,8 +397,8 @@ impl Ledger {
         let _ = &self.entries;
     }
 
-    /// The booked slopes of every ledger stay within its caps, of which that of class A is at most that of
-    /// both classes, and both have 64 bits.
+    /// The booked slopes of every ledger stay within its caps, of which that of class A is at most
+    /// that of both classes, and both have 64 bits.
     pub fn within_caps(&self)
         ensures class_a { booked_slope self.now.book.entries A ≤ self.now.book.caps.class_a }
         ensures both { booked_slope self.now.book.entries A + booked_slope self.now.book.entries B

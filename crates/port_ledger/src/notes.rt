@@ -9,8 +9,9 @@ use srp_base::{NoMemory, Seq, StreamId};
 use std::alloc::Global;
 use stream_importance::Entry;
 
-/// The streams whose booking is new and those whose booking is gone, in the order in which a decision came to them,
-/// as far as there is room for them; and whether there was any, with room for it or not.
+/// The streams whose booking is new and those whose booking is gone, in the order in which a
+/// decision came to them, as far as there is room for them; and whether there was any, with room
+/// for it or not.
 #[derive(Drop)]
 pub(crate) struct Notes {
     pub booked: Vec<StreamId>,

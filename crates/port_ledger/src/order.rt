@@ -10,8 +10,8 @@ use crate::front::behind;
 use srp_base::{Cs, StreamId};
 use stream_importance::{Entry, Want};
 
-/// The want comes behind a front in place of what its stream wanted. It goes last, where room is at hand or its stream
-/// has an entry behind the front.
+/// The want comes behind a front in place of what its stream wanted. It goes last, where room is at
+/// hand or its stream has an entry behind the front.
 pub(crate) fn exchange(order: &mut Vec<Entry>, at: usize, want: Want)
     requires place { at ≤ length order.old.items }
     requires different { AreOfDifferentStreams (drop at order.old.items) }
@@ -51,8 +51,8 @@ fn position_of(entries: &[Entry], stream: StreamId) -> Option<usize>
     entries.iter().position(|x| x.want.stream == stream)
 }
 
-/// Puts the entries into the order of importance at a moment. It takes one look at each where they are in it
-/// already, as they mostly are.
+/// Puts the entries into the order of importance at a moment. It takes one look at each where they
+/// are in it already, as they mostly are.
 pub(crate) fn rank(now: Cs, entries: &mut [Entry])
     ensures { entries.new ≡ importance_order now.0 entries.old }
 {

@@ -1,4 +1,5 @@
-//! What a ledger keeps beside its entries, so that neither the clock nor who asks for a slope goes over them.
+//! What a ledger keeps beside its entries, so that neither the clock nor who asks for a slope goes
+//! over them.
 
 ghost use Rattle.std.specs.Prelude.{◌≡◌, ◌+◌, ◌<◌, ◌≤◌, ◌^◌, length};
 ghost use Rattle.srp_base.specs.declared.bandwidth.Class.TheVariants.{A, B};
@@ -8,7 +9,8 @@ ghost use Rattle.port_ledger.specs.Totals.{later_totals, new_within, slope_of, s
 use srp_base::{Class, Cs};
 use stream_importance::Entry;
 
-/// The booked slopes of each class together, in bit/s, and how many bookings are of the ledger's moment.
+/// The booked slopes of each class together, in bit/s, and how many bookings are of the ledger's
+/// moment.
 #[derive(Clone, Copy)]
 pub(crate) struct Totals {
     pub class_a: u64,

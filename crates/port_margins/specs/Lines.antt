@@ -42,7 +42,8 @@ abbrev pub refused_line : List ℕ → Want → ℕ → ℕ → ℕ → Bool →
 refused_line port want more cap code heard =
     refused_start port want ++ refused_end want.slope more cap code heard
 
--- the slopes of a class's shaper, in the words of tc-cbs(8), up to its credits: ` idleslope I sendslope -S hicredit `
+-- the slopes of a class's shaper, in the words of tc-cbs(8), up to its credits:
+-- ` idleslope I sendslope -S hicredit `
 abbrev pub cbs_slopes : Cbs → List ℕ
 cbs_slopes cbs = whole_of (
     codes " idleslope " ∷ decimal cbs.idle_slope ∷ codes " sendslope -" ∷ decimal cbs.send_slope ∷ codes " hicredit " ∷ [])

@@ -1,4 +1,5 @@
--- What each port of a network has booked and has left, which streams it refuses, and the shapers of its classes.
+-- What each port of a network has booked and has left, which streams it refuses, and the shapers of
+-- its classes.
 use Rattle.std.specs.Prelude.{ℕ, ◌+◌, ◌==◌, Bool, if◌then◌else◌, List, [], ◌++◌, codes, flat_map, Option, Some, option_and_then, is_some}
 use Rattle.std.specs.Option.{option_map_or}
 use Rattle.srp_base.specs.declared.{bandwidth.Class.TheVariants.A, bandwidth.Class.TheVariants.B, bandwidth.Rate.Rate, numbers.EgressPort.EgressPort, numbers.StreamId.StreamId}
@@ -53,7 +54,8 @@ refused_lines port at s streams = flat_map (stream_line port at s) streams
 abbrev pub shaper_line : List ℕ → List ℕ → Rate → ℕ → ℕ → List ℕ
 shaper_line port class rate wait slope = if slope == 0 then [] else cbs_line port class (cbs_of rate wait slope)
 
--- class A waits for one frame of other traffic at most, and class B for that and for what class A has credit for
+-- class A waits for one frame of other traffic at most, and class B for that and for what class A
+-- has credit for
 abbrev pub shaper_lines : List ℕ → Rate → Caps → ℕ → ℕ → List ℕ
 shaper_lines port rate caps class_a class_b =
     shaper_line port (codes "A") rate 12336 class_a
@@ -61,7 +63,8 @@ shaper_lines port rate caps class_a class_b =
 
 -- ---- the ports
 
--- the lines of a port of this rate and these caps, by what its classes have booked, with those of what it refuses
+-- the lines of a port of this rate and these caps, by what its classes have booked, with those of
+-- what it refuses
 abbrev pub lines_by : List ℕ → Rate → Caps → ℕ → ℕ → List ℕ → List ℕ
 lines_by port rate caps class_a class_b refused =
     margin_lines port caps class_a class_b ++ (refused ++ shaper_lines port rate caps class_a class_b)

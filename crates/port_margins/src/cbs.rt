@@ -6,8 +6,8 @@ ghost use Rattle.port_margins.specs.Cbs.{kbit_of as kbit_of_spec, idle_slope as 
 
 use srp_base::Rate;
 
-/// The credit-based shaper of a class at a port (IEEE Std 802.1Q-2018, 8.6.8.2). tc-cbs(8) takes sendSlope and loCredit with a
-/// minus; here they are their amounts.
+/// The credit-based shaper of a class at a port (IEEE Std 802.1Q-2018, 8.6.8.2). tc-cbs(8) takes
+/// sendSlope and loCredit with a minus; here they are their amounts.
 #[derive(Clone, Copy, PartialEq, Eq)]
 pub struct Cbs {
     /// idleSlope in kbit/s.
@@ -30,7 +30,8 @@ fn kbit_of(rate: Rate) -> u64
     rate.bits() / 1_000
 }
 
-// What a credit comes to, in octets, that grows by a slope in kbit/s for so many bit times of a port.
+// What a credit comes to, in octets, that grows by a slope in kbit/s for so many bit times of a
+// port.
 fn credit_of(rate: Rate, slope: u64, bits: u64) -> u128
     ensures { result ≡ credit_of_spec rate slope bits }
 {
@@ -42,7 +43,8 @@ fn credit_of(rate: Rate, slope: u64, bits: u64) -> u128
     (u128::from(slope) * u128::from(bits)).div_ceil(octet_times)
 }
 
-/// The shaper of a class that has booked so many bit/s and waits for the line so many bit times at most.
+/// The shaper of a class that has booked so many bit/s and waits for the line so many bit times at
+/// most.
 pub(crate) fn cbs_of(rate: Rate, wait: u64, slope: u64) -> Cbs
     ensures { result ≡ cbs_of_spec rate wait slope }
 {

@@ -29,7 +29,8 @@ fn put_margin_end(out: &mut Vec<u8>, booked: u64, cap: u64) -> Result<(), AllocE
     put(out, &numbers)
 }
 
-/// The line of what some classes have booked at a port, with their cap and what is left of it, in bit/s.
+/// The line of what some classes have booked at a port, with their cap and what is left of it, in
+/// bit/s.
 pub(crate) fn put_margin(
     out: &mut Vec<u8>,
     port: &[u8],
@@ -58,7 +59,8 @@ fn put_refused_start(out: &mut Vec<u8>, port: &[u8], want: &Want) -> Result<(), 
     put(out, &asked)
 }
 
-/// What a port has for a stream that doesn't fit there: the more important bookings and the cap, in bit/s, and the failure code.
+/// What a port has for a stream that doesn't fit there: the more important bookings and the cap, in
+/// bit/s, and the failure code.
 #[derive(Clone, Copy)]
 pub(crate) struct Lack {
     pub more_important: u128,

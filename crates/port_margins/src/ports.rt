@@ -23,12 +23,14 @@ use stream_importance::Caps;
 use topology_file::{LinkEntry, Scenario};
 use world_core::World;
 
-/// What the ports of a scenario's network have left, link by link, end `a` first: what class A and both classes have booked, their
-/// caps and what is left, in bit/s; each stream of the file that doesn't fit there, with the slope that it asks, what more
-/// important bookings take, the cap and by how much it misses, in bit/s, the failure code (IEEE Std 802.1Q-2018, 35.2.2.8.7), and
-/// whether Listeners of it are registered there; and of each class that has booked something its credit-based shaper (8.6.8.2),
-/// idleSlope and sendSlope in kbit/s, hiCredit and loCredit in octets. The network is on the scenario's tree, and no port has
-/// booked past its caps, as at every moment of a run.
+/// What the ports of a scenario's network have left, link by link, end `a` first: what class A and
+/// both classes have booked, their caps and what is left, in bit/s; each stream of the file that
+/// doesn't fit there, with the slope that it asks, what more important bookings take, the cap and
+/// by how much it misses, in bit/s, the failure code (IEEE Std 802.1Q-2018, 35.2.2.8.7), and
+/// whether Listeners of it are registered there; and of each class that has booked something its
+/// credit-based shaper (8.6.8.2), idleSlope and sendSlope in kbit/s, hiCredit and loCredit in
+/// octets. The network is on the scenario's tree, and no port has booked past its caps, as at every
+/// moment of a run.
 pub fn margins_text(alloc: Global, scenario: &Scenario, world: &World) -> Result<Vec<u8>, NoMemory>
     requires tree { world.now.tree ≡ scenario.now.tree }
     requires limits { IsWithinLimits scenario.now world.now }

@@ -29,7 +29,8 @@ fn put_shaper(
     put_cbs(out, port, class, cbs_of(rate, wait, slope))
 }
 
-/// The lines of both classes at a port of this rate with these caps, by what they have booked, in bit/s.
+/// The lines of both classes at a port of this rate with these caps, by what they have booked, in
+/// bit/s.
 pub(crate) fn put_shapers(
     out: &mut Vec<u8>,
     port: &[u8],

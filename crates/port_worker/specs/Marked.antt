@@ -1,4 +1,5 @@
--- How the marks of a network follow the steps of its nodes, by what each step did to the PDUs on its port's link.
+-- How the marks of a network follow the steps of its nodes, by what each step did to the PDUs on
+-- its port's link.
 use Rattle.std.specs.Prelude.{◌<◌, ◌≤◌, ◌^◌, ℕ, List, [], ◌∷◌}
 use Rattle.srp_base.specs.declared.{numbers.NodeNo.NodeNo, numbers.EgressPort.EgressPort, mrp.App.App}
 use Rattle.tree_topology.specs.{Topology.HasPort, Ports.peer_of}
@@ -13,7 +14,8 @@ mark_by p Quiet m = m
 mark_by p (Took app leave_all) m = with_both app p (both_took leave_all) m
 mark_by p (Said app leave_all) m = with_both app p (both_sent leave_all) m
 
--- the marks can follow such a step: the port is the tree's, a PDU that is taken was on its way, and few are where one is said
+-- the marks can follow such a step: the port is the tree's, a PDU that is taken was on its way, and
+-- few are where one is said
 abbrev pub CanMark : EgressPort → Notice → MarksState → Type 0
 CanMark p Quiet m = HasPort m.tree p
 CanMark p (Took app leave_all) m = HasPort m.tree p × (1 ≤ (mark_at app (peer_of m.tree.links p) m).flying)

@@ -9,7 +9,8 @@ use Rattle.node_core.specs.State.{NodeState}
 use Rattle.world_core.specs.declared.{events.WorldEvent.WorldEvent, events.WorldEvent.TheVariants.Carry, events.WorldEvent.TheVariants.Clock, journal.NodeSteps.NodeSteps, journal.Tick.Tick}
 use Rattle.world_core.specs.{World.WorldState, World.CanHappen, World.IsEventInRange, World.node_at, World.world_step, World.world_after, World.replies_to, Apart.events_of, Apart.replies_of, Apart.HavePorts, Apart.HaveOwnReplies, Apart.after_own, Kept.IsKeptWorld, Ticks.script_at, Ticks.step_events, Ticks.step_replies, Ticks.steps_of, Ticks.jobs_of, Ticks.AscendByNode, Ticks.tick_events, Ticks.after_steps, Ticks.IsLegalTick, During.IsDuring, During.IsAllowed, Carrying.NothingWaits, History.HistoryState, History.acts_noted, Cursor.IsCursor}
 
--- what the steps of nodes rest on: ports have peers, each event keeps what every network keeps, and a node makes its steps by itself
+-- what the steps of nodes rest on: ports have peers, each event keeps what every network keeps, and
+-- a node makes its steps by itself
 pub record StepLaws : Type 0 where
   pub ports : (tree : Topology) → IsSound tree → HasPortLaws tree
   pub event : (e : WorldEvent) (w : WorldState) → CanHappen e w → IsEventInRange e → IsKeptWorld w → IsKeptWorld (world_step e w).0
@@ -23,7 +24,8 @@ pub record DuringLaws : Type 0 where
   pub scripted : (plan : Plan) (t : ℕ) → KeepsRules plan → AllByRecursion (IsAllowed plan.tree) (map (λ (e : ℕ × WorldEvent). e.1) (script_at plan t))
   pub carried : (plan : Plan) → KeepsRules plan → AllByRecursion (IsAllowed plan.tree) (map Carry (link_ports plan.tree))
 
--- The nodes of a network have made their steps of a tick: nodes ascending, each port its jobs in order, with the network's answers.
+-- The nodes of a network have made their steps of a tick: nodes ascending, each port its jobs in
+-- order, with the network's answers.
 pub record AreSteps (w v : WorldState) (made : List NodeSteps) : Type 0 where
   pub nodes : AscendByNode made
   pub some : AllByRecursion (λ ns. ns.steps ≢ []) made
@@ -32,8 +34,9 @@ pub record AreSteps (w v : WorldState) (made : List NodeSteps) : Type 0 where
   pub replies : step_replies made ≡ replies_to (step_events made) w
   pub after : v ≡ world_after (step_events made) w
 
--- Tick t of a scenario is made, and has led from the network w to v: the next tick begins with nothing in an outbox, its events
--- come from the cursor on, and who has acted is noted behind the changes of the ticks before.
+-- Tick t of a scenario is made, and has led from the network w to v: the next tick begins with
+-- nothing in an outbox, its events come from the cursor on, and who has acted is noted behind the
+-- changes of the ticks before.
 pub record IsTickMade (plan : Plan) (t : ℕ) (w v : WorldState) (at : ℕ) (before after : HistoryState) (tick : Tick) : Type 0 where
   pub legal : IsLegalTick plan t w tick
   pub reached : v ≡ world_after (tick_events plan t tick) w

@@ -35,7 +35,8 @@ pub record IsDone (hub : Hub) (jobs : List (List PortStep)) (pass : PortPass) : 
   pub lock : pass.lock ≡ hub.lock
   pub made : asked_by pass ≡ asks_of pass.number (own_jobs jobs pass)
 
--- these are the passes of the first ports of a hub's node, ports ascending, each of which has done all its jobs
+-- these are the passes of the first ports of a hub's node, ports ascending, each of which has done
+-- all its jobs
 abbrev pub AreDone : Hub → List (List PortStep) → List PortPass → Type 0
 AreDone hub jobs passes =
     (k : ℕ) (pass : PortPass) → slice_get passes k ≡ Some pass → (pass.number ≡ k + 1) × IsDone hub jobs pass

@@ -19,8 +19,9 @@ abbrev pub notices_of : List NodeStep → NodeState → List Notice
 notices_of [] s = []
 notices_of (st ∷ made) s = notice_of st.step (place_of st.port) st.reply s ∷ notices_of made (stepped_node st s)
 
--- The ports of a node have made their jobs of a tick, each port its own in order, in some interleaving: these are the steps with
--- their answers, with what each did to the PDUs on its port's link, and the node after them.
+-- The ports of a node have made their jobs of a tick, each port its own in order, in some
+-- interleaving: these are the steps with their answers, with what each did to the PDUs on its
+-- port's link, and the node after them.
 pub record IsNodeWorked (s v : NodeState) (made : List NodeStep) (notices : List Notice) : Type 0 where
   pub ports : AllByRecursion (λ st. IsLinkPort st.port (ports_of s)) made
   pub jobs : (port : PortNo) → IsLinkPort port (ports_of s) → steps_at_port port made ≡ job_list (place_of port) s

@@ -1,4 +1,5 @@
-//! A network after the steps that its nodes have made apart: its nodes, the steps for the journal, and the marks.
+//! A network after the steps that its nodes have made apart: its nodes, the steps for the journal,
+//! and the marks.
 
 ghost use Rattle.std.specs.Prelude.{◌≡◌, ◌<◌, ◌+◌, ◌++◌, ◌∷◌, [], ◌^◌, length, drop, map, IfOk, OnOk};
 ghost use Rattle.srp_base.specs.declared.mrp.App.{App as app_type};
@@ -33,7 +34,8 @@ pub(crate) fn numbered(alloc: Global, nodes: Vec<Node>, count: u16) -> Result<Ve
     Ok(tasks)
 }
 
-/// The nodes and the steps of nodes that have made theirs; the marks follow what each step did to the PDUs on its port's link.
+/// The nodes and the steps of nodes that have made theirs; the marks follow what each step did to
+/// the PDUs on its port's link.
 pub(crate) fn gather(
     alloc: Global,
     marks: &mut Marks,

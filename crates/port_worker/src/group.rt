@@ -11,8 +11,9 @@ use std::sync::Wait;
 use std::thread::Threads;
 use std::{mem, thread};
 
-/// Lets these nodes make their steps of a tick, those that have something to do each in a thread of its own, whose ports have
-/// threads of their own. Where no node has anything to do, no thread is made.
+/// Lets these nodes make their steps of a tick, those that have something to do each in a thread of
+/// its own, whose ports have threads of their own. Where no node has anything to do, no thread is
+/// made.
 pub(crate) fn work_all<R: Threads + Wait + Sync, G: Gate>(
     rt: &R,
     alloc: Global,
@@ -60,7 +61,8 @@ fn end_group(
     Ok(())
 }
 
-// Lets the nodes of each group make their steps, each group in a thread of its own where one can be made.
+// Lets the nodes of each group make their steps, each group in a thread of its own where one can be
+// made.
 fn work_groups<R: Threads + Wait + Sync, G: Gate>(
     rt: &R,
     alloc: Global,

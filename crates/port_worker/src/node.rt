@@ -26,7 +26,8 @@ pub(crate) struct Task {
     pub(crate) node: Node,
 }
 
-/// A node after its steps of a tick, with these steps and what each did to the PDUs on its port's link.
+/// A node after its steps of a tick, with these steps and what each did to the PDUs on its port's
+/// link.
 #[derive(Drop)]
 pub(crate) struct Worked {
     pub(crate) number: NodeNo,
@@ -42,7 +43,8 @@ pub(crate) fn has_jobs(node: &Node) -> bool
     node.ports() > 0 && (node.is_busy() || is_sending_time(node.now()))
 }
 
-/// Lets the ports of a node make their jobs of a tick, each in a thread of its own. A node that has nothing to do stays as it is.
+/// Lets the ports of a node make their jobs of a tick, each in a thread of its own. A node that has
+/// nothing to do stays as it is.
 pub(crate) fn work<R: Threads + Wait + Sync, G: Gate>(
     rt: &R,
     alloc: Global,

@@ -14,10 +14,12 @@ use world_core::laws::a_tick_carries_what_it_has_sent;
 use world_core::tick_laws::a_noted_run_goes_on;
 use world_core::{History, Journal, Run, World};
 
-/// Runs a scenario to its end, each tick with a thread for each port that has something to do: in each tick its events, the jobs
-/// of each node's ports in the interleaving that the threads come to, the carrying of each port's PDUs, and the clock. Answers the
-/// network at the end, the journal of all ticks, nodes ascending in each, and the timeline of what was in force at each port after
-/// each tick's steps. The gate is told where each port is. It may wait; its one failure is want of memory.
+/// Runs a scenario to its end, each tick with a thread for each port that has something to do: in
+/// each tick its events, the jobs of each node's ports in the interleaving that the threads come
+/// to, the carrying of each port's PDUs, and the clock. Answers the network at the end, the journal
+/// of all ticks, nodes ascending in each, and the timeline of what was in force at each port after
+/// each tick's steps. The gate is told where each port is. It may wait; its one failure is want of
+/// memory.
 pub fn run_ports<R: Threads + Wait + Sync, G: Gate>(
     rt: &R,
     alloc: Global,

@@ -19,7 +19,8 @@ use world_core::laws::{
 };
 use world_core::{History, NodeSteps, Tick, World, WorldEvent, WorldRest, carry_sent, make_events};
 
-/// Runs tick t, whose first event stands at the cursor, if it has one, and notes it behind the ticks before.
+/// Runs tick t, whose first event stands at the cursor, if it has one, and notes it behind the
+/// ticks before.
 pub(crate) fn make_tick<R: Threads + Wait + Sync, G: Gate>(
     rt: &R,
     alloc: Global,
@@ -55,7 +56,8 @@ pub(crate) fn make_tick<R: Threads + Wait + Sync, G: Gate>(
     Ok((stepped, tick, noted))
 }
 
-// Lets every node make its steps of a tick: the network is taken apart, its nodes work by themselves, and it is put together again.
+// Lets every node make its steps of a tick: the network is taken apart, its nodes work by
+// themselves, and it is put together again.
 fn make_steps<R: Threads + Wait + Sync, G: Gate>(
     rt: &R,
     alloc: Global,

@@ -16,8 +16,8 @@ pub(crate) struct Turn {
     pub(crate) done: usize,
 }
 
-/// Takes the turn of a port, as its thread does: the gate is told before the first of its jobs and after the last one. Where
-/// memory runs out the rest is left undone.
+/// Takes the turn of a port, as its thread does: the gate is told before the first of its jobs and
+/// after the last one. Where memory runs out the rest is left undone.
 pub(crate) fn take_turn<R: Wait, G: Gate>(
     rt: &R,
     gate: &G,

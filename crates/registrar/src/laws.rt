@@ -1,5 +1,5 @@
-//! What the table means for a user: laws over the definitions that the machine's contracts cite. Each is a
-//! function that does nothing; calling it brings the law to a proof.
+//! What the table means for a user: laws over the definitions that the machine's contracts cite.
+//! Each is a function that does nothing; calling it brings the law to a proof.
 
 ghost use Rattle.std.specs.Prelude.{◌≡◌, true, false};
 ghost use Rattle.registrar.specs.declared.Registrar.{Registrar};
@@ -9,8 +9,8 @@ ghost use Rattle.registrar.specs.declared.RegEvent.TheVariants.{RxLeaveAll, TxLe
 ghost use Rattle.registrar.specs.declared.Tell.TheVariants.{Joined, Left};
 ghost use Rattle.registrar.specs.Table.{next, tell_of, is_registered_in, starts_leave_timer};
 
-/// The user is told Joined exactly where the attribute wasn't registered and now is, and Left exactly where it
-/// was and now isn't.
+/// The user is told Joined exactly where the attribute wasn't registered and now is, and Left
+/// exactly where it was and now isn't.
 pub fn what_is_told()
     ensures joined { (event : RegEvent) (s : Registrar)
         → tell_of event s ≡ Joined

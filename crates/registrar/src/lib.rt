@@ -1,4 +1,5 @@
-//! The Registrar of MRP (IEEE Std 802.1Q-2018, 10.7.8): what the neighbour has said of one attribute.
+//! The Registrar of MRP (IEEE Std 802.1Q-2018, 10.7.8): what the neighbour has said of one
+//! attribute.
 //!
 //! ```text
 //!   Empty ---- New, Join ----> Held ---- Lv, LeaveAll ----> Leaving ---- leave timer ----> Empty
@@ -7,11 +8,11 @@
 //! ```
 //!
 //! `Held`, `Leaving` and `Empty` are the standard's IN, LV and MT. An attribute is registered in IN
-//! and LV. `step` is one cell of the table in `specs/Table.antt`: the new state, and what its user is
-//! told. The leave timer itself is kept where the row is.
+//! and LV. `step` is one cell of the table in `specs/Table.antt`: the new state, and what its user
+//! is told. The leave timer itself is kept where the row is.
 //!
-//! A new event is a variant, a column of `specs/Table.antt`, and its arms of `step`. What follows from the
-//! table alone, whoever stands on it, is a law in `laws`.
+//! A new event is a variant, a column of `specs/Table.antt`, and its arms of `step`. What follows
+//! from the table alone, whoever stands on it, is a law in `laws`.
 #![tactic(auto)]
 
 pub mod laws;
@@ -27,8 +28,8 @@ pub enum Registrar {
     Empty,
 }
 
-/// What happens to a Registrar: something received, an own LeaveAll sent, or the end of its leave timer
-/// (IEEE Std 802.1Q-2018, 10.7.8; its names stand beside).
+/// What happens to a Registrar: something received, an own LeaveAll sent, or the end of its leave
+/// timer (IEEE Std 802.1Q-2018, 10.7.8; its names stand beside).
 #[derive(Clone, Copy, PartialEq, Eq)]
 pub enum RegEvent {
     /// rNew!
@@ -56,7 +57,8 @@ pub enum Tell {
 }
 
 impl Registrar {
-    /// The new state, and what the user is told: one cell of the table (IEEE Std 802.1Q-2018, 10.7.8).
+    /// The new state, and what the user is told: one cell of the table (IEEE Std 802.1Q-2018,
+    /// 10.7.8).
     pub fn step(self, event: RegEvent) -> (Registrar, Tell)
         ensures { result ≡ table event self }
     {
@@ -71,7 +73,8 @@ impl Registrar {
         }
     }
 
-    /// Whether the event starts the leave timer: where it takes IN to LV (IEEE Std 802.1Q-2018, 10.7.8).
+    /// Whether the event starts the leave timer: where it takes IN to LV (IEEE Std 802.1Q-2018,
+    /// 10.7.8).
     pub fn starts_leave_timer(self, event: RegEvent) -> bool
         ensures { result ≡ starts_leave_timer event self }
     {

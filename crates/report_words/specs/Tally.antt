@@ -1,5 +1,6 @@
--- What a port sent and discarded, as the answers of its steps tell. Which PDU an answer says was sent, and whether it says that
--- one was discarded, those who know the answers give as two functions.
+-- What a port sent and discarded, as the answers of its steps tell. Which PDU an answer says was
+-- sent, and whether it says that one was discarded, those who know the answers give as two
+-- functions.
 use Rattle.std.specs.Prelude.{ℕ, ◌+◌, ◌-◌, ◌^◌, min, Bool, true, false, List, length, filter, filter_map, sum, Option, Some, None}
 use Rattle.report_words.specs.declared.tally.Tally.{Tally}
 
@@ -7,7 +8,8 @@ use Rattle.report_words.specs.declared.tally.Tally.{Tally}
 abbrev pub count_of : ℕ → ℕ
 count_of n = min n (2 ^ 64 - 1)
 
--- the number of PDUs that the answers say were sent, the sum of their octets, and the number of those that were discarded
+-- the number of PDUs that the answers say were sent, the sum of their octets, and the number of
+-- those that were discarded
 abbrev pub tally_by : {X : Type 0} → (X → Option ℕ) → (X → Bool) → List X → Tally
 tally_by octets_sent is_discarded answers =
     record {

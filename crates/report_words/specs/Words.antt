@@ -4,7 +4,8 @@ use Rattle.srp_base.specs.declared.{bandwidth.Class.Class, bandwidth.Class.TheVa
 use Rattle.registrar.specs.declared.Registrar.{Registrar}
 use Rattle.registrar.specs.declared.Registrar.TheVariants.{Held, Leaving, Empty}
 
--- a Registrar's state by its name (IEEE Std 802.1Q-2018, 10.7.8); that of what is registered is IN or LV
+-- a Registrar's state by its name (IEEE Std 802.1Q-2018, 10.7.8); that of what is registered is IN
+-- or LV
 abbrev pub state_name : Registrar → List ℕ
 state_name Held = codes "IN"
 state_name Leaving = codes "LV"

@@ -1,5 +1,5 @@
-//! The words that all reports share: names of nodes and ports, the order of ports, what a port sent and discarded, and the
-//! lines with which a report of any run begins and ends.
+//! The words that all reports share: names of nodes and ports, the order of ports, what a port sent
+//! and discarded, and the lines with which a report of any run begins and ends.
 //!
 //! ```text
 //!   ticks 1062                               Lines    how long the run is
@@ -9,16 +9,19 @@
 //!   in step yes
 //! ```
 //!
-//! Each word and line is a definition (a file of `specs/` of that name) and a function that puts it at the end of a text, whose
-//! contract says that the text is the one before with the word behind it. After want of memory the text may have a part of it.
+//! Each word and line is a definition (a file of `specs/` of that name) and a function that puts it
+//! at the end of a text, whose contract says that the text is the one before with the word behind
+//! it. After want of memory the text may have a part of it.
 //!
-//! The crate knows a network by its tree and the names of its nodes alone: what runs there, what a port answers, and which of
-//! its answers say that a PDU was sent or discarded, is known by the crates above. So a report of streams, one of groups, a
-//! journal and the margins of ports stand on the same words. A line that only one of them has stands there.
+//! The crate knows a network by its tree and the names of its nodes alone: what runs there, what a
+//! port answers, and which of its answers say that a PDU was sent or discarded, is known by the
+//! crates above. So a report of streams, one of groups, a journal and the margins of ports stand on
+//! the same words. A line that only one of them has stands there.
 //!
-//! A further word that two reports share is a definition in `specs/Words.antt` with its function in `src/words.rt`; a further
-//! line is one in `specs/Lines.antt` with its writer in `src/lines.rt`; a further count is a field of `Tally` with a line of
-//! `tally_by`, of `zero_tally` and of `with_tally`.
+//! A further word that two reports share is a definition in `specs/Words.antt` with its function in
+//! `src/words.rt`; a further line is one in `specs/Lines.antt` with its writer in `src/lines.rt`; a
+//! further count is a field of `Tally` with a line of `tally_by`, of `zero_tally` and of
+//! `with_tally`.
 #![tactic(auto)]
 
 mod lines;

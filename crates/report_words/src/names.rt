@@ -38,7 +38,8 @@ pub fn put_port_name(
     out.extend_from_slice(node_name(nodes, peer_node(tree, at)))
 }
 
-// The node of a port's peer. A port that the tree hasn't has node 0, and port 0 of a node has that of port 1.
+// The node of a port's peer. A port that the tree hasn't has node 0, and port 0 of a node has that
+// of port 1.
 fn peer_node(tree: &Tree, at: EgressPort) -> NodeNo
     ensures { result ≡ (peer_of tree.now.links at).node }
 {

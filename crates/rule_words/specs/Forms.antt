@@ -1,5 +1,5 @@
--- What the value at a key has to be: whether a value has a form, and the words of a form. Where a file's definition reads a
--- value, its reading is cited.
+-- What the value at a key has to be: whether a value has a form, and the words of a form. Where a
+-- file's definition reads a value, its reading is cited.
 use Rattle.std.specs.Prelude.{ℕ, Bool, true, false, nat_eq, ◌||◌, List, [], ◌∷◌, codes, Option, Some, None, option_and_then}
 use Rattle.std.specs.{Cmp.Lexicographic.pointwise, Fmt.decimal, List.list_any, Option.is_some}
 use Rattle.srp_base.specs.{Bandwidth.rate_of_mbit, Hexadecimal.hex12, Hexadecimal.hex16, Text.whole_of}

@@ -1,4 +1,5 @@
--- The keys of the files: the word of each, what its value has to be, and whether it has to be there.
+-- The keys of the files: the word of each, what its value has to be, and whether it has to be
+-- there.
 use Rattle.std.specs.Prelude.{ℕ, Bool, true, false, List, codes}
 use Rattle.rule_words.specs.declared.{forms.ValueForm.ValueForm, keys.Key.Key}
 use Rattle.rule_words.specs.declared.forms.ValueForm.TheVariants as forms

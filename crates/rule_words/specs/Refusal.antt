@@ -1,5 +1,6 @@
--- What is said of the first rule that a file breaks: a line of its number and its entry, one of what it asks, one of the entry's
--- place and name, and then the key with what it has to be and what stands there.
+-- What is said of the first rule that a file breaks: a line of its number and its entry, one of
+-- what it asks, one of the entry's place and name, and then the key with what it has to be and what
+-- stands there.
 use Rattle.std.specs.Prelude.{ℕ, Bool, ◌-◌, ◌==◌, if◌then◌else◌, List, [], ◌∷◌, ◌++◌, codes, flat_map, Option, Some, None}
 use Rattle.std.specs.Fmt.{decimal}
 use Rattle.srp_base.specs.Text.{whole_of}
@@ -59,7 +60,8 @@ unknown_line word known = stray_words word ++ known_words known
 
 -- ---- what is wrong
 
--- what stands at the key that isn't right; where each is right by itself, at those that may be wrong together
+-- what stands at the key that isn't right; where each is right by itself, at those that may be
+-- wrong together
 abbrev pub value_lines : TableForm → Members → Option Key → List ℕ
 value_lines form ms (Some key) = wrong_line key ++ there_line ms key
 value_lines form ms None = flat_map (there_line ms) (keys_together form)

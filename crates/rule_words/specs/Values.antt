@@ -4,7 +4,8 @@ use Rattle.std.specs.Fmt.{decimal, signed_decimal}
 use Rattle.srp_base.specs.Text.{whole_of}
 use Rattle.toml.specs.Data.{Data, string, integer, float, boolean, datetime, array, table, Items, no_items, item}
 
--- a character that stands for itself between quotes: from the blank on, without the quote, the backslash and DEL
+-- a character that stands for itself between quotes: from the blank on, without the quote, the
+-- backslash and DEL
 abbrev pub is_plain : ℕ → Bool
 is_plain c = nat_le 32 c && not (c == 34) && not (c == 92) && not (c == 127)
 

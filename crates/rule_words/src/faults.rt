@@ -1,4 +1,5 @@
-//! What is wrong at a table: a key that it may not have, or one whose value isn't what it has to be.
+//! What is wrong at a table: a key that it may not have, or one whose value isn't what it has to
+//! be.
 
 ghost use Rattle.std.specs.Prelude.{◌≡◌, not, option_map, string_bytes, find, IfOk};
 ghost use Rattle.std.specs.{Option.option_copied, BTreeMap.keys};

@@ -96,7 +96,8 @@ fn is_pdu(alloc: Global, digits: &str) -> Result<bool, NoMemory>
 
 // Whether the text at a key is a PDU's octets.
 fn has_pdu(alloc: Global, table: &Table, key: &str) -> Result<bool, NoMemory>
-    ensures { IfOk result (λ b. b ≡ has_form_spec ValueForm.PduDigits key.now (table_view table.now)) }
+    ensures { IfOk result
+        (λ b. b ≡ has_form_spec ValueForm.PduDigits key.now (table_view table.now)) }
 {
     match text(table, key) {
         Some(digits) => is_pdu(alloc, digits),

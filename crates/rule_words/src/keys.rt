@@ -1,4 +1,5 @@
-//! The keys of the files: the word of each, what its value has to be, and whether it has to be there.
+//! The keys of the files: the word of each, what its value has to be, and whether it has to be
+//! there.
 
 ghost use Rattle.std.specs.Prelude.{◌≡◌};
 ghost use Rattle.rule_words.specs.Keys.{word_of as word_of_spec, form_of as form_of_spec, is_needed as is_needed_spec};

@@ -277,7 +277,8 @@ fn put_in_array(
 ) -> Result<(), NoMemory>
     requires { 1 ≤ entry }
     ensures { OnOk result (out.new.items ≡ out.old.items
-        ++ lines_of_entry domains rule array entry (entry_of_spec array entry (table_view table.now))) }
+        ++ lines_of_entry domains rule array entry
+        (entry_of_spec array entry (table_view table.now))) }
 {
     match entry_of(array, entry, table) {
         Some(found) => put_entry_and_table(out, domains, rule, array, entry, found),
@@ -309,8 +310,9 @@ fn put_place(out: &mut Vec<u8>, rule: u8, entry: u32, table: &Table) -> Result<(
     }
 }
 
-/// What is said of a rule that a file breaks first at this entry: what the rule asks, the entry with its array and its name,
-/// the key that breaks it, what has to stand there, and what does. The entry 0 is the file as a whole.
+/// What is said of a rule that a file breaks first at this entry: what the rule asks, the entry
+/// with its array and its name, the key that breaks it, what has to stand there, and what does. The
+/// entry 0 is the file as a whole.
 pub fn refusal_text(alloc: Global, rule: u8, entry: u32, table: &Table) -> Result<Vec<u8>, NoMemory>
     ensures { IfOk result (λ text. text.items
         ≡ refusal_text_spec rule entry (table_view table.now)) }

@@ -60,7 +60,11 @@ leads x l =
       | inl a ↦ inl (l.b.0, cond-true (l.a.0 == x) (Some l.b.0) (cond (l.b.0 == x) (Some l.a.0) None) a, inl (eqb-true l.a.0 x a, refl))
       | inr not_a ↦ elim (cases_Bool (l.b.0 == x)) [
         | inl b ↦ inl (l.a.0, cond-false (l.a.0 == x) (Some l.b.0) (cond (l.b.0 == x) (Some l.a.0) None) not_a ∙ cond-true (l.b.0 == x) (Some l.a.0) None b, inr (refl, eqb-true l.b.0 x b))
-        | inr not_b ↦ inr (cond-false (l.a.0 == x) (Some l.b.0) (cond (l.b.0 == x) (Some l.a.0) None) not_a ∙ cond-false (l.b.0 == x) (Some l.a.0) None not_b, or_from (l.a.0 == x) (l.b.0 == x) not_a not_b)
+        | inr not_b ↦ inr (
+          cond-false (l.a.0 == x) (Some l.b.0) (cond (l.b.0 == x) (Some l.a.0) None) not_a
+              ∙ cond-false (l.b.0 == x) (Some l.a.0) None not_b,
+          or_from (l.a.0 == x) (l.b.0 == x) not_a not_b,
+        )
       ]
     ]
 
@@ -84,7 +88,9 @@ first_link x v (k ∷ ls) (suc i) l is far none =
           let other : (u == v) ≡ false = ne_eqb u v (λ e. none (inl (subst (λ (w : ℕ). Joins (ends_of_entry k) x w) e h.2))) in
           ap (λ (ms : List LinkEntry). slice_get ms (index_in v (ends_at x (k ∷ ls)))) (cond-true (is_link_of x k) (k ∷ links_at x ls) (links_at x ls) (is_of x u k h.1))
           ∙ ap (λ (o : Option ℕ). slice_get (k ∷ links_at x ls) (index_in v (cons_option o (ends_at x ls)))) h.1
-          ∙ ap (slice_get (k ∷ links_at x ls)) (cond-true (not (u == v)) (1 + index_in v (ends_at x ls)) 0 (not_from_false (u == v) other) ∙ (let e : 1 + index_in v (ends_at x ls) ≡ suc (index_in v (ends_at x ls)) = omega arith in e))
+          ∙ ap (slice_get (k ∷ links_at x ls))
+          (cond-true (not (u == v)) (1 + index_in v (ends_at x ls)) 0 (not_from_false (u == v) other)
+          ∙ (let e : 1 + index_in v (ends_at x ls) ≡ suc (index_in v (ends_at x ls)) = omega arith in e))
           ∙ rest)
     ]
 

@@ -15,7 +15,8 @@ is_link_of x l = (l.a.0 == x) || (l.b.0 == x)
 abbrev pub links_of : ℕ → Plan → List LinkEntry
 links_of x plan = filter (is_link_of x) plan.links
 
--- what the ports of a link may give away: class A its share of the rate, and both classes together theirs
+-- what the ports of a link may give away: class A its share of the rate, and both classes together
+-- theirs
 abbrev pub caps_of_link : LinkEntry → Caps
 caps_of_link l = caps_of l.rate l.delta_a l.delta_b
 

@@ -8,8 +8,9 @@ use srp_base::EgressPort;
 use stream_importance::Caps;
 use topology_file::{LinkEntry, Scenario};
 
-/// The link of a port of a scenario's network; None exactly where the network has no such port. What its entry leaves to class A
-/// isn't above what it leaves to both classes, and that is below its rate (IEEE Std 802.1Q-2018, 34.3).
+/// The link of a port of a scenario's network; None exactly where the network has no such port.
+/// What its entry leaves to class A isn't above what it leaves to both classes, and that is below
+/// its rate (IEEE Std 802.1Q-2018, 34.3).
 pub fn link_at(scenario: &Scenario, at: EgressPort) -> Option<LinkEntry>
     ensures link { result ≡ link_at scenario.now at }
     ensures caps { IfSome result (λ l. AreCaps l.rate (caps_of_link l).class_a (caps_of_link l).both) }
@@ -18,8 +19,8 @@ pub fn link_at(scenario: &Scenario, at: EgressPort) -> Option<LinkEntry>
     link_of_port(scenario, at)
 }
 
-/// The caps of a port: what its link's entry leaves to class A and to both classes (IEEE Std 802.1Q-2018, 34.3); none where the
-/// network has no such port.
+/// The caps of a port: what its link's entry leaves to class A and to both classes (IEEE Std
+/// 802.1Q-2018, 34.3); none where the network has no such port.
 pub fn caps_at(scenario: &Scenario, at: EgressPort) -> Caps
     ensures { result ≡ caps_at scenario.now at }
 {

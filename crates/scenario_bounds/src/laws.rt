@@ -1,4 +1,5 @@
-//! What is true of class B in every scenario's flow. Each is a function that does nothing; calling it brings the law to a proof.
+//! What is true of class B in every scenario's flow. Each is a function that does nothing; calling
+//! it brings the law to a proof.
 
 ghost use Rattle.std.specs.Prelude.{ℕ, List, All, AllPairs};
 ghost use Rattle.srp_base.specs.declared.{numbers.EgressPort.EgressPort, ports.PortChange.PortChange};
@@ -16,7 +17,8 @@ use class_b_bound::laws::{
 };
 use scenario_frames::laws::every_input_keeps_its_caps;
 
-/// The caps of each port of a scenario's flow are below its rate, and class A's isn't above that of both classes.
+/// The caps of each port of a scenario's flow are below its rate, and class A's isn't above that of
+/// both classes.
 pub fn caps_are_below_the_rates()
     ensures { (plan : Plan) (changes : List PortChange) (flows : List PortFlow) → KeepsRules plan
         → IsFlow (setting_of plan changes) flows
@@ -24,8 +26,8 @@ pub fn caps_are_below_the_rates()
         flows }
 {}
 
-/// In a scenario's flow class B stays within its bound at every port, where the changes of the run ascend by port and tick, keep
-/// each port's slopes below its rate, and keep its caps.
+/// In a scenario's flow class B stays within its bound at every port, where the changes of the run
+/// ascend by port and tick, keep each port's slopes below its rate, and keep its caps.
 pub fn class_b_stays_within_at_every_port()
     ensures { (plan : Plan) (changes : List PortChange) (flows : List PortFlow) → KeepsRules plan
         → AllPairs IsEarlier changes → AreBelowRates plan changes

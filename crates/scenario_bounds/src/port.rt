@@ -20,8 +20,9 @@ pub struct PortBound {
     pub worst: u64,
 }
 
-/// Class B's bound at a port by its rate and its caps, and its longest wait in the port's flow. Class B stays within its bound at
-/// the port, as the law `class_b_stays_within_at_every_port` has it of each flow.
+/// Class B's bound at a port by its rate and its caps, and its longest wait in the port's flow.
+/// Class B stays within its bound at the port, as the law `class_b_stays_within_at_every_port` has
+/// it of each flow.
 pub fn bound_of_port(
     alloc: Global,
     scenario: &Scenario,

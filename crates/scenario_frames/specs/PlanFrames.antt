@@ -23,8 +23,8 @@ traffic_of_class None = traffics.Other
 traffic_of_class (Some classes.A) = traffics.A
 traffic_of_class (Some classes.B) = traffics.B
 
--- the traffic of a priority: that of its SR class, A for 3 and B for 2 (IEEE Std 802.1Q-2018, 34.5, the
--- default priorities of two classes)
+-- the traffic of a priority: that of its SR class, A for 3 and B for 2 (IEEE Std 802.1Q-2018, 34.5,
+-- the default priorities of two classes)
 abbrev pub traffic_of_priority : ℕ → Traffic
 traffic_of_priority priority = traffic_of_class (class_of_priority priority)
 
@@ -33,16 +33,16 @@ abbrev pub stream_way : StreamEntry → Way
 stream_way s =
     record { from = s.talker; route = Stream s.id (traffic_of_priority s.priority); vid = s.vid }
 
--- the way of the frames of a route, whose stream is named by its number, from 1; None where there is no
--- such stream
+-- the way of the frames of a route, whose stream is named by its number, from 1; None where there
+-- is no such stream
 abbrev pub way_of : List StreamEntry → FrameRoute → Option Way
 way_of streams (routes.OfStream stream) = option_map stream_way (slice_get streams (stream - 1))
 way_of streams (routes.Between from to vid) = Some (record { from = from; route = To to; vid = vid })
 
 -- ---- the frames
 
--- a frame's length on the line in bits: its data and 42 octets of preamble, header, tag, check sequence
--- and gap (34.4)
+-- a frame's length on the line in bits: its data and 42 octets of preamble, header, tag, check
+-- sequence and gap (34.4)
 abbrev pub line_bits : ℕ → ℕ
 line_bits octets = (octets + 42) * 8
 

@@ -11,7 +11,8 @@ use srp_base::{NoMemory, Ps};
 use std::alloc::Global;
 use topology_file::{FrameEntry, Scenario, StreamEntry};
 
-/// The frames of a scenario, numbered from 1 in the order of the file, the copies of each entry in order.
+/// The frames of a scenario, numbered from 1 in the order of the file, the copies of each entry in
+/// order.
 pub fn frames_of(alloc: Global, scenario: &Scenario) -> Result<Vec<Frame>, NoMemory>
     ensures { IfOk result (λ v. v.items ≡ plan_frames scenario.now) }
 {

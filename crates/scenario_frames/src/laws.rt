@@ -1,5 +1,5 @@
-//! What is true of the flow of every scenario. Each is a function that does nothing; calling it brings the
-//! law to a proof.
+//! What is true of the flow of every scenario. Each is a function that does nothing; calling it
+//! brings the law to a proof.
 
 ghost use Rattle.std.specs.Prelude.{◌≡◌, ℕ, List, map, All, AllPairs};
 ghost use Rattle.std.specs.List.{range_with_len};
@@ -22,17 +22,17 @@ pub fn frames_are_numbered_from_one()
         → map (λ f. f.number) (plan_frames plan) ≡ range_with_len 1 (frame_copies plan.frames) }
 {}
 
-/// What a scenario asks a flow of is valid, where the changes of a run ascend by port and tick and at each
-/// port both slopes together stay below the rate.
+/// What a scenario asks a flow of is valid, where the changes of a run ascend by port and tick and
+/// at each port both slopes together stay below the rate.
 pub fn a_scenario_asks_a_valid_flow()
     ensures { (plan : Plan) (changes : List PortChange) → KeepsRules plan
         → AllPairs IsEarlier changes → AreBelowRates plan changes
         → IsSetting (setting_of plan changes) }
 {}
 
-/// In a scenario's flow every window at every port stays within class A's bound (IEEE Std 802.1Q-2018,
-/// 8.6.8.2): with the hiCredit of the greatest slope that the port had, and with that of its cap, for any
-/// caps that the changes keep.
+/// In a scenario's flow every window at every port stays within class A's bound (IEEE Std
+/// 802.1Q-2018, 8.6.8.2): with the hiCredit of the greatest slope that the port had, and with that
+/// of its cap, for any caps that the changes keep.
 pub fn every_window_stays_within()
     ensures slopes { (plan : Plan) (changes : List PortChange) (flows : List PortFlow)
         → KeepsRules plan → AllPairs IsEarlier changes → AreBelowRates plan changes
@@ -49,8 +49,8 @@ pub fn every_window_stays_within()
     inputs_keep_the_caps_of_changes();
 }
 
-/// In a scenario's flow what each port's shaper is given is in order and in its ranges, and keeps whatever caps the
-/// changes keep: on class A's slope, and on both together.
+/// In a scenario's flow what each port's shaper is given is in order and in its ranges, and keeps
+/// whatever caps the changes keep: on class A's slope, and on both together.
 pub fn every_input_keeps_its_caps()
     ensures valid { (plan : Plan) (changes : List PortChange) (flows : List PortFlow)
         → KeepsRules plan → AllPairs IsEarlier changes → AreBelowRates plan changes

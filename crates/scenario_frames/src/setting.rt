@@ -28,10 +28,11 @@ fn rates_of_links(alloc: Global, links: &[LinkEntry]) -> Result<Vec<Rate>, NoMem
     Ok(rates)
 }
 
-/// The flow of a scenario's frames, with what was in force at its ports over a run; of no copies where the
-/// scenario has no frames.
+/// The flow of a scenario's frames, with what was in force at its ports over a run; of no copies
+/// where the scenario has no frames.
 ///
-/// The timeline's changes ascend by port and tick, and at each port both slopes together are below the rate.
+/// The timeline's changes ascend by port and tick, and at each port both slopes together are below
+/// the rate.
 pub fn flow_of(
     alloc: Global,
     scenario: &Scenario,

@@ -117,7 +117,8 @@ events-counted number =
     let t = three-each number (range_with_len 1 (stream_count number)) in
     let l = length-map-range_with_len (loss number) 0 20 in
     let later = length-append (flat_map (stream_events number) (range_with_len 1 (stream_count number))) (map (loss number) (range_with_len 0 20)) in
-    let all = length-append (map (declaration number) (range_with_len 1 (station_count number))) (flat_map (stream_events number) (range_with_len 1 (stream_count number)) ++ map (loss number) (range_with_len 0 20)) in
+    let all = length-append (map (declaration number) (range_with_len 1 (station_count number)))
+    (flat_map (stream_events number) (range_with_len 1 (stream_count number)) ++ map (loss number) (range_with_len 0 20)) in
     omega (arith, d, r, t, l, later, all)
 
 -- ---- sorted

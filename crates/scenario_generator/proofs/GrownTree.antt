@@ -181,7 +181,8 @@ pub grown-accepted : (bridges : ℕ) (kinds : List NodeKind) (links : List Link)
     → ((count : ℕ) (ls : List Link) → IsGraph count ls → HasNoLoop ls → ((x : ℕ) → IsNode count x → Connected ls 1 x) → IsTree count ls)
     → IsAccepted kinds links
 grown-accepted bridges kinds links some size small grown stations tree = record {
-  tree = subst (λ (n : ℕ). IsTree n links) (sym size) (tree (1 + length links) links (graph bridges links grown) (no-loop bridges links grown) (λ x is. reached bridges links grown x x (omega arith) is));
+  tree = subst (λ (n : ℕ). IsTree n links) (sym size)
+      (tree (1 + length links) links (graph bridges links grown) (no-loop bridges links grown) (λ x is. reached bridges links grown x x (omega arith) is));
   leaf_stations = λ x is stray.
       let past = stations x is stray.0 in
       let high = is.1 in

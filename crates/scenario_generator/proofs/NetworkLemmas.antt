@@ -68,7 +68,8 @@ pub names-formed : (number : ℕ) → All (λ x. is_name x.name ≡ true) (drawn
 names-formed number =
     let b = (bridges-between number).1 in
     let s = (stations-between number).1 in
-    All-append (λ (x : NodeEntry). is_name x.name ≡ true) (map bridge_entry (range_with_len 1 (bridge_count number))) (map (station_entry (bridge_count number)) (range_with_len 1 (station_count number)))
+    All-append (λ (x : NodeEntry). is_name x.name ≡ true) (map bridge_entry (range_with_len 1 (bridge_count number)))
+    (map (station_entry (bridge_count number)) (range_with_len 1 (station_count number)))
     (all-of-range (λ (x : NodeEntry). is_name x.name ≡ true) bridge_entry 1 (bridge_count number) (λ k lt. numbered-is-name 98 (1 + k) refl (omega (arith, b, lt))))
     (all-of-range (λ (x : NodeEntry). is_name x.name ≡ true) (station_entry (bridge_count number)) 1 (station_count number) (λ k lt. numbered-is-name 115 (1 + k) refl (omega (arith, s, lt))))
 
@@ -151,19 +152,23 @@ linked-at number i d lt =
     let b = length-map-range_with_len (bridge_link number) 2 (bridge_count number - 1) in
     elim (past-or-not i (bridge_count number - 1)) [
       | inl low ↦ subst (IsLinked number i)
-          (sym (get_or_append_left (map (bridge_link number) (range_with_len 2 (bridge_count number - 1))) (map (station_link number (bridge_count number)) (range_with_len 1 (station_count number))) d i (omega (arith, b, low))
+          (sym (get_or_append_left (map (bridge_link number) (range_with_len 2 (bridge_count number - 1)))
+          (map (station_link number (bridge_count number)) (range_with_len 1 (station_count number))) d i (omega (arith, b, low))
           ∙ get_or-map-range_with_len (bridge_link number) 2 (bridge_count number - 1) i (2 + i) d low refl))
           (bridge-linked number (2 + i) i refl low)
       | inr high ↦ subst (IsLinked number i)
-          (sym (get_or-append_right (map (bridge_link number) (range_with_len 2 (bridge_count number - 1))) (map (station_link number (bridge_count number)) (range_with_len 1 (station_count number))) (bridge_count number - 1) i d b high
-          ∙ get_or-map-range_with_len (station_link number (bridge_count number)) 1 (station_count number) (i - (bridge_count number - 1)) (1 + (i - (bridge_count number - 1))) d (omega (arith, high, lt, all)) refl))
+          (sym (get_or-append_right (map (bridge_link number) (range_with_len 2 (bridge_count number - 1)))
+          (map (station_link number (bridge_count number)) (range_with_len 1 (station_count number))) (bridge_count number - 1) i d b high
+          ∙ get_or-map-range_with_len (station_link number (bridge_count number)) 1 (station_count number) (i - (bridge_count number - 1))
+          (1 + (i - (bridge_count number - 1))) d (omega (arith, high, lt, all)) refl))
           (station-linked number (1 + (i - (bridge_count number - 1))) i (omega (arith, high, two)) high)
     ]
 
 -- the values of a link
 pub links-formed : (number : ℕ) → All (λ l. (l.delta_a + l.delta_b ≤ 90) × (l.latency < 2 ^ 32)) (drawn_links number)
 links-formed number =
-    All-append (λ (l : LinkEntry). (l.delta_a + l.delta_b ≤ 90) × (l.latency < 2 ^ 32)) (map (bridge_link number) (range_with_len 2 (bridge_count number - 1))) (map (station_link number (bridge_count number)) (range_with_len 1 (station_count number)))
+    All-append (λ (l : LinkEntry). (l.delta_a + l.delta_b ≤ 90) × (l.latency < 2 ^ 32)) (map (bridge_link number) (range_with_len 2 (bridge_count number - 1)))
+    (map (station_link number (bridge_count number)) (range_with_len 1 (station_count number)))
     (all-of-range (λ (l : LinkEntry). (l.delta_a + l.delta_b ≤ 90) × (l.latency < 2 ^ 32)) (bridge_link number) 2 (bridge_count number - 1) (λ k lt. (omega arith, omega arith)))
     (all-of-range (λ (l : LinkEntry). (l.delta_a + l.delta_b ≤ 90) × (l.latency < 2 ^ 32)) (station_link number (bridge_count number)) 1 (station_count number) (λ k lt. (omega arith, omega arith)))
 
@@ -212,7 +217,8 @@ network-accepted number tree =
     (omega (arith, two)) (omega (arith, kinds, links, nodes, all, two)) (omega (arith, links, all, few, small)) (grown number) (station-past number) tree
 
 -- the kinds and the ends that the tree is made of
-pub tree-ready : (number : ℕ) (nodes : List NodeEntry) (links : List LinkEntry) (kinds : List NodeKind) (ends : List Link) → nodes ≡ drawn_nodes number → links ≡ drawn_links number → kinds ≡ node_kinds nodes
+pub tree-ready : (number : ℕ) (nodes : List NodeEntry) (links : List LinkEntry) (kinds : List NodeKind) (ends : List Link) → nodes ≡ drawn_nodes number
+    → links ≡ drawn_links number → kinds ≡ node_kinds nodes
     → ends ≡ tree_links links
     → ((count : ℕ) (ls : List Link) → IsGraph count ls → HasNoLoop ls → ((x : ℕ) → IsNode count x → Connected ls 1 x) → IsTree count ls)
     → (IsAccepted kinds ends × (length kinds < 65536) × (length ends < 65536)) × (kinds ≡ node_kinds (drawn_nodes number)) × (ends ≡ tree_links (drawn_links number))

@@ -15,7 +15,8 @@ plan : ℕ → Cs → Bool → Bool → Topology → List NodeEntry → List Lin
 plan ticks leave_time periodic domains tree nodes links streams events frames =
     record { ticks = ticks; leave_time = leave_time; periodic = periodic; domains = domains; tree = tree; nodes = nodes; links = links; streams = streams; events = events; frames = frames }
 
-same-plan : (a1 b1 : ℕ) (a2 b2 : Cs) (a3 b3 z3 y3 : Bool) (a4 b4 : Topology) (a5 b5 : List NodeEntry) (a6 b6 : List LinkEntry) (a7 b7 : List StreamEntry) (a8 b8 : List EventEntry) (a9 b9 : List FrameEntry)
+same-plan : (a1 b1 : ℕ) (a2 b2 : Cs) (a3 b3 z3 y3 : Bool) (a4 b4 : Topology) (a5 b5 : List NodeEntry) (a6 b6 : List LinkEntry) (a7 b7 : List StreamEntry) (a8 b8 : List EventEntry)
+    (a9 b9 : List FrameEntry)
     → a1 ≡ b1 → a2 ≡ b2 → a3 ≡ b3 → z3 ≡ y3 → a4 ≡ b4 → a5 ≡ b5 → a6 ≡ b6 → a7 ≡ b7 → a8 ≡ b8 → a9 ≡ b9 → plan a1 a2 a3 z3 a4 a5 a6 a7 a8 a9 ≡ plan b1 b2 b3 y3 b4 b5 b6 b7 b8 b9
 same-plan a1 b1 a2 b2 a3 b3 z3 y3 a4 b4 a5 b5 a6 b6 a7 b7 a8 b8 a9 b9 e1 e2 e3 e0 e4 e5 e6 e7 e8 e9 = cc
 
@@ -26,7 +27,8 @@ plan_with number events = plan 4000 (record { 0 = 60 }) false false (topology_of
 pub drawn-is : (number : ℕ) (p : Plan) (events : List EventEntry) → IsDrawn number p → p.events ≡ events → p ≡ plan_with number events
 unfolding plan plan_with
 drawn-is number p events is e =
-    same-plan p.ticks 4000 p.leave_time (record { 0 = 60 }) p.periodic false p.domains false p.tree (topology_of (drawn_nodes number) (drawn_links number)) p.nodes (drawn_nodes number) p.links (drawn_links number)
+    same-plan p.ticks 4000 p.leave_time (record { 0 = 60 }) p.periodic false p.domains false p.tree (topology_of (drawn_nodes number) (drawn_links number)) p.nodes
+    (drawn_nodes number) p.links (drawn_links number)
     p.streams (drawn_streams number) p.events events p.frames []
     is.ticks is.leave_time is.periodic is.domains is.tree is.nodes is.links is.streams e is.frames
 

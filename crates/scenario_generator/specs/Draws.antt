@@ -1,5 +1,6 @@
--- The draws of a number: a sequence of states of 32 bits, each made of the one before it, of which a draw takes the
--- high half. What is drawn is named by its place in the order of the draws, from 0.
+-- The draws of a number: a sequence of states of 32 bits, each made of the one before it, of which
+-- a draw takes the high half. What is drawn is named by its place in the order of the draws, from
+-- 0.
 use Rattle.std.specs.Prelude.{ℕ, zero, suc, ◌+◌, ◌*◌, ◌/◌, ◌%◌, ◌^◌}
 
 -- the state after this one
@@ -19,7 +20,7 @@ drawn number place = state_after number (place + 1) / 65536
 abbrev pub draw : ℕ → ℕ → ℕ → ℕ
 draw number place m = drawn number place % m
 
--- the most draws that a scenario is made of: 3 for its sizes, 1 for each of 16 links, 3 and 5 for each of 16 streams,
--- and 3 for each of 20 losses
+-- the most draws that a scenario is made of: 3 for its sizes, 1 for each of 16 links, 3 and 5 for
+-- each of 16 streams, and 3 for each of 20 losses
 abbrev pub most_draws : ℕ
 most_draws = 207

@@ -1,4 +1,5 @@
--- The events of a number: five draws for each stream, behind those of the streams, and three for each of twenty losses.
+-- The events of a number: five draws for each stream, behind those of the streams, and three for
+-- each of twenty losses.
 use Rattle.std.specs.Prelude.{ℕ, ◌+◌, ◌-◌, ◌*◌, ◌==◌, if◌then◌else◌, List, [], ◌∷◌, ◌++◌, map, slice_index_or}
 use Rattle.std.specs.{List.flat_map, List.range_with_len, List.Sorted.IsPermutation, List.Sorted.IsSortedByKey, List.Sorted.IsStableByKey, Ordering.nat_cmp}
 use Rattle.topology_file.specs.declared.{entries.LinkEntry.LinkEntry, entries.EventEntry.EventEntry, entries.EventKind.EventKind}
@@ -70,8 +71,8 @@ drawn_events number =
     ++ (flat_map (stream_events number) (range_with_len 1 (stream_count number))
     ++ map (loss number) (range_with_len 0 20))
 
--- the second list is the first sorted by tick: it has the same events, their ticks don't fall, and those of one tick
--- stand in the order in which they stood
+-- the second list is the first sorted by tick: it has the same events, their ticks don't fall, and
+-- those of one tick stand in the order in which they stood
 pub record IsSortedByTick (events sorted : List EventEntry) : Type 0 where
   pub same : IsPermutation events sorted
   pub order : IsSortedByKey (λ e. e.tick) nat_cmp sorted

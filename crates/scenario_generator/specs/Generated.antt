@@ -3,8 +3,8 @@ use Rattle.std.specs.Prelude.{◌≡◌, ℕ, false, []}
 use Rattle.topology_file.specs.{Plan.Plan, Scenario.topology_of}
 use Rattle.scenario_generator.specs.{Network.drawn_nodes, Network.drawn_links, Streams.drawn_streams, Events.drawn_events, Events.IsSortedByTick}
 
--- 4,000 ticks of its nodes, links, streams and events, by the draws of the number; LeaveTime is 60 cs, nothing is
--- transmitted periodically, and there are no SRP domains and no frames
+-- 4,000 ticks of its nodes, links, streams and events, by the draws of the number; LeaveTime is 60
+-- cs, nothing is transmitted periodically, and there are no SRP domains and no frames
 pub record IsDrawn (number : ℕ) (p : Plan) : Type 0 where
   pub ticks : p.ticks ≡ 4000
   pub leave_time : p.leave_time ≡ record { 0 = 60 }

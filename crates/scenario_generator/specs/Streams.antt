@@ -17,8 +17,8 @@ talker_drawn number k = stream_draw number k 0 (station_count number)
 abbrev pub rank_drawn : ℕ → Rank
 rank_drawn n = if n == 0 then Emergency else Normal
 
--- stream k: frames of 64 to 663 octets, one each interval, of VID 2 and priority 3, with the StreamID
--- 0200000000000000 + k and the destination 91e0f0000000 + k
+-- stream k: frames of 64 to 663 octets, one each interval, of VID 2 and priority 3, with the
+-- StreamID 0200000000000000 + k and the destination 91e0f0000000 + k
 abbrev pub stream_entry : ℕ → ℕ → StreamEntry
 stream_entry number k = record {
   name = numbered_name (codes "k") k;

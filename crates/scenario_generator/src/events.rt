@@ -11,8 +11,8 @@ use srp_base::{NoMemory, NodeNo, Seq};
 use std::alloc::Global;
 use topology_file::{EventEntry, EventKind, LinkEntry};
 
-/// The most events of a number: a declaration of each of 9 stations, three of each of 16 streams, and the
-/// losses.
+/// The most events of a number: a declaration of each of 9 stations, three of each of 16 streams,
+/// and the losses.
 const MOST_EVENTS: usize = 77;
 
 /// How many losses there are.
@@ -85,7 +85,8 @@ fn listening_station(stations: u16, talker: u16, drawn: u16) -> u16
     }
 }
 
-/// A listener of stream `k`, from 1, begins; which station it is is the draw `i`, and when the one behind it.
+/// A listener of stream `k`, from 1, begins; which station it is is the draw `i`, and when the one
+/// behind it.
 fn listen(draws: &Draws, k: u16, i: usize) -> EventEntry
     requires first { 1 ≤ k }
     requires few { k ≤ 16 }

@@ -11,7 +11,8 @@ pub fn drawn_scenarios_keep_the_rules()
     tree_topology::laws::one_component();
 }
 
-/// A number has one scenario alone: `IsDrawn` leaves nothing open, the order of the events included.
+/// A number has one scenario alone: `IsDrawn` leaves nothing open, the order of the events
+/// included.
 pub fn one_scenario()
     ensures { (number : ℕ) (p q : Plan) → IsDrawn number p → IsDrawn number q → p ≡ q }
 {}

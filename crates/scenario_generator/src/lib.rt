@@ -1,5 +1,5 @@
-//! The scenario of a number: a network of bridges and stations, streams, and what happens in it, all drawn from
-//! a number of 32 bits, so that each number names one scenario for good.
+//! The scenario of a number: a network of bridges and stations, streams, and what happens in it,
+//! all drawn from a number of 32 bits, so that each number names one scenario for good.
 //!
 //! ```text
 //! number --> draws     state x -> (x * 1,664,525 + 1,013,904,223) mod 2^32; a draw of m is (x / 65,536) mod m
@@ -11,15 +11,16 @@
 //!        --> Scenario
 //! ```
 //!
-//! A draw is named by its place in the order of the draws (`draw number place m` of `specs/Draws`), so the
-//! definition of the scenario (`specs/Network`, `specs/Streams`, `specs/Events`) says of each value which draw
-//! it is, and not how they are gone through. `IsDrawn` (`specs/Generated`) is all of it. `generate` answers a
-//! scenario of which it holds, for every number, or that memory ran out; that the scenario keeps the rules of a
-//! file is in its type, and `one_scenario` says that each number has one scenario alone.
+//! A draw is named by its place in the order of the draws (`draw number place m` of `specs/Draws`),
+//! so the definition of the scenario (`specs/Network`, `specs/Streams`, `specs/Events`) says of
+//! each value which draw it is, and not how they are gone through. `IsDrawn` (`specs/Generated`) is
+//! all of it. `generate` answers a scenario of which it holds, for every number, or that memory ran
+//! out; that the scenario keeps the rules of a file is in its type, and `one_scenario` says that
+//! each number has one scenario alone.
 //!
-//! A further value of an entry takes its draw behind those of the same entry: its place is a line in the
-//! definition of the entry and one in its function in `src/`; where an entry has more draws than before, the
-//! places of all behind it move, and `most_draws` with them.
+//! A further value of an entry takes its draw behind those of the same entry: its place is a line
+//! in the definition of the entry and one in its function in `src/`; where an entry has more draws
+//! than before, the places of all behind it move, and `most_draws` with them.
 #![tactic(auto)]
 
 mod draws;

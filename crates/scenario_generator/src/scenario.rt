@@ -109,12 +109,13 @@ fn make_traffic(alloc: Global, draws: &Draws, links: &[LinkEntry]) -> Result<Tra
     Ok(Traffic { streams, events })
 }
 
-/// The scenario of a number: 4,000 ticks of a network of 2 to 8 bridges and 4 to 9 stations, with 2 to 16
-/// streams.
+/// The scenario of a number: 4,000 ticks of a network of 2 to 8 bridges and 4 to 9 stations, with 2
+/// to 16 streams.
 ///
 /// # Errors
 ///
-/// `NoMemory` comes where memory for it runs out, and is the one other answer: every number has a scenario.
+/// `NoMemory` comes where memory for it runs out, and is the one other answer: every number has a
+/// scenario.
 pub fn generate(alloc: Global, number: u32) -> Result<Scenario, NoMemory>
     ensures { IfOk result (λ s. IsDrawn number s) }
 {

@@ -6,15 +6,21 @@ use Rattle.srp_base.specs.{first_where}
 -- ---- a search at its places
 
 -- the element at a place passes
-pub where-here : {A : Type 0} (test : List A → A → Bool) (xs : List A) (i : ℕ) (d : A) → i < length xs → test (take i xs) (get_or xs i d) ≡ true → first_where test (take i xs) (drop i xs) ≡ Some (i + 1)
+pub where-here : {A : Type 0} (test : List A → A → Bool) (xs : List A) (i : ℕ) (d : A) → i < length xs → test (take i xs) (get_or xs i d) ≡ true
+    → first_where test (take i xs) (drop i xs) ≡ Some (i + 1)
 where-here test xs i d lt t =
     let short : length (take i xs) ≡ i = length-take-le i xs (omega arith) in
-    ap (λ ys. first_where test (take i xs) ys) (drop_more xs i d lt) ∙ ap (λ (b : Bool). cond b (Some (length (take i xs) + 1)) (first_where test (take i xs ++ get_or xs i d ∷ []) (drop (i + 1) xs))) t ∙ ap (λ (n : ℕ). Some (n + 1)) short
+    ap (λ ys. first_where test (take i xs) ys) (drop_more xs i d lt)
+    ∙ ap (λ (b : Bool). cond b (Some (length (take i xs) + 1)) (first_where test (take i xs ++ get_or xs i d ∷ []) (drop (i + 1) xs))) t
+    ∙ ap (λ (n : ℕ). Some (n + 1)) short
 
 -- or it doesn't, and the search goes on
-pub where-later : {A : Type 0} (test : List A → A → Bool) (xs : List A) (i : ℕ) (d : A) → i < length xs → test (take i xs) (get_or xs i d) ≡ false → first_where test (take i xs) (drop i xs) ≡ first_where test (take (i + 1) xs) (drop (i + 1) xs)
+pub where-later : {A : Type 0} (test : List A → A → Bool) (xs : List A) (i : ℕ) (d : A) → i < length xs → test (take i xs) (get_or xs i d) ≡ false
+    → first_where test (take i xs) (drop i xs) ≡ first_where test (take (i + 1) xs) (drop (i + 1) xs)
 where-later test xs i d lt t =
-    ap (λ ys. first_where test (take i xs) ys) (drop_more xs i d lt) ∙ ap (λ (b : Bool). cond b (Some (length (take i xs) + 1)) (first_where test (take i xs ++ get_or xs i d ∷ []) (drop (i + 1) xs))) t ∙ ap (λ ys. first_where test ys (drop (i + 1) xs)) (sym (take_more xs i d lt))
+    ap (λ ys. first_where test (take i xs) ys) (drop_more xs i d lt)
+    ∙ ap (λ (b : Bool). cond b (Some (length (take i xs) + 1)) (first_where test (take i xs ++ get_or xs i d ∷ []) (drop (i + 1) xs))) t
+    ∙ ap (λ ys. first_where test ys (drop (i + 1) xs)) (sym (take_more xs i d lt))
 
 -- up to the end
 pub where-end : {A : Type 0} (test : List A → A → Bool) (xs : List A) (i : ℕ) → length xs ≤ i → first_where test (take i xs) (drop i xs) ≡ None

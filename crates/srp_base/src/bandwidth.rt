@@ -96,8 +96,8 @@ impl Percent {
     }
 }
 
-/// A stream reservation class (IEEE Std 802.1Q-2018, clause 34). Where a port can't book every stream,
-/// those of class A come before those of class B: this project's own rule.
+/// A stream reservation class (IEEE Std 802.1Q-2018, clause 34). Where a port can't book every
+/// stream, those of class A come before those of class B: this project's own rule.
 #[derive(Clone, Copy, PartialEq, Eq, PartialOrd, Ord)]
 pub enum Class {
     /// Class A, measured over intervals of 125 us.

@@ -13,11 +13,12 @@
 //! hexadecimal  read_hex16 read_hex12                            identifiers as 16 digits, addresses as 12
 //! ```
 //!
-//! Contracts see a `Vid`, a `Mac`, a `Percent` and a `Priority` as the number, a `Seq` as the list of its elements,
-//! and each other type as its fields.
+//! Contracts see a `Vid`, a `Mac`, a `Percent` and a `Priority` as the number, a `Seq` as the list
+//! of its elements, and each other type as its fields.
 //!
-//! A word that two crates speak stands here, in the module of its kind; one that a single crate speaks stands
-//! there. A number of a stated range is a type with `new`, `get` and its `Model`, as `Vid` is.
+//! A word that two crates speak stands here, in the module of its kind; one that a single crate
+//! speaks stands there. A number of a stated range is a type with `new`, `get` and its `Model`, as
+//! `Vid` is.
 #![tactic(auto)]
 
 mod bandwidth;

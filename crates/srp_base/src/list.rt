@@ -6,8 +6,8 @@ ghost use Rattle.std.specs.Cmp.Lexicographic.{pointwise, lists_per, lists_equiv}
 use std::alloc::{AllocFailed, Global};
 use std::marker::Model;
 
-/// A list over a vector. Contracts see the list of its elements, so two lists with the same elements
-/// are one value, wherever they lie in memory.
+/// A list over a vector. Contracts see the list of its elements, so two lists with the same
+/// elements are one value, wherever they lie in memory.
 #[derive(Clone, Drop)]
 pub struct Seq<T> {
     items: Vec<T>,

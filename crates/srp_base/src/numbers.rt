@@ -68,8 +68,8 @@ pub struct Cs(pub u64);
 #[derive(Clone, Copy, PartialEq, Eq, PartialOrd, Ord)]
 pub struct Ps(pub u64);
 
-/// A VLAN identifier that a VLAN may have, 1 to 4,094 (IEEE Std 802.1Q-2018, 9.6). Contracts see the
-/// number.
+/// A VLAN identifier that a VLAN may have, 1 to 4,094 (IEEE Std 802.1Q-2018, 9.6). Contracts see
+/// the number.
 #[derive(Clone, Copy, PartialEq, Eq, PartialOrd, Ord)]
 pub struct Vid {
     number: u16,

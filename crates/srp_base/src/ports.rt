@@ -19,8 +19,8 @@ pub struct PortSetup {
     pub period: Cs,
 }
 
-/// What is in force at a port from one tick's steps on: the streams that are booked there, their slopes,
-/// and the VIDs that are registered there.
+/// What is in force at a port from one tick's steps on: the streams that are booked there, their
+/// slopes, and the VIDs that are registered there.
 #[derive(Clone, PartialEq, Eq, Drop)]
 pub struct PortChange {
     /// The port.
@@ -37,8 +37,8 @@ pub struct PortChange {
     pub vids: Seq<Vid>,
 }
 
-/// The changes of all ports over a run, ascending by port and tick. A port without a change so far has
-/// nothing booked and no VID.
+/// The changes of all ports over a run, ascending by port and tick. A port without a change so far
+/// has nothing booked and no VID.
 #[derive(Clone, PartialEq, Eq, Drop)]
 pub struct Timeline {
     /// The changes.

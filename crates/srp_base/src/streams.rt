@@ -47,7 +47,8 @@ impl Priority {
     }
 }
 
-/// What a Listener declares of a stream: FourPackedEvents 1 to 3 (IEEE Std 802.1Q-2018, 35.2.2.7.2).
+/// What a Listener declares of a stream: FourPackedEvents 1 to 3 (IEEE Std 802.1Q-2018,
+/// 35.2.2.7.2).
 #[derive(Clone, Copy, PartialEq, Eq, PartialOrd, Ord)]
 pub enum ListenerKind {
     /// No Listener behind can have the stream.

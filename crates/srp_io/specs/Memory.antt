@@ -11,7 +11,8 @@ pub record Pipe : Type 0 where
   pub octets : List ℕ
   pub step : ℕ
 
--- the same with the numbers of the calls that fail, counted from 1, the calls so far and the faults so far
+-- the same with the numbers of the calls that fail, counted from 1, the calls so far and the faults
+-- so far
 pub record FailingPipe : Type 0 where
   pub octets : List ℕ
   pub step : ℕ

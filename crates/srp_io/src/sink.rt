@@ -37,9 +37,9 @@ pub trait Sink {
     // The faults so far. The count never falls, and rises only in a call that fails.
     ghost faults: { Self → ℕ };
 
-    /// Takes some octets from the front of a piece, as many as it says, and at least one of a piece that
-    /// isn't empty. `Failed` is answered only where the count of faults rose in this call. A refused
-    /// write takes none.
+    /// Takes some octets from the front of a piece, as many as it says, and at least one of a piece
+    /// that isn't empty. `Failed` is answered only where the count of faults rose in this call. A
+    /// refused write takes none.
     fn write(&mut self, piece: &[u8]) -> Result<usize, SinkErr>
         ensures bound { WritesAtMost result piece.now }
         ensures octets { WriteAppends (held self.old) (held self.new) result piece.now }
@@ -66,7 +66,13 @@ impl Model for MemSink {
 
     ghost Value = { FailingPipe };
 
-    ghost view = { λ s. record { octets = s.bytes.items; step = s.step; fails = s.fails.items; calls = s.calls; faults = s.faults } };
+    ghost view = { λ s. record {
+      octets = s.bytes.items;
+      step = s.step;
+      fails = s.fails.items;
+      calls = s.calls;
+      faults = s.faults;
+    } };
 
     ghost invariant = { λ s. 1 ≤ s.step };
 }
@@ -149,7 +155,8 @@ impl Model for PlainSink {
 }
 
 impl PlainSink {
-    /// A sink that holds nothing yet and takes at most `step` octets in a call. `step` is at least 1.
+    /// A sink that holds nothing yet and takes at most `step` octets in a call. `step` is at least
+    /// 1.
     pub fn new(alloc: Global, step: usize) -> PlainSink
         requires { 1 ≤ step }
         ensures { result ≡ record { octets = []; step = step } }

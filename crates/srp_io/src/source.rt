@@ -21,9 +21,9 @@ pub trait Source {
     // The faults so far. The count never falls, and rises only in a call that fails.
     ghost faults: { Self → ℕ };
 
-    /// Gives some of the octets still to come, as many as it says, at the buffer's front. For a buffer
-    /// that isn't empty it gives 0 exactly at the end. A fault is answered only where the count of
-    /// faults rose in this call, and then nothing is given.
+    /// Gives some of the octets still to come, as many as it says, at the buffer's front. For a
+    /// buffer that isn't empty it gives 0 exactly at the end. A fault is answered only where the
+    /// count of faults rose in this call, and then nothing is given.
     fn read(&mut self, buf: &mut [u8]) -> Result<usize, Failed>
         ensures bound { ReadsAtMost result buf.new }
         ensures octets { ReadConsumes (left self.old) (left self.new) result buf.new }
@@ -42,8 +42,8 @@ fn give(octets: &[u8], step: usize, buf: &mut [u8]) -> usize
     count
 }
 
-/// A source over memory: a call gives at most `step` octets, and the calls whose numbers, from 1, are
-/// among `fails` fail and give none. It is for tests of what stands above.
+/// A source over memory: a call gives at most `step` octets, and the calls whose numbers, from 1,
+/// are among `fails` fail and give none. It is for tests of what stands above.
 #[derive(Drop)]
 pub struct MemSource {
     bytes: Vec<u8>,
@@ -60,7 +60,13 @@ impl Model for MemSource {
 
     ghost Value = { FailingPipe };
 
-    ghost view = { λ s. record { octets = drop s.at s.bytes.items; step = s.step; fails = s.fails.items; calls = s.calls; faults = s.faults } };
+    ghost view = { λ s. record {
+      octets = drop s.at s.bytes.items;
+      step = s.step;
+      fails = s.fails.items;
+      calls = s.calls;
+      faults = s.faults;
+    } };
 
     ghost invariant = { λ s. (s.at ≤ length s.bytes.items) × (1 ≤ s.step) };
 }
@@ -70,7 +76,8 @@ impl MemSource {
     pub fn new(bytes: Vec<u8>, step: usize, fails: Vec<u64>) -> MemSource
         requires { 1 ≤ step }
         ensures { result
-            ≡ record { octets = bytes.items; step = step; fails = fails.items; calls = 0; faults = 0 } }
+            ≡ record
+            { octets = bytes.items; step = step; fails = fails.items; calls = 0; faults = 0 } }
     {
         MemSource {
             bytes,

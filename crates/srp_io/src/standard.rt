@@ -1,5 +1,5 @@
-//! Sources and sinks over std's readers and writers: the edge to the outside. They tell of their octets what
-//! the reader or writer tells; the standard streams tell nothing.
+//! Sources and sinks over std's readers and writers: the edge to the outside. They tell of their
+//! octets what the reader or writer tells; the standard streams tell nothing.
 
 ghost use Rattle.std.specs.Prelude.{◌≡◌};
 

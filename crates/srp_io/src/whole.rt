@@ -54,8 +54,8 @@ pub enum WriteErr {
 /// How many octets one turn of reading asks for at most.
 const CHUNK: usize = 4096;
 
-/// The octets of a source up to its end, at most `limit` of them. After an error the source has given
-/// what was read, and those octets are lost.
+/// The octets of a source up to its end, at most `limit` of them. After an error the source has
+/// given what was read, and those octets are lost.
 pub fn read_all<S: Source>(alloc: Global, source: &mut S, limit: usize) -> Result<Vec<u8>, ReadErr>
     requires { limit < 2 ^ 32 }
     // All that was left was read, and it is at most the limit.
@@ -90,8 +90,8 @@ pub fn read_all<S: Source>(alloc: Global, source: &mut S, limit: usize) -> Resul
     Err(ReadErr::TooLong)
 }
 
-/// Writes all of a text. An error says how many octets went out, fewer than all, and they are exactly
-/// the text's first ones.
+/// Writes all of a text. An error says how many octets went out, fewer than all, and they are
+/// exactly the text's first ones.
 pub fn write_whole<K: Sink>(sink: &mut K, text: &[u8]) -> Result<(), WriteErr>
     ensures whole { OnOk result (Appends (K.held sink.old) (K.held sink.new) text.now) }
 

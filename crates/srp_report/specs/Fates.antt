@@ -1,4 +1,5 @@
--- What the code keeps as it reads the fates of a port's copies. No public contract names these words.
+-- What the code keeps as it reads the fates of a port's copies. No public contract names these
+-- words.
 use Rattle.std.specs.Prelude.{ℕ, ◌+◌, List, [], ◌∷◌, codes, if◌then◌else◌}
 use Rattle.std.specs.Fmt.{decimal}
 use Rattle.srp_base.specs.Text.{whole_of}

@@ -1,4 +1,5 @@
--- What is printed of the frames at a port: how many copies came to which fate, and each that departed.
+-- What is printed of the frames at a port: how many copies came to which fate, and each that
+-- departed.
 use Rattle.std.specs.Prelude.{ℕ, ◌==◌, Bool, true, false, nat_le, if◌then◌else◌, List, [], ◌∷◌, ◌++◌, codes, length, filter, filter_map, flat_map, Option, Some, None}
 use Rattle.std.specs.Fmt.{decimal}
 use Rattle.srp_base.specs.Text.{whole_of}

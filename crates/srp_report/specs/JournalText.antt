@@ -1,5 +1,5 @@
--- What is printed of a run's journal: in each tick the scripted events with what became of them, and then the steps
--- in the journal's order. A tick in which nothing happened prints nothing.
+-- What is printed of a run's journal: in each tick the scripted events with what became of them,
+-- and then the steps in the journal's order. A tick in which nothing happened prints nothing.
 use Rattle.std.specs.Prelude.{ℕ, ◌+◌, List, [], ◌∷◌, ◌++◌, codes, flat_map}
 use Rattle.topology_file.specs.Plan.{Plan}
 use Rattle.world_core.specs.declared.{events.WorldReply.WorldReply, journal.NodeSteps.NodeSteps, journal.Tick.Tick}

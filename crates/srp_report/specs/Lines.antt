@@ -1,4 +1,5 @@
--- The lines of a network of streams, beside those that every report has, each by what it tells. A line ends with a line feed.
+-- The lines of a network of streams, beside those that every report has, each by what it tells. A
+-- line ends with a line feed.
 use Rattle.std.specs.Prelude.{ℕ, Bool, if◌then◌else◌, List, [], ◌∷◌, ◌++◌, codes, Option, Some, None}
 use Rattle.std.specs.Fmt.{decimal}
 use Rattle.srp_base.specs.{Hexadecimal.hex16_text, Text.whole_of}
@@ -42,8 +43,8 @@ failure_text failure = whole_of (
 abbrev pub talker_end : ℕ → Registrar → List ℕ
 talker_end latency state = whole_of (decimal latency ∷ codes " " ∷ state_name state ∷ codes "\n" ∷ [])
 
--- `talker P ID advertise latency L S`, or `talker P ID failed bridge B code C latency L S`; of a Talker nothing but what a
--- Talker declares is registered, so that the last case doesn't occur
+-- `talker P ID advertise latency L S`, or `talker P ID failed bridge B code C latency L S`; of a
+-- Talker nothing but what a Talker declares is registered, so that the last case doesn't occur
 abbrev pub talker_line : List ℕ → StreamId → Option MsrpContent → Registrar → List ℕ
 talker_line port stream (Some (Advertise talker)) state =
     talker_start port stream ++ codes " advertise latency " ++ talker_end talker.latency state
@@ -58,14 +59,16 @@ listener_line port stream (Some (Listener kind)) state = whole_of (
     ∷ codes " " ∷ state_name state ∷ codes "\n" ∷ [])
 listener_line port stream _ state = []
 
--- `domain P C priority Q vid V S`, with the SRclassID C; of Domains nothing but a Domain's value is registered, as above
+-- `domain P C priority Q vid V S`, with the SRclassID C; of Domains nothing but a Domain's value is
+-- registered, as above
 abbrev pub domain_line : List ℕ → ℕ → Option MsrpContent → Registrar → List ℕ
 domain_line port class (Some (Domain priority vid)) state = whole_of (
     codes "domain " ∷ port ∷ codes " " ∷ decimal class ∷ codes " priority " ∷ decimal priority ∷ codes " vid " ∷ decimal vid
     ∷ codes " " ∷ state_name state ∷ codes "\n" ∷ [])
 domain_line port class _ state = []
 
--- the line of an attribute of MSRP that is registered with this content; where the scenario has no SRP domains a Domain has none
+-- the line of an attribute of MSRP that is registered with this content; where the scenario has no
+-- SRP domains a Domain has none
 abbrev pub srp_line : Bool → List ℕ → MsrpKey → Option MsrpContent → Registrar → List ℕ
 srp_line domains port (keys.Talker stream) content state = talker_line port stream content state
 srp_line domains port (keys.Listener stream) content state = listener_line port stream content state

@@ -1,5 +1,6 @@
--- What is printed of a run: its length, each port with what it sent, what is registered there and which streams are booked,
--- what each station hears of the streams that it listens to, what became of the frames, and how the network is at the end.
+-- What is printed of a run: its length, each port with what it sent, what is registered there and
+-- which streams are booked, what each station hears of the streams that it listens to, what became
+-- of the frames, and how the network is at the end.
 use Rattle.std.specs.Prelude.{ℕ, Bool, ◌+◌, if◌then◌else◌, List, [], ◌∷◌, ◌++◌, flat_map}
 use Rattle.std.specs.Option.{option_map_or}
 use Rattle.srp_base.specs.Text.{whole_of}
@@ -25,7 +26,8 @@ abbrev pub key_line : Bool → List ℕ → ℕ → NodeState → NodeKey → Li
 key_line domains port at s (Vlan vid) = vlan_line port vid (registrar_at (Vlan vid) at s)
 key_line domains port at s (Srp key) = srp_line domains port key (content_at key at s) (registrar_at (Srp key) at s)
 
--- VIDs, then Talkers, then Listeners, then Domains where the scenario has SRP domains, each ascending
+-- VIDs, then Talkers, then Listeners, then Domains where the scenario has SRP domains, each
+-- ascending
 abbrev pub registered_lines : Bool → List ℕ → ℕ → NodeState → List ℕ
 registered_lines domains port at s = flat_map (key_line domains port at s) (registered_keys at s)
 
@@ -73,15 +75,18 @@ nodes_heard plan n (s ∷ nodes) = node_heard plan (record { 0 = n }) s ++ nodes
 
 -- ---- the report
 
--- what a report has before the lines of the frames: the ticks, the ports, and what the stations hear
+-- what a report has before the lines of the frames: the ticks, the ports, and what the stations
+-- hear
 abbrev pub before_frames : Plan → WorldState → List Tick → List ℕ
 before_frames plan w ticks = whole_of (ticks_line plan.ticks ∷ port_parts plan w ticks ∷ nodes_heard plan 1 w.nodes ∷ [])
 
--- what a report has behind the lines of the frames: whether the network is quiet and in step at the end
+-- what a report has behind the lines of the frames: whether the network is quiet and in step at the
+-- end
 abbrev pub behind_frames : WorldState → List ℕ
 behind_frames w = end_lines (is_quiet w) (is_in_step w)
 
--- of a scenario, the network at the end of its run, the ticks of the run, and the flow of its frames
+-- of a scenario, the network at the end of its run, the ticks of the run, and the flow of its
+-- frames
 abbrev pub report_text : Plan → WorldState → List Tick → List PortFlow → List ℕ
 report_text plan w ticks flows =
     whole_of (before_frames plan w ticks ∷ flow_parts plan w.tree.links flows ∷ behind_frames w ∷ [])

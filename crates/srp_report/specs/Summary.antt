@@ -1,5 +1,5 @@
--- What is printed of a run in short: the sizes of its scenario, what all ports sent together, how many bookings there are and how
--- often Ready is heard at its end, and how the network is then.
+-- What is printed of a run in short: the sizes of its scenario, what all ports sent together, how
+-- many bookings there are and how often Ready is heard at its end, and how the network is then.
 use Rattle.std.specs.Prelude.{ℕ, Bool, true, false, ◌&&◌, List, [], ◌∷◌, codes, length, count_by, sum_by, flat_map, Option, Some}
 use Rattle.std.specs.{Option.option_map_or, Fmt.decimal}
 use Rattle.srp_base.specs.Text.{whole_of}

@@ -1,5 +1,5 @@
--- How the tallies of all ports are kept while the journal is read: a row for each node and a tally for each port,
--- at the places of their numbers. No public contract names these words.
+-- How the tallies of all ports are kept while the journal is read: a row for each node and a tally
+-- for each port, at the places of their numbers. No public contract names these words.
 use Rattle.std.specs.Prelude.{◌≡◌, ℕ, ◌+◌, List, fold, replicate, Option, Some, slice_get, slice_set}
 use Rattle.std.specs.Option.{option_map_or, option_and_then}
 use Rattle.srp_base.specs.declared.numbers.EgressPort.{EgressPort}
@@ -14,7 +14,8 @@ use Rattle.srp_report.specs.Counts.{octets_sent, is_discarded, replies_of, tally
 abbrev pub zero_row : List Tally
 zero_row = replicate 256 zero_tally
 
--- no port of the nodes up to a number has sent or discarded anything: a row for each number from 0 on
+-- no port of the nodes up to a number has sent or discarded anything: a row for each number from 0
+-- on
 abbrev pub zero_rows : ℕ → List (List Tally)
 zero_rows last = replicate (last + 1) zero_row
 

@@ -1,5 +1,5 @@
-//! What became of a port's copies, from one reading of their fates: how many came to which fate, and those that depart, in
-//! the order in which they do.
+//! What became of a port's copies, from one reading of their fates: how many came to which fate,
+//! and those that depart, in the order in which they do.
 
 ghost use Rattle.std.specs.Prelude.{◌≡◌, ◌+◌, ◌<◌, ◌^◌, ◌++◌, ◌∷◌, [], if◌then◌else◌, IfOk, OnOk};
 ghost use Rattle.srp_report.specs.FrameLines.{is_departed as is_departed_spec, is_unbooked_fate as is_unbooked_spec, is_novlan as is_novlan_spec, is_left as is_left_spec, by_start, sent_frames as sent_frames_spec};

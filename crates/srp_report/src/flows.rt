@@ -77,8 +77,8 @@ pub(crate) fn put_fates(out: &mut Vec<u8>, port: &[u8], flow: &PortFlow) -> Resu
     Ok(())
 }
 
-// Takes the memory for the lines of so many departures at once, where it is there: a text that grows little by little is moved
-// again and again.
+// Takes the memory for the lines of so many departures at once, where it is there: a text that
+// grows little by little is moved again and again.
 fn reserve_lines(out: &mut Vec<u8>, count: usize)
     ensures { out.new.items ≡ out.old.items }
 {

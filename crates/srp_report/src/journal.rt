@@ -12,8 +12,9 @@ use std::alloc::{AllocError, Global};
 use topology_file::Scenario;
 use world_core::{Journal, NodeSteps, Tick, WorldReply};
 
-/// The journal of a run of a scenario, in octets: after a first line `journal`, for each tick its scripted events, each with
-/// its entry's number and `done` or `missed`, and then its steps in the journal's order, each with its port and its answer.
+/// The journal of a run of a scenario, in octets: after a first line `journal`, for each tick its
+/// scripted events, each with its entry's number and `done` or `missed`, and then its steps in the
+/// journal's order, each with its port and its answer.
 pub fn journal_text(
     alloc: Global,
     scenario: &Scenario,

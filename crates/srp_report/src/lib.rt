@@ -1,5 +1,6 @@
-//! The texts of a run: its report, which tells what each port of the network sent, what is registered and booked there at
-//! the end, what the stations hear, what became of the frames, and how the network is then; the run in short; and its journal.
+//! The texts of a run: its report, which tells what each port of the network sent, what is
+//! registered and booked there at the end, what the stations hear, what became of the frames, and
+//! how the network is then; the run in short; and its journal.
 //!
 //! ```text
 //!   ticks 1062
@@ -21,31 +22,38 @@
 //!   0 s1>s2 send mvrp sent 12                    and then each step, with its port and its answer
 //! ```
 //!
-//! `report_text` (`specs/Report.antt`) is the text as a function of the scenario, the network at the end of its run,
-//! the ticks of the journal and the flow of the frames. It is made of the lines that every report has (`report_words`)
-//! and of those of `specs/Lines.antt` and `specs/FrameLines.antt`, one definition each. What a port sent is counted
-//! over the answers of the port's own steps in the journal (`specs/Counts.antt`); what is registered is asked of the
-//! port's Registrars, what is booked of its ledger, and what a station hears of the station; what became of the frames
-//! is the fates of the port's flow. So the report tells what happened, and none of it is what the tree or the stations
-//! would have one expect. `journal_text` (`specs/JournalText.antt`) is a function of the scenario and any ticks.
+//! `report_text` (`specs/Report.antt`) is the text as a function of the scenario, the network at
+//! the end of its run, the ticks of the journal and the flow of the frames. It is made of the lines
+//! that every report has (`report_words`) and of those of `specs/Lines.antt` and
+//! `specs/FrameLines.antt`, one definition each. What a port sent is counted over the answers of
+//! the port's own steps in the journal (`specs/Counts.antt`); what is registered is asked of the
+//! port's Registrars, what is booked of its ledger, and what a station hears of the station; what
+//! became of the frames is the fates of the port's flow. So the report tells what happened, and
+//! none of it is what the tree or the stations would have one expect. `journal_text`
+//! (`specs/JournalText.antt`) is a function of the scenario and any ticks.
 //!
-//! `summary_text` (`specs/Summary.antt`) is the run in short: the sizes of its scenario, what all ports sent together, how many
-//! bookings there are and how often Ready is heard at its end, each by the same counts and questions, over all ports and nodes.
+//! `summary_text` (`specs/Summary.antt`) is the run in short: the sizes of its scenario, what all
+//! ports sent together, how many bookings there are and how often Ready is heard at its end, each
+//! by the same counts and questions, over all ports and nodes.
 //!
-//! The report can be made whole (`report`), or piece by piece as it goes out (`Printout` of `printout.rt`): the lines of a port's
-//! frames are then made when they are asked for, so that only one port's are kept at a time.
+//! The report can be made whole (`report`), or piece by piece as it goes out (`Printout` of
+//! `printout.rt`): the lines of a port's frames are then made when they are asked for, so that only
+//! one port's are kept at a time.
 //!
-//! The journal is read once for the report, for all ports together: a tally for each port, at the place of its numbers,
-//! in `tallies.rt`. The report asks for the tally of a port when it comes to its line. The fates of a port are read once
-//! too, in `departures.rt`; its departures are then sorted by start at once, where the definition puts each in its place.
+//! The journal is read once for the report, for all ports together: a tally for each port, at the
+//! place of its numbers, in `tallies.rt`. The report asks for the tally of a port when it comes to
+//! its line. The fates of a port are read once too, in `departures.rt`; its departures are then
+//! sorted by start at once, where the definition puts each in its place.
 //!
-//! A further kind of attribute is a line in `specs/Lines.antt` with its case of `key_line` or `srp_line`, and its writer in
-//! `lines.rt` with its arm of `put_key` or `put_srp`. A further line of a port is a definition there and a piece at the end
-//! of `place_lines`, with its writer in `registered.rt`; one of the network is a piece of `before_frames` or
-//! `behind_frames`, which `report_text` is made of, with its writer in `text.rt`. A further count is a field of `Tally` of
-//! `report_words`, with an arm of `counted` in `tally.rt`. The lines of a journal's events and steps are those of
-//! `journal_lines`. A further sum of a summary is a definition over the ports or nodes of the network with its loop in
-//! `totals.rt`, and a piece of `summary_text` with its writer in `short.rt`.
+//! A further kind of attribute is a line in `specs/Lines.antt` with its case of `key_line` or
+//! `srp_line`, and its writer in `lines.rt` with its arm of `put_key` or `put_srp`. A further line
+//! of a port is a definition there and a piece at the end of `place_lines`, with its writer in
+//! `registered.rt`; one of the network is a piece of `before_frames` or `behind_frames`, which
+//! `report_text` is made of, with its writer in `text.rt`. A further count is a field of `Tally` of
+//! `report_words`, with an arm of `counted` in `tally.rt`. The lines of a journal's events and
+//! steps are those of `journal_lines`. A further sum of a summary is a definition over the ports or
+//! nodes of the network with its loop in `totals.rt`, and a piece of `summary_text` with its writer
+//! in `short.rt`.
 #![tactic(auto)]
 
 mod departures;

@@ -28,8 +28,8 @@ pub(crate) fn put_vlan(
     put(out, &registered)
 }
 
-/// The line of an attribute of MSRP that is registered at a port with this content; where there are no SRP domains a Domain
-/// has none.
+/// The line of an attribute of MSRP that is registered at a port with this content; where there are
+/// no SRP domains a Domain has none.
 pub(crate) fn put_srp(
     out: &mut Vec<u8>,
     domains: bool,

@@ -1,4 +1,5 @@
-//! A run's report, made piece by piece: the lines of a port's departures are made when they are asked for.
+//! A run's report, made piece by piece: the lines of a port's departures are made when they are
+//! asked for.
 
 ghost use Rattle.std.specs.Prelude.{◌≡◌, ◌++◌, ◌<◌, [], None, length, OnOk, OnErr, IfOk, IfSome};
 ghost use Rattle.srp_base.specs.Text.{whole_of};
@@ -65,7 +66,8 @@ impl Printout {
         }
     }
 
-    /// The report of a run of a scenario, as `report` makes it. The lines of a port's frames are made when they are handed out.
+    /// The report of a run of a scenario, as `report` makes it. The lines of a port's frames are
+    /// made when they are handed out.
     pub fn of_run(
         alloc: Global,
         scenario: &Scenario,
@@ -95,8 +97,8 @@ impl Printout {
         Ok(())
     }
 
-    /// Hands out the next piece of the text, or None at its end. After want of memory the text is as it was, and isn't at its
-    /// end.
+    /// Hands out the next piece of the text, or None at its end. After want of memory the text is
+    /// as it was, and isn't at its end.
     pub fn next_piece(&mut self) -> Result<Option<Vec<u8>>, NoMemory>
         ensures piece { IfOk result
             (λ o. IfSome o (λ piece. IsFront piece.items self.old self.new)) }

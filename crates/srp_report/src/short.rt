@@ -11,10 +11,12 @@ use std::alloc::{AllocError, Global};
 use topology_file::Scenario;
 use world_core::Run;
 
-/// The summary of a run of a scenario, in octets, a line for each number: how many nodes, links and streams the scenario has,
-/// and for how many ticks of 1 cs it runs; how many PDUs the ports sent, all together, and their octets; at the end how many
-/// bookings the ports have, a stream counted at each port that has booked it, and for how many pairs of a station and a stream
-/// the station hears Ready; and whether the network is quiet and in step then. Each sum stands still at the end of 64 bits.
+/// The summary of a run of a scenario, in octets, a line for each number: how many nodes, links and
+/// streams the scenario has, and for how many ticks of 1 cs it runs; how many PDUs the ports sent,
+/// all together, and their octets; at the end how many bookings the ports have, a stream counted at
+/// each port that has booked it, and for how many pairs of a station and a stream the station hears
+/// Ready; and whether the network is quiet and in step then. Each sum stands still at the end of 64
+/// bits.
 pub fn summary(alloc: Global, scenario: &Scenario, run: &Run) -> Result<Vec<u8>, NoMemory>
     ensures { IfOk result (λ text. text.items
         ≡ summary_text scenario.now run.now.world run.now.journal.ticks) }

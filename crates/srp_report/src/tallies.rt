@@ -28,7 +28,8 @@ impl Model for NodeTallies {
     ghost view = { λ t. t.ports.items };
 }
 
-/// The tallies of all ports: those of each node at the place of its number. Contracts see a list of lists.
+/// The tallies of all ports: those of each node at the place of its number. Contracts see a list of
+/// lists.
 #[derive(Drop)]
 pub(crate) struct Tallies {
     nodes: Vec<NodeTallies>,

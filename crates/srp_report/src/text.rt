@@ -13,14 +13,16 @@ use std::alloc::Global;
 use topology_file::Scenario;
 use world_core::Run;
 
-/// The report of a run of a scenario, in octets: its length in ticks; for each port, link by link, end `a` first, how many
-/// PDUs it sent, their octets, and how many malformed PDUs it discarded, then each VID, each Talker with why it failed, if
-/// it did, and its latency in ns, and each stream with Listeners with what they declare (35.2.2.7.2), all that is registered
-/// there with its Registrar's state, IN or LV (IEEE Std 802.1Q-2018, 10.7.8), and each stream that is booked there with its
-/// slope in bit/s and the moment in cs since when; for each station, in the order of the nodes, what it hears of each stream
-/// that it listens to, in the order of the file; where the scenario has frames, for each port of their flow how many copies
-/// came to which fate, and each that departed, ascending by start, in bit times of the port from the run's start; and
-/// whether the network is quiet and in step at the end.
+/// The report of a run of a scenario, in octets: its length in ticks; for each port, link by link,
+/// end `a` first, how many PDUs it sent, their octets, and how many malformed PDUs it discarded,
+/// then each VID, each Talker with why it failed, if it did, and its latency in ns, and each stream
+/// with Listeners with what they declare (35.2.2.7.2), all that is registered there with its
+/// Registrar's state, IN or LV (IEEE Std 802.1Q-2018, 10.7.8), and each stream that is booked there
+/// with its slope in bit/s and the moment in cs since when; for each station, in the order of the
+/// nodes, what it hears of each stream that it listens to, in the order of the file; where the
+/// scenario has frames, for each port of their flow how many copies came to which fate, and each
+/// that departed, ascending by start, in bit times of the port from the run's start; and whether
+/// the network is quiet and in step at the end.
 pub fn report(
     alloc: Global,
     scenario: &Scenario,

@@ -49,7 +49,8 @@ fn tally_of_port(world: &World, ticks: &[Tick], tallies: &Tallies, at: EgressPor
     tallies.at(at).unwrap_or(Tally::zero())
 }
 
-/// How many streams are booked at the ports of all links, each counted at each port that has booked it.
+/// How many streams are booked at the ports of all links, each counted at each port that has booked
+/// it.
 pub(crate) fn booked_in_all(alloc: Global, world: &World) -> Result<u64, NoMemory>
     ensures { IfOk result (λ count. count ≡ booked_count world.now) }
 {

@@ -51,8 +51,8 @@ abbrev pub with_steps : NodeNo → List NodeStep → List NodeSteps → List Nod
 with_steps n [] made = made
 with_steps n (st ∷ steps) made = made ++ (record { node = n; steps = st ∷ steps }) ∷ []
 
--- The nodes up to number x have made their jobs of a tick, each in the canonical order: with their answers, nodes ascending,
--- and no more than that.
+-- The nodes up to number x have made their jobs of a tick, each in the canonical order: with their
+-- answers, nodes ascending, and no more than that.
 pub record AreSteps (x : ℕ) (w : WorldState) (made : List NodeSteps) : Type 0 where
   pub within : AllByRecursion (λ ns. ns.node.0 ≤ x) made
   pub nodes : AscendByNode made

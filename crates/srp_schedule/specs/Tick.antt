@@ -14,8 +14,9 @@ pub record DuringLaws : Type 0 where
   pub scripted : (plan : Plan) (t : ℕ) → KeepsRules plan → AllByRecursion (IsAllowed plan.tree) (map (λ (e : ℕ × WorldEvent). e.1) (script_at plan t))
   pub carried : (plan : Plan) → KeepsRules plan → AllByRecursion (IsAllowed plan.tree) (map Carry (link_ports plan.tree))
 
--- Tick t of a scenario is made, and has led from the network w to v: the next tick begins with nothing in an outbox, its events
--- come from the cursor on, and who has acted is noted behind the changes of the ticks before.
+-- Tick t of a scenario is made, and has led from the network w to v: the next tick begins with
+-- nothing in an outbox, its events come from the cursor on, and who has acted is noted behind the
+-- changes of the ticks before.
 pub record IsTickMade (plan : Plan) (t : ℕ) (w v : WorldState) (at : ℕ) (before : HistoryState) (made : Tick × HistoryState) : Type 0 where
   pub tick : IsCanonicalTick plan t w made.0
   pub after : v ≡ world_after (tick_events plan t made.0) w

@@ -9,24 +9,28 @@
 //!               clock    every clock goes on by 1 cs
 //! ```
 //!
-//! Script and carrying are calls of world_core, `make_events` and `carry_sent`, since they have no order of their own.
+//! Script and carrying are calls of world_core, `make_events` and `carry_sent`, since they have no
+//! order of their own.
 //!
-//! The contract of `plain_run` is the definition of world_core: the ticks of the journal lead from the scenario's start to the
-//! network that is handed out, each of them legal, and each node's steps in the canonical order (`AreCanonicalTicks`); and the
-//! timeline is that of these ticks (`IsTimelineOf`). It has no condition, and its one failure is want of memory.
+//! The contract of `plain_run` is the definition of world_core: the ticks of the journal lead from
+//! the scenario's start to the network that is handed out, each of them legal, and each node's
+//! steps in the canonical order (`AreCanonicalTicks`); and the timeline is that of these ticks
+//! (`IsTimelineOf`). It has no condition, and its one failure is want of memory.
 //!
-//! A node's jobs may be asked for when its turn comes, after the steps of other nodes, since a step of a port changes its own
-//! node alone. The events of a file don't fall in their ticks, so a place in the list of events, `IsCursor` of
-//! world_core, stands between those of earlier ticks and the others: no tick goes over all of them. A node that is
-//! known to rest isn't asked for its jobs (`rest`). One that has nothing to do in a tick takes no memory, and one that only
-//! sends isn't noted, since nothing that is in force at its ports has changed then; so the changes stand in a list for each
-//! port while the run goes on (`History` of world_core), and become one timeline at its end.
+//! A node's jobs may be asked for when its turn comes, after the steps of other nodes, since a step
+//! of a port changes its own node alone. The events of a file don't fall in their ticks, so a place
+//! in the list of events, `IsCursor` of world_core, stands between those of earlier ticks and the
+//! others: no tick goes over all of them. A node that is known to rest isn't asked for its jobs
+//! (`rest`). One that has nothing to do in a tick takes no memory, and one that only sends isn't
+//! noted, since nothing that is in force at its ports has changed then; so the changes stand in a
+//! list for each port while the run goes on (`History` of world_core), and become one timeline at
+//! its end.
 //!
-//! Beside it `generate`, which makes the scenario of a number, is handed on as scenario_generator has it: a run of it is the
-//! plain run of what it answers.
+//! Beside it `generate`, which makes the scenario of a number, is handed on as scenario_generator
+//! has it: a run of it is the plain run of what it answers.
 //!
-//! A further kind of event is an arm of `world_event` (`src/script.rt` of world_core), a further kind of step a turn in
-//! `src/order.rt` with its place in `order_of` (`specs/Order.antt`).
+//! A further kind of event is an arm of `world_event` (`src/script.rt` of world_core), a further
+//! kind of step a turn in `src/order.rt` with its place in `order_of` (`specs/Order.antt`).
 #![tactic(auto)]
 
 mod order;

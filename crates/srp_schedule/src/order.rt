@@ -23,8 +23,8 @@ pub(crate) enum Turn {
     Sends,
 }
 
-/// The jobs of a node in one tick, each with its port: all Works, then all Dues, then all Settles, then all Sends, ports
-/// ascending in each.
+/// The jobs of a node in one tick, each with its port: all Works, then all Dues, then all Settles,
+/// then all Sends, ports ascending in each.
 pub(crate) fn jobs_in_order(
     alloc: Global,
     world: &World,

@@ -16,8 +16,8 @@ use world_core::World;
 pub(crate) enum Rest {
     /// Nothing. Where it makes no step in its turn, it is asked then whether it is at rest.
     Unknown,
-    /// Nothing, and it isn't asked whether it is at rest until it has made a step or PDUs have been carried. Its jobs are
-    /// asked for in each tick.
+    /// Nothing, and it isn't asked whether it is at rest until it has made a step or PDUs have been
+    /// carried. Its jobs are asked for in each tick.
     Awake,
     /// It has nothing to do but send up to this moment, in cs, unless something happens to it.
     UpTo(Cs),
@@ -57,8 +57,8 @@ pub(crate) fn rests_now(node: &Node, rest: Rest) -> bool
     }
 }
 
-/// What is known of a node behind its turn in a tick: nothing where it has made a step; else what was known of it, or what it
-/// answers where it was to be asked.
+/// What is known of a node behind its turn in a tick: nothing where it has made a step; else what
+/// was known of it, or what it answers where it was to be asked.
 pub(crate) fn rest_after(node: &Node, rest: Rest, has_made: bool) -> Rest
     requires { has_made ≡ false → IsRestOf rest node.now.state }
     ensures { IsRestOf result node.now.state }

@@ -19,9 +19,10 @@ use world_core::timeline_laws::{
 };
 use world_core::{History, Journal, Run, Tick, World, WorldEvent, carry_sent, make_events};
 
-/// Runs a scenario to its end: in each tick its events, each node's steps in the canonical order (all Works, then all Dues,
-/// then all Settles, then all Sends, ports ascending in each), the carrying of each port's PDUs, and the clock. Answers the
-/// network at the end, the journal of all ticks, and the timeline of what was in force at each port after each tick's steps.
+/// Runs a scenario to its end: in each tick its events, each node's steps in the canonical order
+/// (all Works, then all Dues, then all Settles, then all Sends, ports ascending in each), the
+/// carrying of each port's PDUs, and the clock. Answers the network at the end, the journal of all
+/// ticks, and the timeline of what was in force at each port after each tick's steps.
 pub fn plain_run(alloc: Global, scenario: &Scenario) -> Result<Run, NoMemory>
     ensures ticks { IfOk result (λ run. AreCanonicalTicks scenario.now run.journal.ticks
         run.world) }
@@ -66,7 +67,8 @@ pub fn plain_run(alloc: Global, scenario: &Scenario) -> Result<Run, NoMemory>
     })
 }
 
-// Runs tick t, whose first event stands at the cursor, if it has one, and notes it behind the ticks before.
+// Runs tick t, whose first event stands at the cursor, if it has one, and notes it behind the ticks
+// before.
 fn make_tick(
     alloc: Global,
     scenario: &Scenario,

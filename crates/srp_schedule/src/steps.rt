@@ -14,8 +14,9 @@ use std::alloc::Global;
 use world_core::laws::what_is_allowed_may_happen;
 use world_core::{NodeSteps, World, WorldEvent, WorldReply};
 
-/// Lets every node make its steps of one tick, and answers them: nodes ascending, those of each in the canonical order, and
-/// none of a node that has nothing to do. A node that is known to rest isn't asked.
+/// Lets every node make its steps of one tick, and answers them: nodes ascending, those of each in
+/// the canonical order, and none of a node that has nothing to do. A node that is known to rest
+/// isn't asked.
 pub(crate) fn make_steps(
     alloc: Global,
     world: &mut World,
@@ -50,7 +51,8 @@ fn push_steps(made: &mut Vec<NodeSteps>, node: NodeNo, steps: Vec<NodeStep>) -> 
     Ok(())
 }
 
-// Lets a node make its steps of one tick, none where it is known to rest, and keeps what is known of it behind them.
+// Lets a node make its steps of one tick, none where it is known to rest, and keeps what is known
+// of it behind them.
 fn make_or_rest(
     alloc: Global,
     world: &mut World,

@@ -1,4 +1,5 @@
--- The parts of what is audited: a scenario, the line `=== output`, and what was printed of a run of it, with its journal.
+-- The parts of what is audited: a scenario, the line `=== output`, and what was printed of a run of
+-- it, with its journal.
 use Rattle.std.specs.Prelude.{◌≡◌, ◌⊎◌, ℕ, ◌+◌, nat_eq, ◌||◌, if◌then◌else◌, Bool, false, List, [], ◌∷◌, ◌++◌, codes, length, Option, Some, None}
 use Rattle.std.specs.{List.AllByRecursion, Cmp.Lexicographic.pointwise}
 use Rattle.srp_base.specs.Text.{whole_of}
@@ -8,13 +9,15 @@ use Rattle.journal_audit.specs.Texts.{lines_of}
 abbrev pub is_line : List ℕ → List ℕ → Bool
 is_line word line = pointwise nat_eq line (word ++ codes "\n") || pointwise nat_eq line word
 
--- the lines before the first one that is a word, behind so many that aren't, and the lines behind it
+-- the lines before the first one that is a word, behind so many that aren't, and the lines behind
+-- it
 abbrev pub parted_from : List ℕ → List (List ℕ) → List (List ℕ) → Option (List (List ℕ) × List (List ℕ))
 parted_from word before [] = None
 parted_from word before (line ∷ lines) =
     if is_line word line then Some (before, lines) else parted_from word (before ++ line ∷ []) lines
 
--- what stands before the first line of a text that is a word, how many lines these are, and what stands behind it
+-- what stands before the first line of a text that is a word, how many lines these are, and what
+-- stands behind it
 pub record PartedText : Type 0 where
   pub before : List ℕ
   pub lines : ℕ
@@ -27,8 +30,8 @@ as_text (Some parts) = Some (record { before = whole_of parts.0; lines = length 
 abbrev pub parted_at : List ℕ → List ℕ → Option PartedText
 parted_at word text = as_text (parted_from word [] (lines_of text))
 
--- What is audited: a scenario, and a report and a journal of a run of it. Behind the cut the line `journal` has this number,
--- counted from 1.
+-- What is audited: a scenario, and a report and a journal of a run of it. Behind the cut the line
+-- `journal` has this number, counted from 1.
 pub record AuditParts : Type 0 where
   pub scenario : List ℕ
   pub report : List ℕ

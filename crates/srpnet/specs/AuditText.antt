@@ -1,4 +1,5 @@
--- What `srpnet audit` says of a scenario, and of a report and a journal of a run of it that nobody vouches for.
+-- What `srpnet audit` says of a scenario, and of a report and a journal of a run of it that nobody
+-- vouches for.
 use Rattle.std.specs.Prelude.{◌≡◌, ◌⊎◌, ℕ, suc, ◌+◌, List, codes, Option, Some, None, Result, Ok, Err}
 use Rattle.srp_base.specs.declared.ports.PortChange.{PortChange}
 use Rattle.frame_flow.specs.declared.result.PortFlow.{PortFlow}
@@ -10,7 +11,8 @@ use Rattle.srp_report.specs.Report.{report_text}
 use Rattle.srpnet.specs.declared.{outcome.Cause.Cause, outcome.Cause.TheVariants.Done, outcome.Cause.TheVariants.AuditNo}
 use Rattle.srpnet.specs.{AuditParts.AuditParts, AuditParts.audit_parts, Differ.IsFirstDifferent, RunText.HoldsThroughout, RunText.IsRun, ScenarioInput.scenario_input}
 
--- a legal run of a scenario that a journal's text is of, with the flow of its frames; and what holds of it
+-- a legal run of a scenario that a journal's text is of, with the flow of its frames; and what
+-- holds of it
 pub record IsRunOf (plan : Plan) (journal : List ℕ) (ticks : List Tick) (world : WorldState) (flows : List PortFlow) : Type 0 where
   pub changes : List PortChange
   pub run : IsRun AreLegalTicks plan ticks world changes flows
@@ -32,8 +34,8 @@ pub record IsJournalRefused (plan : Plan) (parts : AuditParts) (line why : ℕ) 
   pub none : (ticks : List Tick) (world : WorldState) → IsJournalOf plan parts.journal ticks world → ⊥
   pub line_is : line ≡ parts.marked + number
 
--- no, in the report: the journal is of a legal run, and this line is the first in which the report isn't that of the run, or
--- the line `journal` where it ends too early
+-- no, in the report: the journal is of a legal run, and this line is the first in which the report
+-- isn't that of the run, or the line `journal` where it ends too early
 pub record IsReportRefused (plan : Plan) (parts : AuditParts) (line why : ℕ) : Type 0 where
   pub ticks : List Tick
   pub world : WorldState

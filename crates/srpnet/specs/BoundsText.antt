@@ -1,4 +1,5 @@
--- What `srpnet run bounds` prints behind the report: how long class B waits at each port, at most and at worst.
+-- What `srpnet run bounds` prints behind the report: how long class B waits at each port, at most
+-- and at worst.
 use Rattle.std.specs.Prelude.{ℕ, ◌==◌, if◌then◌else◌, List, [], ◌∷◌, codes, length, flat_map}
 use Rattle.std.specs.Fmt.{decimal}
 use Rattle.srp_base.specs.Text.{whole_of}

@@ -25,8 +25,8 @@ run_lines plan = whole_of (
 abbrev pub check_text : Plan → List ℕ
 check_text plan = network_lines plan ++ run_lines plan
 
--- The output of the command `check` for an input of these octets: they are a scenario, and the text is
--- that of its counts.
+-- The output of the command `check` for an input of these octets: they are a scenario, and the text
+-- is that of its counts.
 pub record CheckOutput (octets text : List ℕ) : Type 0 where
   pub plan : Plan
   pub read : scenario_input octets ≡ Ok plan

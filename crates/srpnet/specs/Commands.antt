@@ -1,4 +1,5 @@
--- The commands. Each has a line in `reads_input`, `runs`, `Output` and `IsEndingOf`, and a row in the table of words.
+-- The commands. Each has a line in `reads_input`, `runs`, `Output` and `IsEndingOf`, and a row in
+-- the table of words.
 use Rattle.std.specs.Prelude.{◌≡◌, ℕ, Bool, true, false, List}
 use Rattle.world_core.specs.declared.journal.Tick.{Tick}
 use Rattle.world_core.specs.Ticks.{AreCanonicalTicks, AreLegalTicks}
@@ -7,7 +8,8 @@ use Rattle.srpnet.specs.declared.{words.Command.Command, outcome.Cause.Cause, ou
 use Rattle.srpnet.specs.declared.words.Command.TheVariants.{Ledger, Check, Explain, ExplainLedger, Run, RunJournal, RunBounds, Ports, PortsJournal, Margins, Audit, Groups, Decode, Generate, Help, Version}
 use Rattle.srpnet.specs.{Input.ending, ScenarioInput.scenario_input, AuditText.AuditOutput, AuditText.IsAuditEnding, CheckText.CheckOutput, ExplainText.explanation, ExplainText.table_in, GeneratedText.GeneratedOutput, GroupsText.GroupsOutput, GroupsText.group_input, LedgerInput.ledger_input, LedgerText.LedgerOutput, MarginsText.margins_alone, Pages.help_page, Pages.version_page, RunText.RunOutput, RunText.report_alone, RunText.report_and_journal, RunText.report_and_bounds}
 
--- whether it reads an input; the pages read none, and neither does what makes its scenario of a number
+-- whether it reads an input; the pages read none, and neither does what makes its scenario of a
+-- number
 abbrev pub reads_input : Command → Bool
 reads_input Ledger = true
 reads_input Check = true

@@ -7,8 +7,8 @@ use Rattle.srpnet.specs.{Outcomes.IsRefusedInput, Outcomes.IsWriteFault, Outcome
 use Rattle.world_core.specs.declared.journal.Tick.{Tick}
 
 -- A command is carried out on a source of the type I and an out sink of the type O, before the call
--- and after it. What they tell of their octets and how many faults they count is `left`, `held` and the
--- two `faults`. The ticks are those of the journal that the call hands back.
+-- and after it. What they tell of their octets and how many faults they count is `left`, `held` and
+-- the two `faults`. The ticks are those of the journal that the call hands back.
 pub record CarriedOut {I O : Type 0} (left : I → Option (List ℕ)) (in_faults : I → ℕ)
     (held : O → Option (List ℕ)) (out_faults : O → ℕ)
     (command : Command) (source source' : I) (out out' : O) (cause : Cause) (ticks : List Tick) : Type 0 where
@@ -31,21 +31,21 @@ pub record CarriedOut {I O : Type 0} (left : I → Option (List ℕ)) (in_faults
   -- and nothing else makes a count rise
   pub read_counts : (cause ≡ ReadFault → ⊥) → in_faults source' ≡ in_faults source
   pub write_counts : (IsWriteFault cause → ⊥) → out_faults out' ≡ out_faults out
-  -- the input is too long exactly where one octet past the most was taken with no fault before: a read
-  -- fault comes while at most the most was taken
+  -- the input is too long exactly where one octet past the most was taken with no fault before: a
+  -- read fault comes while at most the most was taken
   pub in_time : cause ≡ ReadFault → TookAtMost most_octets (left source) (left source')
   pub too_long : cause ≡ TooLong → TookPast most_octets (left source) (left source')
   -- the input is refused only where its octets, read to the end, are refused for this cause
   pub refused : IsRefusedInput cause → Refuses command (left source) (left source') cause
   -- the words were good
   pub good_words : cause ≡ BadWords → ⊥
-  -- where neither the source nor the out sink fails in this call, the ending is the expected one for the
-  -- octets that the source tells, or want of memory
+  -- where neither the source nor the out sink fails in this call, the ending is the expected one
+  -- for the octets that the source tells, or want of memory
   pub ends : (octets : List ℕ) → left source ≡ Some octets
       → (Rose (in_faults source) (in_faults source') → ⊥) → (Rose (out_faults out) (out_faults out') → ⊥)
       → IsPlainEnding command octets cause ⊎ (cause ≡ NoMemory)
-  -- a command that reads no input leaves the source as it was, and goes out whatever the source is: no cause of bad input
-  -- comes, so that it ends as done, by a write fault, or for want of memory
+  -- a command that reads no input leaves the source as it was, and goes out whatever the source is:
+  -- no cause of bad input comes, so that it ends as done, by a write fault, or for want of memory
   pub unread : ReadsNothing command → source' ≡ source
   pub unread_ends : ReadsNothing command → (Rose (out_faults out) (out_faults out') → ⊥)
       → (cause ≡ Done) ⊎ (cause ≡ NoMemory)

@@ -1,4 +1,5 @@
--- What `srpnet explain` and `srpnet explain ledger` print: why a file is refused, in words, or that it keeps all rules.
+-- What `srpnet explain` and `srpnet explain ledger` print: why a file is refused, in words, or that
+-- it keeps all rules.
 use Rattle.std.specs.Prelude.{ℕ, List, [], codes, Result, Ok, Err}
 use Rattle.toml.specs.Data.{Members, no_members}
 use Rattle.rule_words.specs.Refusal.{refusal_text}
@@ -23,7 +24,8 @@ table_or_none (Err cause) = no_members
 abbrev pub table_in : List ℕ → Members
 table_in octets = table_or_none (or_not_toml (document octets))
 
--- what is said of a file of this table that ends so where it is judged; it ends with none but these three
+-- what is said of a file of this table that ends so where it is judged; it ends with none but these
+-- three
 abbrev pub explanation : Cause → Members → List ℕ
 explanation Done ms = kept_words
 explanation NotToml ms = not_toml_words

@@ -11,8 +11,9 @@ use Rattle.srpnet.specs.RunText.{IsReported, Text}
 abbrev pub summary_alone : Text
 summary_alone plan ticks world flows = summary_text plan world ticks
 
--- The output of `gen` for a number, with the ticks of its run: the scenario is the number's, and the text is what is printed of
--- that run of it. What holds of the run is as where a scenario is read.
+-- The output of `gen` for a number, with the ticks of its run: the scenario is the number's, and
+-- the text is what is printed of that run of it. What holds of the run is as where a scenario is
+-- read.
 pub record GeneratedOutput (number : ℕ) (ticks : List Tick) (text : List ℕ) : Type 0 where
   pub plan : Plan
   pub drawn : IsDrawn number plan

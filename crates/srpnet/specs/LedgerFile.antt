@@ -9,7 +9,8 @@ use Rattle.toml_rules.specs.{Fields.number, Fields.tables, Fields.has_only, Shar
 use Rattle.srpnet.specs.declared.{ledger.file.LedgerWant.LedgerWant, ledger.file.LedgerFile.LedgerFile}
 use Rattle.srpnet.specs.LedgerWant.{want_entry}
 
--- the keys of a ledger file: the port's rate, the shares of its SR classes (deltaBandwidth), the wants
+-- the keys of a ledger file: the port's rate, the shares of its SR classes (deltaBandwidth), the
+-- wants
 abbrev pub file_keys : List (List ℕ)
 file_keys = codes "rate" ∷ codes "delta_a" ∷ codes "delta_b" ∷ codes "want" ∷ []
 
@@ -30,8 +31,8 @@ different (k ∷ ks) = k ∷ filter (λ j. not (j == k)) (different ks)
 abbrev pub streams_of : List LedgerWant → List ℕ
 streams_of wants = map (λ w. w.want.stream.0) wants
 
--- the number of the first want with which the different streams are more than 128, where these StreamIDs
--- stand in front
+-- the number of the first want with which the different streams are more than 128, where these
+-- StreamIDs stand in front
 abbrev pub first_crowd : List ℕ → List ℕ → Option ℕ
 first_crowd front [] = None
 first_crowd front (k ∷ ks) =

@@ -1,5 +1,5 @@
--- What `srpnet ledger` prints: a line for each stream in the order of first mention, and two lines of sums.
--- It is judged at the moment of the last want.
+-- What `srpnet ledger` prints: a line for each stream in the order of first mention, and two lines
+-- of sums. It is judged at the moment of the last want.
 use Rattle.std.specs.Prelude.{◌≡◌, ◌≢◌, ℕ, ◌+◌, ◌==◌, List, [], ◌∷◌, ◌++◌, codes, find, reverse, Option, Some, None, IsSome, option_map, Ok}
 use Rattle.std.specs.{Option.option_map_or, Fmt.decimal}
 use Rattle.srp_base.specs.declared.{numbers.Cs.Cs, numbers.StreamId.StreamId, bandwidth.Class.TheVariants.A, bandwidth.Class.TheVariants.B}
@@ -26,8 +26,8 @@ abbrev pub sum_line : List ℕ → ℕ → ℕ → List ℕ
 sum_line classes sum cap = whole_of (
     codes "slope " ∷ classes ∷ codes " " ∷ decimal sum ∷ codes " cap " ∷ decimal cap ∷ codes "\n" ∷ [])
 
--- the line of a want by its booking; a want that is kept and isn't booked doesn't fit, so that the last
--- case doesn't occur (`HasLines`)
+-- the line of a want by its booking; a want that is kept and isn't booked doesn't fit, so that the
+-- last case doesn't occur (`HasLines`)
 abbrev pub line_by : Want → Fit → Option Cs → List ℕ
 line_by want fit (Some since) = booked_line want since
 line_by want (TooLittle more cap code) None = refused_line want more cap code
@@ -64,9 +64,9 @@ sum_lines book =
 abbrev pub ledger_text : LedgerFile → Book → List ℕ
 ledger_text file book = stream_lines book file.wants file.streams ++ sum_lines book
 
--- The output of the command `ledger` for an input of these octets: they are a ledger file, its wants lead
--- from a port that no stream wants to some state, the text is that of this state, and each stream that the
--- file mentions has its line there.
+-- The output of the command `ledger` for an input of these octets: they are a ledger file, its
+-- wants lead from a port that no stream wants to some state, the text is that of this state, and
+-- each stream that the file mentions has its line there.
 pub record LedgerOutput (octets text : List ℕ) : Type 0 where
   pub file : LedgerFile
   pub book : Book

@@ -34,7 +34,8 @@ pub record IsPrinted {O : Type 0} (held : O → Option (List ℕ)) (faults : O �
   pub memory : cause ≡ NoMemory → PartOf (held out) (held out') text
   pub only : EndsWriting cause
 
--- What was made was let out, with the ticks of its run; or nothing was, for the cause for which there is none.
+-- What was made was let out, with the ticks of its run; or nothing was, for the cause for which
+-- there is none.
 abbrev pub IsLetOut : {O : Type 0} → (O → Option (List ℕ)) → (O → ℕ) → O → O → Result CommandOutput Cause → Cause → List Tick → Type 0
 IsLetOut held faults out out' (Ok made) cause ticks = IsPrinted held faults out out' made.text cause × (ticks ≡ made.journal.ticks)
 IsLetOut held faults out out' (Err why) cause ticks = (cause ≡ why) × (ticks ≡ []) × (out' ≡ out)

@@ -60,8 +60,8 @@ fixed_text (WriteFault written) = codes "srpnet: write fault\n"
 fixed_text (AuditNo line why) = []
 fixed_text NoMemory = codes "srpnet: no memory\n"
 
--- the text of a cause; a broken rule is named by its number and its first failing entry, and what an audit refuses by its line
--- and by why
+-- the text of a cause; a broken rule is named by its number and its first failing entry, and what
+-- an audit refuses by its line and by why
 abbrev pub err_text : Cause → List ℕ
 err_text (BadScenario rule entry) = whole_of (
     codes "srpnet: rule " ∷ decimal rule ∷ codes " entry " ∷ decimal entry ∷ codes "\n" ∷ [])

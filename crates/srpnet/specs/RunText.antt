@@ -1,5 +1,6 @@
--- What `srpnet run`, `srpnet ports`, both with `journal` behind them, and `srpnet run bounds` print: the report of a run of the
--- scenario, and behind it what happened, or how long class B waits; and what holds of that run.
+-- What `srpnet run`, `srpnet ports`, both with `journal` behind them, and `srpnet run bounds`
+-- print: the report of a run of the scenario, and behind it what happened, or how long class B
+-- waits; and what holds of that run.
 use Rattle.std.specs.Prelude.{◌≡◌, ℕ, List, ◌++◌, All, Ok}
 use Rattle.srp_base.specs.declared.{numbers.StreamId.StreamId, ports.PortChange.PortChange}
 use Rattle.frame_flow.specs.declared.result.PortFlow.{PortFlow}
@@ -13,9 +14,10 @@ use Rattle.srp_report.specs.{Report.report_text, JournalText.journal_text}
 use Rattle.scenario_bounds.specs.PortBounds.{IsWithinBoundB}
 use Rattle.srpnet.specs.{BoundsText.bound_lines, ScenarioInput.scenario_input}
 
--- A run of a scenario with these ticks: they lead from its start to a network, in the canonical order where one thread runs it,
--- in one of the legal orders where each port has a thread; what was in force at each port in each tick; and the flow of the
--- scenario's frames through the shapers by what was in force.
+-- A run of a scenario with these ticks: they lead from its start to a network, in the canonical
+-- order where one thread runs it, in one of the legal orders where each port has a thread; what was
+-- in force at each port in each tick; and the flow of the scenario's frames through the shapers by
+-- what was in force.
 pub record IsRun (Lead : Plan → List Tick → WorldState → Type 0) (plan : Plan) (ticks : List Tick) (world : WorldState)
     (changes : List PortChange) (flows : List PortFlow) : Type 0 where
   pub lead : Lead plan ticks world
@@ -29,9 +31,10 @@ pub record HoldsAt (plan : Plan) (w : WorldState) : Type 0 where
   pub stream_duties : AreStreamDutiesMet w
   -- no port has booked past its limit
   pub limits : IsWithinLimits plan w
-  -- and where the network is at rest, a VID is registered at a port exactly where a station behind it has declared it; a
-  -- station that listens, other than the Talker's own, hears Ready exactly where every port on the way has booked the stream;
-  -- and a refusal for want of bandwidth is due to the more important bookings of a port on the way
+  -- and where the network is at rest, a VID is registered at a port exactly where a station behind
+  -- it has declared it; a station that listens, other than the Talker's own, hears Ready exactly
+  -- where every port on the way has booked the stream; and a refusal for want of bandwidth is due
+  -- to the more important bookings of a port on the way
   pub vlans : IsAtRest w → VlansMatch w
   pub streams : IsAtRest w → (stream : StreamId) → KeepsStreamLaws w stream
 
@@ -39,8 +42,8 @@ pub record HoldsAt (plan : Plan) (w : WorldState) : Type 0 where
 pub record HoldsThroughout (plan : Plan) (ticks : List Tick) (flows : List PortFlow) : Type 0 where
   -- at every moment, losses, repeats and forged PDUs included
   pub moments : (w : WorldState) → IsMoment plan ticks w → HoldsAt plan w
-  -- at every port, over every window of its bit times, class A has the line for no more than its bound, with the credits of
-  -- the port's cap
+  -- at every port, over every window of its bit times, class A has the line for no more than its
+  -- bound, with the credits of the port's cap
   pub windows : All (HasWindowsOfCap (λ p. (caps_at plan p).class_a)) flows
   -- and class B no more than its own, where no frame of it waits longer than its bound says
   pub class_b : All (IsWithinBoundB plan) flows
@@ -63,7 +66,8 @@ abbrev pub report_and_bounds : Text
 report_and_bounds plan ticks world flows =
     report_text plan world ticks flows ++ bound_lines plan flows
 
--- a run with these ticks, in such an order, the text that is printed of just this run, and what holds of it
+-- a run with these ticks, in such an order, the text that is printed of just this run, and what
+-- holds of it
 pub record IsReported (Lead : Plan → List Tick → WorldState → Type 0) (text_of : Text) (plan : Plan) (ticks : List Tick)
     (text : List ℕ) : Type 0 where
   pub world : WorldState
@@ -73,8 +77,8 @@ pub record IsReported (Lead : Plan → List Tick → WorldState → Type 0) (tex
   pub printed : text ≡ text_of plan ticks world flows
   pub holds : HoldsThroughout plan ticks flows
 
--- The output of a command that runs a network, for an input of these octets, with the ticks of its run: they are a scenario,
--- and the text is what is printed of that run of it.
+-- The output of a command that runs a network, for an input of these octets, with the ticks of its
+-- run: they are a scenario, and the text is what is printed of that run of it.
 pub record RunOutput (Lead : Plan → List Tick → WorldState → Type 0) (text_of : Text) (octets : List ℕ) (ticks : List Tick)
     (text : List ℕ) : Type 0 where
   pub plan : Plan

@@ -32,7 +32,8 @@ pub record Refuses (command : Command) (before after : Option (List ℕ)) (cause
 -- ---- Writing
 
 -- a command's output: of the octets that the source gave, which are all that it had, for a command
--- that reads an input; with the ticks of its run, of which there are none for a command that runs nothing
+-- that reads an input; with the ticks of its run, of which there are none for a command that runs
+-- nothing
 pub record IsOutput (command : Command) (before after : Option (List ℕ)) (ticks : List Tick) (text : List ℕ)
     : Type 0 where
   pub octets : List ℕ
@@ -60,8 +61,8 @@ pub record PartOf (held now : Option (List ℕ)) (text : List ℕ) : Type 0 wher
   pub appended : Appends held now (take written text)
   pub short : written < length text
 
--- writing stopped in a piece of a text, before which so many octets of the text had gone out: some octets of the piece went out,
--- fewer than all, and with them so many of the text
+-- writing stopped in a piece of a text, before which so many octets of the text had gone out: some
+-- octets of the piece went out, fewer than all, and with them so many of the text
 pub record StoppedIn (held now : Option (List ℕ)) (piece : List ℕ) (before written : ℕ) : Type 0 where
   pub count : ℕ
   pub sum : written ≡ before + count

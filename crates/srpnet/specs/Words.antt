@@ -33,8 +33,8 @@ form_of_word word =
 abbrev pub decoding_of_word : List ℕ → Option Command
 decoding_of_word word = option_map Decode (form_of_word word)
 
--- the number below 2 ^ 32 that a word writes: it is what is written of the number in decimal, so that it has no sign and no
--- leading zero
+-- the number below 2 ^ 32 that a word writes: it is what is written of the number in decimal, so
+-- that it has no sign and no leading zero
 abbrev pub number_of_word : List ℕ → Option ℕ
 number_of_word word =
     if nat_lt (digits_value 10 word) (2 ^ 32) && pointwise nat_eq word (decimal (digits_value 10 word))

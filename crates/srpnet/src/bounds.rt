@@ -1,4 +1,5 @@
-//! The command `run bounds`: the report of a run, and behind it how long class B waits at each port, at most and at worst.
+//! The command `run bounds`: the report of a run, and behind it how long class B waits at each
+//! port, at most and at worst.
 
 pub mod text;
 

@@ -19,8 +19,8 @@ use std::sync::Wait;
 use std::thread::Threads;
 use world_core::Journal;
 
-/// What a command makes: the text that it prints, which is made piece by piece, and the journal of the run that it made,
-/// empty where it made none.
+/// What a command makes: the text that it prints, which is made piece by piece, and the journal of
+/// the run that it made, empty where it made none.
 #[derive(Drop)]
 pub struct CommandOutput {
     pub text: Printout,
@@ -38,7 +38,8 @@ fn text_alone(alloc: Global, text: Seq<u8>) -> CommandOutput
     }
 }
 
-/// Whether a command reads an input; the pages read none, and neither does what makes its scenario of a number.
+/// Whether a command reads an input; the pages read none, and neither does what makes its scenario
+/// of a number.
 pub fn reads_input(command: Command) -> bool
     ensures { result ≡ reads_input_spec command }
 {
@@ -60,8 +61,8 @@ pub fn reads_input(command: Command) -> bool
     }
 }
 
-/// What a command that starts no thread prints for the octets of its input, with the journal of its run, or why there is
-/// nothing to print.
+/// What a command that starts no thread prints for the octets of its input, with the journal of its
+/// run, or why there is nothing to print.
 pub fn output(alloc: Global, command: Command, octets: &[u8]) -> Result<CommandOutput, Cause>
     requires few { length octets.now ≤ most_octets }
     requires plain { IsPlain command }
@@ -89,8 +90,8 @@ pub fn output(alloc: Global, command: Command, octets: &[u8]) -> Result<CommandO
     }
 }
 
-/// What a command that starts threads prints for the octets of its input, with the journal of its run, or why there is nothing
-/// to print.
+/// What a command that starts threads prints for the octets of its input, with the journal of its
+/// run, or why there is nothing to print.
 pub fn output_by_threads<R: Threads + Wait + Sync>(
     rt: &R,
     alloc: Global,

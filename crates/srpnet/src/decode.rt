@@ -11,7 +11,8 @@ use pdu_words::decoded_text;
 use srp_base::Seq;
 use std::alloc::Global;
 
-/// What the PDUs in the lines of an input say, as PDUs of this application. A line that breaks, or has no octets, says so.
+/// What the PDUs in the lines of an input say, as PDUs of this application. A line that breaks, or
+/// has no octets, says so.
 pub fn output(alloc: Global, form: AppForm, octets: &[u8]) -> Result<Seq<u8>, Cause>
     requires { length octets.now ≤ most_octets }
     ensures output { IfOk result (λ text. text ≡ decoded_text_spec form octets.now) }

@@ -1,4 +1,5 @@
-//! The commands `explain` and `explain ledger`: why a file is refused, in words, or that it keeps all rules.
+//! The commands `explain` and `explain ledger`: why a file is refused, in words, or that it keeps
+//! all rules.
 
 ghost use Rattle.std.specs.Prelude.{◌≡◌, IfOk, IfErr};
 ghost use Rattle.toml.specs.View.{table_view};
@@ -27,8 +28,8 @@ const KEPT: &str = "keeps all rules\n";
 /// What is said of octets that are no TOML document.
 const NOT_TOML: &str = "not TOML\nasks: the octets are UTF-8 and a TOML document\n";
 
-/// What is said of a scenario file: that it keeps all rules, or the first that it breaks, as `check` names it, with what it
-/// asks and what stands there.
+/// What is said of a scenario file: that it keeps all rules, or the first that it breaks, as
+/// `check` names it, with what it asks and what stands there.
 pub fn output(alloc: Global, octets: &[u8]) -> Result<Seq<u8>, Cause>
     ensures output { IfOk result (λ text. text
         ≡ explanation (ending (scenario_input octets.now)) (table_in octets.now)) }

@@ -14,7 +14,8 @@ use srp_schedule::generate;
 use std::alloc::Global;
 use topology_file::Scenario;
 
-/// What `gen` prints for a number with the journal of its run, or that memory ran out: every number has a scenario.
+/// What `gen` prints for a number with the journal of its run, or that memory ran out: every number
+/// has a scenario.
 pub fn output(alloc: Global, number: u32) -> Result<CommandOutput, Cause>
     ensures output { IfOk result (λ o. GeneratedOutput number o.journal.ticks o.text) }
     ensures ends { EndsAs Cause.Done result }

@@ -1,4 +1,5 @@
-//! The command `groups`: a network that runs MMRP through the ticks of a group scenario, and which groups are registered where.
+//! The command `groups`: a network that runs MMRP through the ticks of a group scenario, and which
+//! groups are registered where.
 
 ghost use Rattle.std.specs.Prelude.{◌≡◌, IfOk, IfErr};
 ghost use Rattle.srpnet.specs.GroupsText.{GroupsOutput, IsGroupsRun, group_input as group_input_spec};

@@ -21,13 +21,14 @@
 //! outcome    causes, their statuses and their texts
 //! ```
 //!
-//! The top call's contract is one record, `IsEnding`: which words are bad, which text goes out for which
-//! input, and why each other status comes.
+//! The top call's contract is one record, `IsEnding`: which words are bad, which text goes out for
+//! which input, and why each other status comes.
 //!
-//! To add a command: a module with its input, its text and its `output`, as `ledger` has; a row of the
-//! table in `words`; an arm in `reads_input` and `output` of `commands`; and a line in each definition of
-//! `specs/Words.antt` and `specs/Commands.antt`. A new cause has a line in `place_of_cause`, `status_of` and
-//! `err_text` of `specs/Outcomes.antt`, and in `status_of` and `tell` of `outcome`.
+//! To add a command: a module with its input, its text and its `output`, as `ledger` has; a row of
+//! the table in `words`; an arm in `reads_input` and `output` of `commands`; and a line in each
+//! definition of `specs/Words.antt` and `specs/Commands.antt`. A new cause has a line in
+//! `place_of_cause`, `status_of` and `err_text` of `specs/Outcomes.antt`, and in `status_of` and
+//! `tell` of `outcome`.
 #![tactic(auto)]
 
 mod audit;

@@ -1,4 +1,5 @@
-//! The command `margins`: what each port of the network at the end of a run has left, and the shapers of its classes.
+//! The command `margins`: what each port of the network at the end of a run has left, and the
+//! shapers of its classes.
 
 ghost use Rattle.std.specs.Prelude.{◌≡◌, IfOk, IfErr};
 ghost use Rattle.world_core.specs.Ticks.{AreCanonicalTicks};

@@ -24,15 +24,15 @@ pub enum Cause {
     TooLong,
     /// The input isn't TOML. Status 5.
     NotToml,
-    /// The first rule that the file breaks, with its first failing entry, 0 for the file as a whole.
-    /// Status 6.
+    /// The first rule that the file breaks, with its first failing entry, 0 for the file as a
+    /// whole. Status 6.
     BadScenario { rule: u8, entry: u32 },
     /// The out sink counted a fault; exactly the first `written` octets of the output went out.
     /// Status 7.
     WriteFault { written: u64 },
-    /// The answer of an audit is no: at this line of the output, counted from 1, or 0 where a line is missing that parts the
-    /// input (`why` 1); 2: the line isn't of the form of a journal; 3: no legal journal agrees with it; 4: the report differs.
-    /// Status 8.
+    /// The answer of an audit is no: at this line of the output, counted from 1, or 0 where a line
+    /// is missing that parts the input (`why` 1); 2: the line isn't of the form of a journal; 3: no
+    /// legal journal agrees with it; 4: the report differs. Status 8.
     AuditNo { line: u64, why: u8 },
     /// Want of memory. Status 9.
     NoMemory,
@@ -83,7 +83,8 @@ pub struct Outcome {
     /// The exit status.
     pub status: u8,
     pub cause: Cause,
-    /// What happened in the run whose output went out, whole or in part, tick by tick; else it is empty.
+    /// What happened in the run whose output went out, whole or in part, tick by tick; else it is
+    /// empty.
     pub journal: Journal,
 }
 

@@ -1,4 +1,5 @@
-//! The commands `--help` and `--version`: the pages that the program prints without reading anything.
+//! The commands `--help` and `--version`: the pages that the program prints without reading
+//! anything.
 
 ghost use Rattle.std.specs.Prelude.{◌≡◌, IfOk, IfErr};
 ghost use Rattle.srpnet.specs.Outcomes.{EndsAs};

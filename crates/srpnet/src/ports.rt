@@ -1,5 +1,6 @@
-//! The commands `ports` and `ports journal`: a network through the ticks of a scenario with a thread for each port that has
-//! something to do, and of that run what `run` and `run journal` print of theirs.
+//! The commands `ports` and `ports journal`: a network through the ticks of a scenario with a
+//! thread for each port that has something to do, and of that run what `run` and `run journal`
+//! print of theirs.
 
 ghost use Rattle.std.specs.Prelude.{◌≡◌, IfOk, IfErr};
 ghost use Rattle.world_core.specs.Ticks.{AreLegalTicks};

@@ -1,5 +1,5 @@
-//! The commands `run` and `run journal`: a network through the ticks of a scenario, the frames through its shapers, the report
-//! of all that, and behind it what happened.
+//! The commands `run` and `run journal`: a network through the ticks of a scenario, the frames
+//! through its shapers, the report of all that, and behind it what happened.
 
 pub mod text;
 
@@ -76,7 +76,8 @@ pub fn run_of(alloc: Global, scenario: &Scenario) -> Result<RunWithFlow, NoMemor
     with_flow(alloc, scenario, run)
 }
 
-/// A scenario's run with the flow of its frames through the shapers by what was in force in it; and what holds of every run.
+/// A scenario's run with the flow of its frames through the shapers by what was in force in it; and
+/// what holds of every run.
 pub fn with_flow(alloc: Global, scenario: &Scenario, run: Run) -> Result<RunWithFlow, NoMemory>
     requires legal { AreLegalTicks scenario.now run.journal.ticks run.world }
     requires timeline { IsTimelineOf scenario.now run.journal.ticks run.timeline.changes }
@@ -95,7 +96,8 @@ pub fn with_flow(alloc: Global, scenario: &Scenario, run: Run) -> Result<RunWith
     Ok(RunWithFlow { run, flow })
 }
 
-// What holds at every moment of every legal run of a scenario, as the laws of networks say it. It does nothing.
+// What holds at every moment of every legal run of a scenario, as the laws of networks say it. It
+// does nothing.
 fn what_holds_of_every_run()
     ensures { (plan : Plan) (ticks : List Tick) (end w : WorldState) → KeepsRules plan
         → AreLegalTicks plan ticks end

@@ -22,7 +22,8 @@ use std::thread::Threads;
 /// The most octets of an input.
 const MOST_OCTETS: usize = 1_048_576;
 
-/// Reads the input of a command that starts no thread to its end, where it reads one, and makes the command's output.
+/// Reads the input of a command that starts no thread to its end, where it reads one, and makes the
+/// command's output.
 fn read_output<I: Source>(
     alloc: Global,
     command: Command,
@@ -78,8 +79,9 @@ fn print<O: Sink>(out: &mut O, text: Printout) -> Cause
     }
 }
 
-/// Writes a piece of a text, which isn't empty, behind so many octets of it, and answers how many have gone out then. No text of
-/// a scenario that keeps the rules comes near 2^64 octets; one that passed them would end as where memory runs out.
+/// Writes a piece of a text, which isn't empty, behind so many octets of it, and answers how many
+/// have gone out then. No text of a scenario that keeps the rules comes near 2^64 octets; one that
+/// passed them would end as where memory runs out.
 fn print_piece<O: Sink>(out: &mut O, written: u64, piece: &[u8]) -> Result<u64, Cause>
     requires { 0 < length piece.now }
     ensures whole { OnOk result (Appends (O.held out.old) (O.held out.new) piece.now) }
@@ -186,9 +188,10 @@ fn outcome_of<E: Sink>(alloc: Global, ended: Ending, err: &mut E) -> Outcome
     }
 }
 
-/// Does what the words ask for, on one thread, and returns for every source and sink: the words of the commands that start
-/// threads match no row of its table. Want of memory may come at any place after the words; the order of the other refusals is
-/// bad words, reading, TOML, the file's rules, writing. Faults and want of memory of the err sink change nothing.
+/// Does what the words ask for, on one thread, and returns for every source and sink: the words of
+/// the commands that start threads match no row of its table. Want of memory may come at any place
+/// after the words; the order of the other refusals is bad words, reading, TOML, the file's rules,
+/// writing. Faults and want of memory of the err sink change nothing.
 pub fn srp_plain<I: Source, O: Sink, E: Sink>(
     alloc: Global,
     words: &Seq<Seq<u8>>,
@@ -205,8 +208,9 @@ pub fn srp_plain<I: Source, O: Sink, E: Sink>(
     outcome_of(alloc, ended, err)
 }
 
-/// The call of the program's main, with the runtime that it was given: it does the commands that start threads, which may wait
-/// and meet the same clauses if they return, and hands all other words to `srp_plain`.
+/// The call of the program's main, with the runtime that it was given: it does the commands that
+/// start threads, which may wait and meet the same clauses if they return, and hands all other
+/// words to `srp_plain`.
 pub fn srp_main<R: AllocGlobal + Threads + Wait + Sync, I: Source, O: Sink, E: Sink>(
     rt: &R,
     words: &Seq<Seq<u8>>,

@@ -15,7 +15,8 @@ pub enum Command {
     Ledger,
     /// `check`: reads a scenario and prints its counts.
     Check,
-    /// `explain`: reads a scenario and prints why it is refused, in words, or that it keeps all rules.
+    /// `explain`: reads a scenario and prints why it is refused, in words, or that it keeps all
+    /// rules.
     Explain,
     /// `explain ledger`: does the same of a ledger file.
     ExplainLedger,
@@ -23,7 +24,8 @@ pub enum Command {
     Run,
     /// `run journal`: does the same, and prints what happened behind the report.
     RunJournal,
-    /// `run bounds`: does the same, and prints how long class B waits at each port behind the report.
+    /// `run bounds`: does the same, and prints how long class B waits at each port behind the
+    /// report.
     RunBounds,
     /// `ports`: does what `run` does, with a thread for each port that has something to do.
     Ports,
@@ -31,11 +33,14 @@ pub enum Command {
     PortsJournal,
     /// `margins`: reads a scenario, runs it, and prints what each port has left at its end.
     Margins,
-    /// `audit`: reads a scenario and what was printed of a run of it with its journal, and prints that they are right.
+    /// `audit`: reads a scenario and what was printed of a run of it with its journal, and prints
+    /// that they are right.
     Audit,
-    /// `groups`: reads a group scenario, runs MMRP through its ticks and prints which groups are registered where.
+    /// `groups`: reads a group scenario, runs MMRP through its ticks and prints which groups are
+    /// registered where.
     Groups,
-    /// `decode mvrp`, `decode msrp` or `decode mmrp`: reads a capture of PDUs of that application and prints what each says.
+    /// `decode mvrp`, `decode msrp` or `decode mmrp`: reads a capture of PDUs of that application
+    /// and prints what each says.
     Decode(AppForm),
     /// `gen N`: makes the scenario of a number, runs it and prints the summary of its run.
     Generate(u32),
@@ -63,7 +68,8 @@ pub fn starts_threads(command: Command) -> bool
     matches!(command, Command::Ports | Command::PortsJournal)
 }
 
-/// The command of the words on one thread; None exactly where they match no row but one that starts threads. It takes no memory.
+/// The command of the words on one thread; None exactly where they match no row but one that starts
+/// threads. It takes no memory.
 pub fn plain_command_of(words: &Seq<Seq<u8>>) -> Option<Command>
     ensures found { result ≡ plain_command_of_spec words.now }
     ensures plain { IfSome result IsPlain }
@@ -71,7 +77,8 @@ pub fn plain_command_of(words: &Seq<Seq<u8>>) -> Option<Command>
     plain_of(command_of(words))
 }
 
-/// The command of the words that starts threads; None exactly where they match no row of such a one. It takes no memory.
+/// The command of the words that starts threads; None exactly where they match no row of such a
+/// one. It takes no memory.
 pub fn threads_command_of(words: &Seq<Seq<u8>>) -> Option<Command>
     ensures found { IfSome result (λ c. command_of_spec words.now ≡ Some c) }
     ensures threads { IfSome result (λ c. starts_threads_spec c ≡ true) }
@@ -190,7 +197,8 @@ fn number_of_word(word: &[u8]) -> Option<u32>
     }
 }
 
-// The number that a text writes: the one that is read of it, where the text is what is written of that number.
+// The number that a text writes: the one that is read of it, where the text is what is written of
+// that number.
 fn number_of_text(text: &str) -> Option<u32>
     ensures { result ≡ number_of_word_spec text.now }
 {

@@ -1,6 +1,6 @@
--- Which of two entries of a port is more important. The rank is that of a stream's PriorityAndRank (IEEE
--- Std 802.1Q-2018, 35.2.2.8.5). That class A goes before class B, and the earlier booking before the
--- later, is this project's own rule.
+-- Which of two entries of a port is more important. The rank is that of a stream's PriorityAndRank
+-- (IEEE Std 802.1Q-2018, 35.2.2.8.5). That class A goes before class B, and the earlier booking
+-- before the later, is this project's own rule.
 use Rattle.std.specs.Prelude.{◌≢◌, ◌⊎◌, ℕ, Bool, IsTrue, Option, Some, None}
 use Rattle.std.specs.{declared.cmp.Ordering.Ordering, Ordering.nat_cmp, Ordering.ordering_then, Ordering.is_lt, Cmp.IsStrictWeakOrder}
 use Rattle.srp_base.specs.declared.{numbers.Cs.Cs, bandwidth.Class.Class, bandwidth.Class.TheVariants.A, bandwidth.Class.TheVariants.B, bandwidth.Rank.Rank, bandwidth.Rank.TheVariants.Emergency, bandwidth.Rank.TheVariants.Normal}
@@ -21,7 +21,8 @@ abbrev pub moment_or : ℕ → Option Cs → ℕ
 moment_or now None = now
 moment_or now (Some moment) = moment.0
 
--- two entries compared by their class, then their rank, then their moment of booking, then their StreamID
+-- two entries compared by their class, then their rank, then their moment of booking, then their
+-- StreamID
 abbrev pub compare_importance : ℕ → Entry → Entry → Ordering
 compare_importance now x y =
     ordering_then (nat_cmp (class_number x.want.class) (class_number y.want.class))
@@ -33,8 +34,8 @@ compare_importance now x y =
 abbrev pub is_more_important : ℕ → Entry → Entry → Bool
 is_more_important now x y = is_lt (compare_importance now x y)
 
--- at a moment, more important is a strict order in which entries of different streams compare, and it
--- ranks all entries, as a sort asks
+-- at a moment, more important is a strict order in which entries of different streams compare, and
+-- it ranks all entries, as a sort asks
 pub record IsImportanceOrder (now : ℕ) : Type 0 where
   -- of two entries at most one is more important than the other
   pub strict : (x y : Entry) → IsTrue (is_more_important now x y) → IsTrue (is_more_important now y x) → ⊥

@@ -2,8 +2,8 @@
 
 use srp_base::{Class, Cs, Rank, StreamId};
 
-/// What one stream wants of an egress port, by its TSpec and its PriorityAndRank (IEEE Std 802.1Q-2018,
-/// 35.2.2.8.4, 35.2.2.8.5).
+/// What one stream wants of an egress port, by its TSpec and its PriorityAndRank (IEEE Std
+/// 802.1Q-2018, 35.2.2.8.4, 35.2.2.8.5).
 #[derive(Clone, Copy, PartialEq, Eq)]
 pub struct Want {
     /// The stream.
@@ -12,7 +12,8 @@ pub struct Want {
     pub class: Class,
     /// The rank of the stream: 0 for emergency traffic, else 1.
     pub rank: Rank,
-    /// The bandwidth that the stream takes, in bit/s, as `slope_of` gives it; any number of 64 bits.
+    /// The bandwidth that the stream takes, in bit/s, as `slope_of` gives it; any number of 64
+    /// bits.
     pub slope: u64,
 }
 
@@ -32,13 +33,14 @@ pub enum Fit {
     Fits,
     /// It doesn't.
     TooLittle {
-        /// The slopes of the more important booked streams together, in bit/s, without the want's own.
+        /// The slopes of the more important booked streams together, in bit/s, without the want's
+        /// own.
         more_important: u128,
         /// The cap of the want's class, in bit/s: that sum with the want's own slope is above it.
         cap: u128,
-        /// The failure code of a Talker Failed (IEEE Std 802.1Q-2018, 35.2.2.8.7). 6 (preempted by a
-        /// higher rank) where the want is of rank 1 and would fit if the bookings of rank 0 weren't
-        /// there, else 1 (insufficient bandwidth): a want of rank 0 always has 1.
+        /// The failure code of a Talker Failed (IEEE Std 802.1Q-2018, 35.2.2.8.7). 6 (preempted by
+        /// a higher rank) where the want is of rank 1 and would fit if the bookings of rank 0
+        /// weren't there, else 1 (insufficient bandwidth): a want of rank 0 always has 1.
         code: u8,
     },
 }

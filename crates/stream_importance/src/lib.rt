@@ -11,13 +11,14 @@
 //! ```
 //!
 //! The contracts say that a slope is that of the frames with their overhead, that the caps are the
-//! shares of the rate, and that importance is the lexicographic order of those four. That class A goes
-//! first and that the earlier booking counts is this project's own rule. The law
-//! `importance_is_an_order` says that it is a strict order in which any two entries of different streams
-//! compare.
+//! shares of the rate, and that importance is the lexicographic order of those four. That class A
+//! goes first and that the earlier booking counts is this project's own rule. The law
+//! `importance_is_an_order` says that it is a strict order in which any two entries of different
+//! streams compare.
 //!
 //! To extend it: one more thing that decides who is more important is one more comparison in
-//! `compare_importance`, in `specs/Importance.antt` and in `src/order.rt`, at its place in the order.
+//! `compare_importance`, in `specs/Importance.antt` and in `src/order.rt`, at its place in the
+//! order.
 #![tactic(auto)]
 
 mod entry;

@@ -8,9 +8,10 @@ use crate::entry::Entry;
 use srp_base::{Class, Cs, Rank};
 use std::cmp::Ordering;
 
-/// Whether `x` is more important than `y` at the moment `now`, in cs: by the first that differs, class A
-/// before B, rank 0 before 1 (IEEE Std 802.1Q-2018, 35.2.2.8.5), the earlier moment of booking, where none
-/// counts as `now`, and the lower StreamID. Class and age are this project's own rule.
+/// Whether `x` is more important than `y` at the moment `now`, in cs: by the first that differs,
+/// class A before B, rank 0 before 1 (IEEE Std 802.1Q-2018, 35.2.2.8.5), the earlier moment of
+/// booking, where none counts as `now`, and the lower StreamID. Class and age are this project's
+/// own rule.
 pub fn more_important(now: Cs, x: &Entry, y: &Entry) -> bool
     ensures { result ≡ is_more_important now.0 x.now y.now }
 {

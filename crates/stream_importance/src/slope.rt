@@ -27,8 +27,8 @@ impl Caps {
         }
     }
 
-    /// The cap in bit/s that a stream of this class has to keep: for class A that of class A, for class
-    /// B that of both classes.
+    /// The cap in bit/s that a stream of this class has to keep: for class A that of class A, for
+    /// class B that of both classes.
     pub fn of(&self, class: Class) -> u64
         ensures { result ≡ cap_of self.now class }
     {
@@ -39,10 +39,10 @@ impl Caps {
     }
 }
 
-/// The slope in bit/s of a stream of this class whose TSpec has the MaxFrameSize `max_frame`, in octets,
-/// and the MaxIntervalFrames `frames`, the most frames in each class measurement interval (IEEE Std
-/// 802.1Q-2018, 35.2.2.8.4). Each frame counts with 42 octets of overhead (34.4). The greatest is
-/// 275,045,676,480,000.
+/// The slope in bit/s of a stream of this class whose TSpec has the MaxFrameSize `max_frame`, in
+/// octets, and the MaxIntervalFrames `frames`, the most frames in each class measurement interval
+/// (IEEE Std 802.1Q-2018, 35.2.2.8.4). Each frame counts with 42 octets of overhead (34.4). The
+/// greatest is 275,045,676,480,000.
 pub fn slope_of(class: Class, max_frame: u16, frames: u16) -> u64
     ensures { result ≡ slope_of_frames class max_frame frames }
 {

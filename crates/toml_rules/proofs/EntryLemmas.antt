@@ -69,7 +69,8 @@ weighed : {T B : Type 0} (rule : ℕ) (weight : B → ℕ) (said : ℕ → T →
     → each_within rule weight said (i + 1) room (drop i xs) ≡ entry_then rule (i + 1) (light room weight o) (each_within rule weight said (i + 1 + 1) (room - weight_of weight o) (drop (i + 1) xs))
 weighed rule weight said room i xs x o lt is e =
     let cut : drop i xs ≡ x ∷ drop (i + 1) xs = drop_more xs i x lt ∙ ap (λ t. t ∷ drop (i + 1) xs) (sym is) in
-    ap (λ ts. each_within rule weight said (i + 1) room ts) cut ∙ ap (λ v. entry_then rule (i + 1) (light room weight v) (each_within rule weight said (i + 1 + 1) (room - weight_of weight v) (drop (i + 1) xs))) (sym e)
+    ap (λ ts. each_within rule weight said (i + 1) room ts) cut
+    ∙ ap (λ v. entry_then rule (i + 1) (light room weight v) (each_within rule weight said (i + 1 + 1) (room - weight_of weight v) (drop (i + 1) xs))) (sym e)
 
 pub light-fits : {B : Type 0} (room : ℕ) (weight : B → ℕ) (y : B) → weight y ≤ room → light room weight (Some y) ≡ Some y
 light-fits room weight y le = ap (λ (b : Bool). if b then Some y else None) (let e : nat_le (weight y) room ≡ true = grind (arith, nat_tests) in e)
@@ -78,17 +79,22 @@ light-heavy : {B : Type 0} (room : ℕ) (weight : B → ℕ) (y : B) → room < 
 light-heavy room weight y lt = ap (λ (b : Bool). if b then Some y else None) (let e : nat_le (weight y) room ≡ false = grind (arith, nat_tests) in e)
 
 -- one entry more that its rule reads and that there is room for
-pub within-step : {T B : Type 0} (rule : ℕ) (weight : B → ℕ) (said : ℕ → T → Option B) (front more : List B) (room w left i : ℕ) (xs : List T) (x : T) (o : Option B) (y : B) (all : Result (List B) RuleErr)
+pub within-step : {T B : Type 0} (rule : ℕ) (weight : B → ℕ) (said : ℕ → T
+    → Option B) (front more : List B) (room w left i : ℕ) (xs : List T) (x : T) (o : Option B) (y : B) (all : Result (List B) RuleErr)
     → i < length xs → x ≡ get_or xs i x → o ≡ said (i + 1) x → o ≡ Some y → w ≡ weight y → w ≤ room → left ≡ room - w → more ≡ front ++ y ∷ []
     → within_here rule weight said front room i xs ≡ all → within_here rule weight said more left (i + 1) xs ≡ all
 within-step rule weight said front more room w left i xs x o y all lt is e some heavy le less new h =
     let rest = λ (r : ℕ). each_within rule weight said (i + 1 + 1) r (drop (i + 1) xs) in
     let fits = light-fits room weight y (omega (arith, heavy, le)) in
-    let one : each_within rule weight said (i + 1) room (drop i xs) ≡ with_front y (rest (room - weight y)) = weighed rule weight said room i xs x o lt is e ∙ ap (λ v. entry_then rule (i + 1) (light room weight v) (rest (room - weight_of weight v))) some ∙ ap (λ v. entry_then rule (i + 1) v (rest (room - weight y))) fits in
-    ap (λ ys. in_front ys (rest left)) new ∙ ap (λ r. in_front (front ++ y ∷ []) (rest r)) (less ∙ ap (λ t. room - t) heavy) ∙ sym (in_front-step front y (rest (room - weight y))) ∙ ap (λ r. in_front front r) (sym one) ∙ h
+    let one : each_within rule weight said (i + 1) room (drop i xs) ≡ with_front y (rest (room - weight y))
+    = weighed rule weight said room i xs x o lt is e ∙ ap (λ v. entry_then rule (i + 1) (light room weight v) (rest (room - weight_of weight v))) some
+    ∙ ap (λ v. entry_then rule (i + 1) v (rest (room - weight y))) fits in
+    ap (λ ys. in_front ys (rest left)) new ∙ ap (λ r. in_front (front ++ y ∷ []) (rest r)) (less ∙ ap (λ t. room - t) heavy)
+    ∙ sym (in_front-step front y (rest (room - weight y))) ∙ ap (λ r. in_front front r) (sym one) ∙ h
 
 -- an entry that its rule refuses
-pub within-refused : {T B : Type 0} (rule : ℕ) (weight : B → ℕ) (said : ℕ → T → Option B) (front : List B) (room i : ℕ) (xs : List T) (x : T) (o : Option B) (e : RuleErr) (all : Result (List B) RuleErr)
+pub within-refused : {T B : Type 0} (rule : ℕ) (weight : B → ℕ) (said : ℕ → T
+    → Option B) (front : List B) (room i : ℕ) (xs : List T) (x : T) (o : Option B) (e : RuleErr) (all : Result (List B) RuleErr)
     → i < length xs → x ≡ get_or xs i x → o ≡ said (i + 1) x → light room weight o ≡ None → e ≡ fails_at rule (i + 1)
     → within_here rule weight said front room i xs ≡ all → IfSome (broken_rule e) (λ f. all ≡ Err f)
 within-refused rule weight said front room i xs x o e all lt is q none err h =

@@ -25,7 +25,8 @@ pub within-says : {A B : Type 0} (rule n room : ℕ) (weight : B → ℕ) (read 
     → IfOk (each_within rule weight read n room xs) (λ ys. (each_entry rule read n xs ≡ Ok ys) × (sum_by weight ys ≤ room))
 within-says rule n room weight read [] = (refl, omega arith)
 within-says rule n room weight read (x ∷ xs) =
-    entry-says rule n room weight (read n x) (each_within rule weight read (n + 1) (room - weight_of weight (read n x)) xs) (each_entry rule read (n + 1) xs) (within-says rule (n + 1) (room - weight_of weight (read n x)) weight read xs)
+    entry-says rule n room weight (read n x) (each_within rule weight read (n + 1) (room - weight_of weight (read n x)) xs) (each_entry rule read (n + 1) xs)
+    (within-says rule (n + 1) (room - weight_of weight (read n x)) weight read xs)
 
 entry-fits : {B : Type 0} (rule n room : ℕ) (weight : B → ℕ) (o : Option B) (rest whole : Result (List B) RuleErr)
     → IfOk whole (λ zs. sum_by weight zs ≤ room - weight_of weight o → rest ≡ Ok zs)
@@ -42,4 +43,5 @@ pub within-fits : {A B : Type 0} (rule n room : ℕ) (weight : B → ℕ) (read 
     → IfOk (each_entry rule read n xs) (λ ys. sum_by weight ys ≤ room → each_within rule weight read n room xs ≡ Ok ys)
 within-fits rule n room weight read [] = λ le. refl
 within-fits rule n room weight read (x ∷ xs) =
-    entry-fits rule n room weight (read n x) (each_within rule weight read (n + 1) (room - weight_of weight (read n x)) xs) (each_entry rule read (n + 1) xs) (within-fits rule (n + 1) (room - weight_of weight (read n x)) weight read xs)
+    entry-fits rule n room weight (read n x) (each_within rule weight read (n + 1) (room - weight_of weight (read n x)) xs) (each_entry rule read (n + 1) xs)
+    (within-fits rule (n + 1) (room - weight_of weight (read n x)) weight read xs)

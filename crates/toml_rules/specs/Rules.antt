@@ -13,7 +13,8 @@ abbrev pub holds : ℕ → Bool → Result (Unit {0}) RuleErr
 holds rule true = Ok tt
 holds rule false = Err (Rule rule 0)
 
--- the rule fails at this entry, counted from 1; a number past the end of its type stands still there
+-- the rule fails at this entry, counted from 1; a number past the end of its type stands still
+-- there
 abbrev pub fails_at : ℕ → ℕ → RuleErr
 fails_at rule n = Rule rule (min n 4294967295)
 
@@ -32,8 +33,8 @@ abbrev pub entry_then : {B : Type 0} → ℕ → ℕ → Option B → Result (Li
 entry_then rule n None rest = Err (fails_at rule n)
 entry_then rule n (Some y) rest = with_front y rest
 
--- a rule on each entry, the entries numbered from n: what all of them are read as, or the first that
--- the rule refuses
+-- a rule on each entry, the entries numbered from n: what all of them are read as, or the first
+-- that the rule refuses
 abbrev pub each_entry : {A B : Type 0} → ℕ → (ℕ → A → Option B) → ℕ → List A → Result (List B) RuleErr
 each_entry rule read n [] = Ok []
 each_entry rule read n (x ∷ xs) = entry_then rule n (read n x) (each_entry rule read (n + 1) xs)
@@ -53,8 +54,9 @@ abbrev pub weight_of : {B : Type 0} → (B → ℕ) → Option B → ℕ
 weight_of weight None = 0
 weight_of weight (Some y) = weight y
 
--- a rule on each entry as `each_entry`, whose values may weigh so much together: it refuses the first
--- entry too whose value weighs more than what is left. The law `weighing` says what it lets through
+-- a rule on each entry as `each_entry`, whose values may weigh so much together: it refuses the
+-- first entry too whose value weighs more than what is left. The law `weighing` says what it lets
+-- through
 abbrev pub each_within : {A B : Type 0} → ℕ → (B → ℕ) → (ℕ → A → Option B) → ℕ → ℕ → List A → Result (List B) RuleErr
 each_within rule weight read n room [] = Ok []
 each_within rule weight read n room (x ∷ xs) =

@@ -1,4 +1,5 @@
--- The shares of a port's rate that SR class A and class B may have (deltaBandwidth: IEEE Std 802.1Q-2018, 34.3).
+-- The shares of a port's rate that SR class A and class B may have (deltaBandwidth: IEEE Std
+-- 802.1Q-2018, 34.3).
 use Rattle.std.specs.Prelude.{ℕ, ◌+◌, nat_le, if◌then◌else◌, List, codes, Option, Some, None}
 use Rattle.toml.specs.Data.{Members}
 use Rattle.toml_rules.specs.Fields.{◌>>=◌, number_or, within}

@@ -44,8 +44,8 @@ pub fn first_fall<T, F: Fn(&T) -> u64>(entries: &[T], key: F) -> Option<usize>
     None
 }
 
-/// A rule on each entry, the entries numbered from 1: what all of them are read as, or the first that
-/// the rule refuses.
+/// A rule on each entry, the entries numbered from 1: what all of them are read as, or the first
+/// that the rule refuses.
 ///
 /// # Errors
 ///
@@ -90,8 +90,8 @@ pub fn each_table<B: Drop, F: Fn(usize, &Table) -> Result<Option<B>, NoMemory>>(
     each_entry(alloc, rule, tables, |n, table| read(n, table))
 }
 
-/// A rule on each entry as `each_entry`, whose values may weigh so much together: it refuses the first
-/// entry too whose value weighs more than what the values before it left.
+/// A rule on each entry as `each_entry`, whose values may weigh so much together: it refuses the
+/// first entry too whose value weighs more than what the values before it left.
 ///
 /// # Errors
 ///

@@ -38,7 +38,8 @@ pub fn number(table: &Table, key: &str) -> Option<u64>
     }
 }
 
-/// The number at a key, or the default where the key is missing; None where the key has another value.
+/// The number at a key, or the default where the key is missing; None where the key has another
+/// value.
 pub fn number_or(table: &Table, key: &str, default: u64) -> Option<u64>
     ensures { result ≡ number_or_spec key.now default (table_view table.now) }
 {
@@ -48,8 +49,8 @@ pub fn number_or(table: &Table, key: &str, default: u64) -> Option<u64>
     }
 }
 
-/// The truth value at a key, or the default where the key is missing; None where the key has another
-/// value.
+/// The truth value at a key, or the default where the key is missing; None where the key has
+/// another value.
 pub fn truth_or(table: &Table, key: &str, default: bool) -> Option<bool>
     ensures { result ≡ truth_or_spec key.now default (table_view table.now) }
 {
@@ -105,8 +106,8 @@ pub fn has_only(table: &Table, known: &[&str]) -> bool
     all_known(table, known)
 }
 
-/// The tables of an array of tables at a key, in order; a missing key is the empty array. The answer is
-/// None where the value isn't an array of tables.
+/// The tables of an array of tables at a key, in order; a missing key is the empty array. The
+/// answer is None where the value isn't an array of tables.
 pub fn tables<'a>(
     alloc: Global,
     table: &'a Table,

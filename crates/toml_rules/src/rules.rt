@@ -14,8 +14,8 @@ use toml::Table;
 /// Why a file is refused.
 #[derive(Clone, Copy, Debug, PartialEq, Eq, Error)]
 pub enum RuleErr {
-    /// The first rule that fails, with its first failing entry, counted from 1; entry 0 is the file as
-    /// a whole.
+    /// The first rule that fails, with its first failing entry, counted from 1; entry 0 is the file
+    /// as a whole.
     #[error("rule {rule} entry {entry}")]
     Rule { rule: u8, entry: u32 },
     /// Want of memory, which comes at any place.

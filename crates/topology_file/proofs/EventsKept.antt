@@ -162,17 +162,23 @@ kind-known nodes links streams ms word =
     either-if P (is (codes "repeat")) _ _ (at-pdu kinds.Repeat (λ x y n h. h)) (
     either-if P (is (codes "forge")) _ _ (forgery-known nodes links streams ms) tt))))))))
   where
-    at-vlan : (kind : NodeNo → ℕ → EventKind) → ((x : NodeNo) (n : ℕ) → IsAtVlan nodes x.0 n → IsKnownKind nodes links streams (kind x n)) → IfSome (vlan_form kind nodes ms) (λ k. IfSome k (IsKnownKind nodes links streams))
+    at-vlan : (kind : NodeNo → ℕ → EventKind) → ((x : NodeNo) (n : ℕ) → IsAtVlan nodes x.0 n → IsKnownKind nodes links streams (kind x n))
+        → IfSome (vlan_form kind nodes ms) (λ k. IfSome k (IsKnownKind nodes links streams))
     at-vlan kind make =
         parts-if (λ x. IsStationNumber nodes x.0) (λ n. (1 ≤ n) × (n ≤ 4094)) (IsKnownKind nodes links streams) kind (vlan_at nodes ms) (λ x n a b. make x n (a, b.0, b.1)) (vlan-known nodes ms)
 
-    at-talker : (kind : ℕ → EventKind) → ((n : ℕ) → IsStreamNumber streams n → IsKnownKind nodes links streams (kind n)) → IfSome (talker_form kind streams ms) (λ k. IfSome k (IsKnownKind nodes links streams))
+    at-talker : (kind : ℕ → EventKind) → ((n : ℕ) → IsStreamNumber streams n → IsKnownKind nodes links streams (kind n))
+        → IfSome (talker_form kind streams ms) (λ k. IfSome k (IsKnownKind nodes links streams))
     at-talker kind make =
-        map-if _ _ (talker_at streams ms) (λ o e. made-if (IsStreamNumber streams) (IsKnownKind nodes links streams) kind o make (some-says (λ q. IfSome q (IsStreamNumber streams)) (talker_at streams ms) o e (talker-known streams ms)))
+        map-if _ _ (talker_at streams ms)
+        (λ o e. made-if (IsStreamNumber streams) (IsKnownKind nodes links streams) kind o make
+        (some-says (λ q. IfSome q (IsStreamNumber streams)) (talker_at streams ms) o e (talker-known streams ms)))
 
-    at-pdu : (kind : NodeNo → NodeNo → ℕ → EventKind) → ((x y : NodeNo) (n : ℕ) → IsAtPdu nodes links x.0 y.0 n → IsKnownKind nodes links streams (kind x y n)) → IfSome (pdu_form kind nodes links ms) (λ k. IfSome k (IsKnownKind nodes links streams))
+    at-pdu : (kind : NodeNo → NodeNo → ℕ → EventKind) → ((x y : NodeNo) (n : ℕ) → IsAtPdu nodes links x.0 y.0 n → IsKnownKind nodes links streams (kind x y n))
+        → IfSome (pdu_form kind nodes links ms) (λ k. IfSome k (IsKnownKind nodes links streams))
     at-pdu kind make =
-        parts-if (λ x. AreJoinedNumbers nodes links x.0.0 x.1.0) (λ n. n ≤ 65535) (IsKnownKind nodes links streams) (λ x n. kind x.0 x.1 n) (pdu_at nodes links ms) (λ x n a b. make x.0 x.1 n (a, b)) (pdu-known nodes links ms)
+        parts-if (λ x. AreJoinedNumbers nodes links x.0.0 x.1.0) (λ n. n ≤ 65535) (IsKnownKind nodes links streams) (λ x n. kind x.0 x.1 n) (pdu_at nodes links ms)
+        (λ x n a b. make x.0 x.1 n (a, b)) (pdu-known nodes links ms)
 
 -- what an event that has its form keeps
 abbrev FormKeeps : ℕ → List NodeEntry → List LinkEntry → List StreamEntry → EventForm → Type 0

@@ -104,7 +104,8 @@ forms-keep ticks nodes streams entries =
 abbrev EntryKeeps : ℕ → List NodeEntry → List StreamEntry → FrameEntry → Type 0
 EntryKeeps ticks nodes streams f = HasFrameForm ticks f × IsKnownRoute nodes streams f.route
 
-entry-keeps : (ticks : ℕ) (nodes : List NodeEntry) (streams : List StreamEntry) (n : ℕ) (form : FrameForm) → FormKeeps ticks nodes streams form → IfSome (frame_entry n form) (EntryKeeps ticks nodes streams)
+entry-keeps : (ticks : ℕ) (nodes : List NodeEntry) (streams : List StreamEntry) (n : ℕ) (form : FrameForm) → FormKeeps ticks nodes streams form
+    → IfSome (frame_entry n form) (EntryKeeps ticks nodes streams)
 entry-keeps ticks nodes streams n form k =
     made-if (IsKnownRoute nodes streams) (EntryKeeps ticks nodes streams) _ form.route (λ route known. (record { octets = k.1; count = k.2.0; last = k.2.1 }, known)) k.0
 
@@ -129,7 +130,8 @@ frames-keep ticks nodes streams entries =
     chain-if P _ (each_within 23 form_copies (frame_form ticks nodes streams) 1 100000 entries) _ (forms-keep ticks nodes streams entries) (λ forms f.
     (let read = each_entry 24 frame_entry 1 forms in
     ok-all read P (λ frames is.
-    (let counts = ok-says (λ ys. map (λ (x : FrameEntry). x.count) ys ≡ map form_copies forms) read frames is (each-map form_copies (λ (x : FrameEntry). x.count) 24 frame_entry entry-copies 1 forms) in
+    (let counts = ok-says (λ ys. map (λ (x : FrameEntry). x.count) ys ≡ map form_copies forms) read frames is
+    (each-map form_copies (λ (x : FrameEntry). x.count) 24 frame_entry entry-copies 1 forms) in
     let keep = ok-says (All K) read frames is (each-all F K 24 frame_entry (λ n x h. entry-keeps ticks nodes streams n x h) 1 forms f.0) in
     record {
       forms = All-weaker K (HasFrameForm ticks) (λ x h. h.0) frames keep;

@@ -12,11 +12,24 @@ use Rattle.topology_file.specs.{NodeEntry, LinkEntry, StreamEntry, EventEntry, F
 use Rattle.topology_file.proofs.{Chains.within-range, Chains.chain-if, Chains.chain-needs, Chains.chain-holds, Chains.chain-none, NetworkKept.NodesKeep, NetworkKept.nodes-keep, NetworkKept.small-parts, NetworkKept.ids-fit, NetworkKept.names-differ, NetworkKept.ids-differ, NetworkKept.HasShares, NetworkKept.IsKnownLink, NetworkKept.links-keep, NetworkKept.AcceptedLaw, NetworkKept.tree-keeps, NetworkKept.few-links, StreamsKept.StreamsKeep, StreamsKept.streams-keep, EventsKept.EventsKeep, EventsKept.events-keep, FramesKept.FramesKeep, FramesKept.frames-keep}
 
 -- what a scenario keeps, from what its parts were read as
-plan-keeps : AcceptedLaw → (ticks leave_time : ℕ) (periodic domains : Bool) (tree : Topology) (nodes : List NodeEntry) (links : List LinkEntry) (streams : List StreamEntry) (events : List EventEntry) (frames : List FrameEntry)
+plan-keeps : AcceptedLaw
+    → (ticks leave_time : ℕ) (periodic domains : Bool) (tree : Topology) (nodes : List NodeEntry) (links : List LinkEntry) (streams : List StreamEntry) (events : List EventEntry)
+    (frames : List FrameEntry)
     → (1 ≤ ticks) × (ticks ≤ 12000) → (60 ≤ leave_time) × (leave_time ≤ 100)
     → NodesKeep ticks domains nodes → All (IsKnownLink nodes) links → (tree ≡ topology_of nodes links) × (refusal (node_kinds nodes) (tree_links links) ≡ None)
     → first_where (is_crowded tree.links) [] nodes ≡ None → StreamsKeep nodes streams → EventsKeep ticks nodes links streams events → FramesKeep ticks nodes streams frames
-    → KeepsRules (record { ticks = ticks; leave_time = record { 0 = leave_time }; periodic = periodic; domains = domains; tree = tree; nodes = nodes; links = links; streams = streams; events = events; frames = frames })
+    → KeepsRules (record {
+      ticks = ticks;
+      leave_time = record { 0 = leave_time };
+      periodic = periodic;
+      domains = domains;
+      tree = tree;
+      nodes = nodes;
+      links = links;
+      streams = streams;
+      events = events;
+      frames = frames;
+    })
 plan-keeps law ticks leave_time periodic domains tree nodes links streams events frames t l n k r crowd s e f =
     let small = small-parts ticks nodes n.small in
     let C : Topology → Type 0 = λ t. first_where (is_crowded t.links) [] nodes ≡ None in

@@ -199,7 +199,9 @@ node-known name nodes = first-part _ (name-first (has_name name) nodes (first_wh
 pub station-known : (name : List ℕ) (nodes : List NodeEntry) → IfSome (station_named nodes name) (λ x. IsStationNumber nodes x.0)
 station-known name nodes = by _ (name-first (λ x. has_name name x && is_station x.kind) nodes (first_where (λ earlier x. has_name name x && is_station x.kind) [] nodes) refl)
   where
-    by : (o : Option NodeNo) → IfSome o (λ x. IsNode (length nodes) x.0 × ((d : NodeEntry) → (has_name name (get_or nodes (x.0 - 1) d) && is_station (get_or nodes (x.0 - 1) d).kind) ≡ true)) → IfSome o (λ x. IsStationNumber nodes x.0)
+    by : (o : Option NodeNo)
+        → IfSome o (λ x. IsNode (length nodes) x.0 × ((d : NodeEntry) → (has_name name (get_or nodes (x.0 - 1) d) && is_station (get_or nodes (x.0 - 1) d).kind) ≡ true))
+        → IfSome o (λ x. IsStationNumber nodes x.0)
     by None h = tt
     by (Some x) h = (h.0, (λ d. (and_parts (has_name name (get_or nodes (x.0 - 1) d)) (is_station (get_or nodes (x.0 - 1) d).kind) (h.1 d)).1))
 

@@ -55,11 +55,18 @@ rest_of ticks leave_time periodic domains stream_tables event_tables frame_table
     traffic_of ticks n.nodes n.links stream_tables event_tables frame_tables >>= (λ t. Ok (plan_with ticks leave_time periodic domains n t))
 
 parts-plan : (ticks leave_time : ℕ) (periodic domains : Bool) (node_tables link_tables stream_tables event_tables frame_tables : List Members)
-    → (network_of ticks domains node_tables link_tables >>= rest_of ticks leave_time periodic domains stream_tables event_tables frame_tables) ≡ plan_of ticks leave_time periodic domains node_tables link_tables stream_tables event_tables frame_tables
+    → (network_of ticks domains node_tables link_tables >>= rest_of ticks leave_time periodic domains stream_tables event_tables frame_tables)
+    ≡ plan_of ticks leave_time periodic domains node_tables link_tables stream_tables event_tables frame_tables
 parts-plan ticks leave_time periodic domains node_tables link_tables stream_tables event_tables frame_tables =
-    in-fours (nodes_of ticks domains node_tables) (λ nodes. links_of nodes link_tables) (λ nodes links. tree_of nodes links) (λ nodes links tree. no_entry 15 (first_where (is_crowded tree.links) [] nodes)) (λ nodes links tree. record { tree = tree; nodes = nodes; links = links }) (rest_of ticks leave_time periodic domains stream_tables event_tables frame_tables)
-    ∙ then-same (nodes_of ticks domains node_tables) _ _ (λ nodes. then-same (links_of nodes link_tables) _ _ (λ links. then-same (tree_of nodes links) _ _ (λ tree. then-same (no_entry 15 (first_where (is_crowded tree.links) [] nodes)) _ _ (λ _.
-    in-threes (streams_of nodes stream_tables) (λ streams. events_of ticks nodes links streams event_tables) (λ streams events. frames_of ticks nodes streams frame_tables) (λ streams events frames. record { streams = streams; events = events; frames = frames }) (λ t. Ok (plan_with ticks leave_time periodic domains (record { tree = tree; nodes = nodes; links = links }) t))))))
+    in-fours (nodes_of ticks domains node_tables) (λ nodes. links_of nodes link_tables) (λ nodes links. tree_of nodes links)
+    (λ nodes links tree. no_entry 15 (first_where (is_crowded tree.links) [] nodes)) (λ nodes links tree. record { tree = tree; nodes = nodes; links = links })
+    (rest_of ticks leave_time periodic domains stream_tables event_tables frame_tables)
+    ∙ then-same (nodes_of ticks domains node_tables) _ _
+    (λ nodes. then-same (links_of nodes link_tables) _ _
+    (λ links. then-same (tree_of nodes links) _ _ (λ tree. then-same (no_entry 15 (first_where (is_crowded tree.links) [] nodes)) _ _ (λ _.
+    in-threes (streams_of nodes stream_tables) (λ streams. events_of ticks nodes links streams event_tables)
+    (λ streams events. frames_of ticks nodes streams frame_tables) (λ streams events frames. record { streams = streams; events = events; frames = frames })
+    (λ t. Ok (plan_with ticks leave_time periodic domains (record { tree = tree; nodes = nodes; links = links }) t))))))
 
 -- where the network breaks a rule, so does the scenario
 pub network-breaks : (ticks leave_time : ℕ) (periodic domains : Bool) (node_tables link_tables stream_tables event_tables frame_tables : List Members) (broken : Option RuleErr)
@@ -113,7 +120,10 @@ entries-after ticks ms =
     then-same (needs 2 (tables (codes "node") ms)) _ _ (λ node_tables. then-same (needs 2 (tables (codes "link") ms)) _ _ (λ link_tables.
     then-same (needs 2 (tables (codes "stream") ms)) _ _ (λ stream_tables. then-same (needs 2 (tables (codes "event") ms)) _ _ (λ event_tables.
     then-same (needs 2 (tables (codes "frame") ms)) _ _ (λ frame_tables.
-    in-twos (needs 3 (leave_time_at ms)) (needs 3 (truth_or (codes "periodic") false ms)) (λ leave_time periodic. record { ticks = ticks; leave_time = leave_time; periodic = periodic }) (λ times. needs 3 (truth_or (codes "domains") false ms) >>= (λ domains. plan_of times.ticks times.leave_time times.periodic domains node_tables link_tables stream_tables event_tables frame_tables)))))))
+    in-twos (needs 3 (leave_time_at ms)) (needs 3 (truth_or (codes "periodic") false ms))
+    (λ leave_time periodic. record { ticks = ticks; leave_time = leave_time; periodic = periodic })
+    (λ times. needs 3 (truth_or (codes "domains") false ms) >>=
+    (λ domains. plan_of times.ticks times.leave_time times.periodic domains node_tables link_tables stream_tables event_tables frame_tables)))))))
 
 -- where the ticks are read and the keys are known, the scenario is that of the entries
 pub scenario-entries : (ticks : ℕ) (ms : Members) → needs 1 (ticks_at ms) ≡ Ok ticks → holds 2 (has_only file_keys ms) ≡ Ok tt

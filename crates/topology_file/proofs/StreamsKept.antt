@@ -76,7 +76,9 @@ EntryKeeps nodes s = HasStreamForm s × IsStationNumber nodes s.talker.0
 
 entry-keeps : (nodes : List NodeEntry) (n : ℕ) (form : StreamForm) → FormKeeps nodes form → IfSome (stream_entry n form) (EntryKeeps nodes)
 entry-keeps nodes n form k =
-    made-if (λ x. IsStationNumber nodes x.0) (EntryKeeps nodes) _ form.talker (λ x station. (record { name = k.0; id = k.2.id; dest = k.2.dest; octets = k.2.octets; frames = k.2.frames; vid = k.2.vid; priority = k.2.priority }, station)) k.1
+    made-if (λ x. IsStationNumber nodes x.0) (EntryKeeps nodes) _ form.talker
+    (λ x station. (record { name = k.0; id = k.2.id; dest = k.2.dest; octets = k.2.octets; frames = k.2.frames; vid = k.2.vid; priority = k.2.priority }, station))
+    k.1
 
 entry-name : (n : ℕ) (form : StreamForm) → IfSome (stream_entry n form) (λ s. s.name ≡ form.name)
 entry-name n form = map-if _ _ form.talker (λ x e. refl)
@@ -105,8 +107,10 @@ streams-keep nodes entries =
     chain-none P 18 (first_where has_stream_id_of [] forms) _ (λ ids.
     (let read = each_entry 19 stream_entry 1 forms in
     ok-all read P (λ streams is.
-    (let named = ok-says (λ ys. map (λ (s : StreamEntry). s.name) ys ≡ map (λ (x : StreamForm). x.name) forms) read streams is (each-map (λ (x : StreamForm). x.name) (λ (s : StreamEntry). s.name) 19 stream_entry entry-name 1 forms) in
-    let known = ok-says (λ ys. map (λ (s : StreamEntry). s.id.0) ys ≡ map (λ (x : StreamForm). x.values.id.0) forms) read streams is (each-map (λ (x : StreamForm). x.values.id.0) (λ (s : StreamEntry). s.id.0) 19 stream_entry entry-id 1 forms) in
+    (let named = ok-says (λ ys. map (λ (s : StreamEntry). s.name) ys ≡ map (λ (x : StreamForm). x.name) forms) read streams is
+    (each-map (λ (x : StreamForm). x.name) (λ (s : StreamEntry). s.name) 19 stream_entry entry-name 1 forms) in
+    let known = ok-says (λ ys. map (λ (s : StreamEntry). s.id.0) ys ≡ map (λ (x : StreamForm). x.values.id.0) forms) read streams is
+    (each-map (λ (x : StreamForm). x.values.id.0) (λ (s : StreamEntry). s.id.0) 19 stream_entry entry-id 1 forms) in
     let keep = ok-says (All K) read streams is (each-all F K 19 stream_entry (λ n x h. entry-keeps nodes n x h) 1 forms f.0) in
     record {
       many = omega (arith, f.1, alike-length (λ (x : StreamForm). x.name) (λ (s : StreamEntry). s.name) forms streams named);

@@ -1,5 +1,5 @@
--- The nodes and links of a file: their keys, their values and their defaults, and the numbers of the nodes
--- that they name.
+-- The nodes and links of a file: their keys, their values and their defaults, and the numbers of
+-- the nodes that they name.
 use Rattle.std.specs.Prelude.{ℕ, ◌==◌, Bool, true, false, ◌&&◌, ◌||◌, nat_le, nat_eq, if◌then◌else◌, List, [], ◌∷◌, length, codes, Option, Some, None, option_map, option_and_then}
 use Rattle.std.specs.{Cmp.Lexicographic.pointwise, List.list_all}
 use Rattle.srp_base.specs.declared.{bandwidth.Rate.Rate, numbers.NodeNo.NodeNo}
@@ -54,8 +54,8 @@ domain_of_text word =
 abbrev pub domain_of_data : Data → Option DomainWord
 domain_of_data d = option_and_then domain_of_text (as_str d)
 
--- what a `[[node]]` table may say: what the node is called, what it is, its BridgeID, and where the file has
--- domains the node's
+-- what a `[[node]]` table may say: what the node is called, what it is, its BridgeID, and where the
+-- file has domains the node's
 abbrev pub node_keys : Bool → List (List ℕ)
 node_keys false = codes "name" ∷ codes "kind" ∷ codes "id" ∷ []
 node_keys true = codes "name" ∷ codes "kind" ∷ codes "id" ∷ codes "domain" ∷ []
@@ -103,7 +103,8 @@ station_named nodes name = option_map node_no (first_where (λ earlier x. has_na
 
 -- ---- links
 
--- what a `[[link]]` table may say: its ends, its rate, the shares of SR classes A and B, and its latency
+-- what a `[[link]]` table may say: its ends, its rate, the shares of SR classes A and B, and its
+-- latency
 abbrev pub link_keys : List (List ℕ)
 link_keys = codes "a" ∷ codes "b" ∷ codes "rate" ∷ codes "delta_a" ∷ codes "delta_b" ∷ codes "latency" ∷ []
 

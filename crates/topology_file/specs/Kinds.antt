@@ -1,5 +1,5 @@
--- The kinds of events: the keys of each, what it names, and what is known of what it names. A kind is a case
--- of `kind_form` and of `IsKnownKind`.
+-- The kinds of events: the keys of each, what it names, and what is known of what it names. A kind
+-- is a case of `kind_form` and of `IsKnownKind`.
 use Rattle.std.specs.Prelude.{◌≡◌, ◌≢◌, ◌≤◌, ◌<◌, ◌-◌, nat_le, ℕ, true, nat_eq, if◌then◌else◌, List, [], ◌∷◌, length, codes, Option, Some, None, option_map, option_and_then, Result, Ok, Err}
 use Rattle.std.specs.{Cmp.Lexicographic.pointwise, List.AllByRecursion, List.list_any}
 use Rattle.std.proofs.Common.{get_or}
@@ -125,7 +125,8 @@ pdu_form kind nodes links ms = option_map (λ p. option_map (λ x. kind x.0 x.1 
 
 -- ---- a PDU that no neighbour sent
 
--- what an event on a link says of such a PDU: as of one that waits, with its application and its octets
+-- what an event on a link says of such a PDU: as of one that waits, with its application and its
+-- octets
 abbrev pub forgery_keys : List (List ℕ)
 forgery_keys = codes "tick" ∷ codes "kind" ∷ codes "from" ∷ codes "to" ∷ codes "index" ∷ codes "app" ∷ codes "octets" ∷ []
 
@@ -145,7 +146,8 @@ abbrev pub decoded : Result (List ℕ) FromHexError → Option (List ℕ)
 decoded (Ok octets) = Some octets
 decoded (Err e) = None
 
--- the octets that at most 3,000 hexadecimal digits of either case spell, two digits an octet, so 1,500 octets at most
+-- the octets that at most 3,000 hexadecimal digits of either case spell, two digits an octet, so
+-- 1,500 octets at most
 abbrev pub octets_of_text : List ℕ → Option (List ℕ)
 octets_of_text digits = if nat_le (length digits) 3000 then decoded (decode_of digits) else None
 
@@ -167,7 +169,8 @@ forgery_form nodes links ms = if has_only forgery_keys ms then known_forgery nod
 
 -- ---- the kinds
 
--- what happens, by the word of its kind, each with exactly its keys; missing where what it names isn't there
+-- what happens, by the word of its kind, each with exactly its keys; missing where what it names
+-- isn't there
 abbrev pub kind_form : List NodeEntry → List LinkEntry → List StreamEntry → Members → List ℕ → Option (Option EventKind)
 kind_form nodes links streams ms word =
     if pointwise nat_eq word (codes "declare") then vlan_form kinds.Declare nodes ms

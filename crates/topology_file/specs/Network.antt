@@ -8,8 +8,9 @@ use Rattle.tree_topology.specs.{Graph.IsNode, Ports.neighbours, Refusal.IsAccept
 use Rattle.topology_file.specs.declared.{entries.NodeEntry.NodeEntry, entries.LinkEntry.LinkEntry, network.TimedNetwork.TimedNetwork}
 use Rattle.topology_file.specs.{Entries.is_name, Parts.network_of, Parts.times_of, Scenario.ticks_at, Scenario.tree_links, Scenario.node_kinds, Scenario.topology_of}
 
--- The network of a table with its times, or the first rule that fails, with its first failing entry, by the keys
--- `ticks`, `leave_time`, `periodic`, `node` and `link` alone: the rules 1 to 15 of a scenario's file without domains
+-- The network of a table with its times, or the first rule that fails, with its first failing
+-- entry, by the keys `ticks`, `leave_time`, `periodic`, `node` and `link` alone: the rules 1 to 15
+-- of a scenario's file without domains
 abbrev pub timed_network_of : Members → Result TimedNetwork RuleErr
 timed_network_of ms = do
   ticks ← needs 1 (ticks_at ms)
@@ -19,8 +20,8 @@ timed_network_of ms = do
   network ← network_of times.ticks false node_tables link_tables
   Ok (record { times = times; network = network })
 
--- What every network of a file keeps: its numbers have their ranges, names and ids differ, and its nodes and links
--- are an accepted tree.
+-- What every network of a file keeps: its numbers have their ranges, names and ids differ, and its
+-- nodes and links are an accepted tree.
 pub record KeepsNetworkRules (ticks leave_time : ℕ) (tree : Topology) (nodes : List NodeEntry) (links : List LinkEntry) : Type 0 where
   pub ticks_many : (1 ≤ ticks) × (ticks ≤ 12000)
   pub leave : (60 ≤ leave_time) × (leave_time ≤ 100)

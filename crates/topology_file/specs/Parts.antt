@@ -31,8 +31,8 @@ times_of ticks ms = do
   periodic ← needs 3 (truth_or (codes "periodic") false ms)
   Ok (record { ticks = ticks; leave_time = leave_time; periodic = periodic })
 
--- the scenario of so many ticks, of these nodes, links and streams, and of the times, events and frames
--- of a table
+-- the scenario of so many ticks, of these nodes, links and streams, and of the times, events and
+-- frames of a table
 abbrev pub rest_plan : ℕ → Members → List Members → List Members → List Members → Result Plan RuleErr
 rest_plan ticks ms node_tables link_tables stream_tables = do
   event_tables ← needs 2 (tables (codes "event") ms)

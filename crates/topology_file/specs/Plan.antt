@@ -4,7 +4,8 @@ use Rattle.srp_base.specs.declared.numbers.Cs.{Cs}
 use Rattle.tree_topology.specs.Topology.{Topology}
 use Rattle.topology_file.specs.declared.{entries.NodeEntry.NodeEntry, entries.LinkEntry.LinkEntry, entries.StreamEntry.StreamEntry, entries.EventEntry.EventEntry, entries.FrameEntry.FrameEntry}
 
--- its times in cs, the tree of its nodes and links, and its entries, each at the place of its number
+-- its times in cs, the tree of its nodes and links, and its entries, each at the place of its
+-- number
 pub record Plan : Type 0 where
   pub ticks : ℕ
   pub leave_time : Cs

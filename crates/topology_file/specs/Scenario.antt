@@ -104,7 +104,8 @@ has_stream_name_of earlier x = list_any (λ y. pointwise nat_eq y.name x.name) e
 abbrev pub has_stream_id_of : List StreamForm → StreamForm → Bool
 has_stream_id_of earlier x = list_any (λ y. y.values.id.0 == x.values.id.0) earlier
 
--- rules 16 to 19: the streams, numbered from 1: what each Talker declares, and the end station that it is at
+-- rules 16 to 19: the streams, numbered from 1: what each Talker declares, and the end station that
+-- it is at
 abbrev pub streams_of : List NodeEntry → List Members → Result (List StreamEntry) RuleErr
 streams_of nodes entries = do
   forms ← each_entry 16 (stream_form nodes) 1 entries
@@ -114,7 +115,8 @@ streams_of nodes entries = do
 
 -- ---- events
 
--- rules 20 to 22: what applications declare and withdraw, and which PDUs are lost or doubled, tick by tick
+-- rules 20 to 22: what applications declare and withdraw, and which PDUs are lost or doubled, tick
+-- by tick
 abbrev pub events_of : ℕ → List NodeEntry → List LinkEntry → List StreamEntry → List Members → Result (List EventEntry) RuleErr
 events_of ticks nodes links streams entries = do
   forms ← each_entry 20 (event_form ticks nodes links streams) 1 entries
@@ -199,9 +201,10 @@ pub record HasStreamForm (s : StreamEntry) : Type 0 where
   pub vid : (1 ≤ s.vid) × (s.vid ≤ 4094)
   pub priority : s.priority ≤ 7
 
--- What every scenario keeps: its numbers have their ranges, names and ids differ, its nodes and links are
--- an accepted tree, its talkers are stations, its events are in order and speak of what is known, and its frames
--- end in time, are few, and go where they can. Where it has no domains, each node's word is both.
+-- What every scenario keeps: its numbers have their ranges, names and ids differ, its nodes and
+-- links are an accepted tree, its talkers are stations, its events are in order and speak of what
+-- is known, and its frames end in time, are few, and go where they can. Where it has no domains,
+-- each node's word is both.
 pub record KeepsRules (p : Plan) : Type 0 where
   pub ticks : (1 ≤ p.ticks) × (p.ticks ≤ 12000)
   pub leave_time : (60 ≤ p.leave_time.0) × (p.leave_time.0 ≤ 100)

@@ -1,4 +1,5 @@
--- The streams of a file: their keys, their values and their defaults, and the number of the stream of a name.
+-- The streams of a file: their keys, their values and their defaults, and the number of the stream
+-- of a name.
 use Rattle.std.specs.Prelude.{ℕ, ◌==◌, Bool, ◌&&◌, nat_le, nat_eq, if◌then◌else◌, List, [], ◌∷◌, codes, Option, Some, None, option_map, option_and_then}
 use Rattle.std.specs.{Cmp.Lexicographic.pointwise, List.list_any}
 use Rattle.srp_base.specs.declared.{bandwidth.Rank.Rank, bandwidth.Rank.TheVariants.Emergency, bandwidth.Rank.TheVariants.Normal, numbers.NodeNo.NodeNo}
@@ -8,7 +9,8 @@ use Rattle.toml_rules.specs.Fields.{◌>>=◌, number, number_or, within, text, 
 use Rattle.topology_file.specs.declared.{entries.NodeEntry.NodeEntry, entries.StreamEntry.StreamEntry, entries.StreamForm.StreamForm, entries.StreamValues.StreamValues}
 use Rattle.topology_file.specs.Entries.{name_at, station_named}
 
--- what a `[[stream]]` table may say: who talks, and what its Talker declares (IEEE Std 802.1Q-2018, 35.2.2.8)
+-- what a `[[stream]]` table may say: who talks, and what its Talker declares (IEEE Std 802.1Q-2018,
+-- 35.2.2.8)
 abbrev pub stream_keys : List (List ℕ)
 stream_keys =
     codes "name" ∷ codes "id" ∷ codes "talker" ∷ codes "dest" ∷ codes "octets" ∷ codes "frames" ∷ codes "vid"
@@ -38,7 +40,8 @@ stream_vid_at ms = within 1 4094 (number_or (codes "vid") 2 ms)
 abbrev pub priority_at : Members → Option ℕ
 priority_at ms = within 0 7 (number_or (codes "priority") 3 ms)
 
--- 0 is emergency traffic, 1 all other: the Rank bit of PriorityAndRank (IEEE Std 802.1Q-2018, 35.2.2.8.5)
+-- 0 is emergency traffic, 1 all other: the Rank bit of PriorityAndRank (IEEE Std 802.1Q-2018,
+-- 35.2.2.8.5)
 abbrev pub rank_of_number : ℕ → Option Rank
 rank_of_number n = if n == 0 then Some Emergency else if n == 1 then Some Normal else None
 
@@ -58,7 +61,8 @@ values_at ms = do
   rank ← rank_at ms
   Some (record { id = record { 0 = id }; dest = dest; octets = octets; frames = frames; vid = vid; priority = priority; rank = rank })
 
--- the stream of an entry whose keys are known; its talker is missing where there is no station of this name
+-- the stream of an entry whose keys are known; its talker is missing where there is no station of
+-- this name
 abbrev pub known_stream : List NodeEntry → Members → Option StreamForm
 known_stream nodes ms = do
   name ← name_at (codes "name") ms

@@ -1,5 +1,5 @@
-//! The entries of a scenario: nodes, links, streams, events and frames, with defaults filled in and names
-//! replaced by numbers.
+//! The entries of a scenario: nodes, links, streams, events and frames, with defaults filled in and
+//! names replaced by numbers.
 
 use srp_base::{App, BridgeId, Mac, NodeNo, Percent, Priority, Rank, Rate, Seq, StreamId, Vid};
 use tree_topology::NodeKind;
@@ -17,7 +17,8 @@ pub struct NodeEntry {
     pub domain: DomainWord,
 }
 
-/// For which SR classes a node's ports are in the SRP domain (IEEE Std 802.1Q-2018, 35.1.4, 35.2.2.9).
+/// For which SR classes a node's ports are in the SRP domain (IEEE Std 802.1Q-2018, 35.1.4,
+/// 35.2.2.9).
 #[derive(Clone, Copy, PartialEq, Eq)]
 pub enum DomainWord {
     /// For SR class A and for SR class B.
@@ -37,8 +38,8 @@ pub struct LinkEntry {
     pub b: NodeNo,
     /// 100 Mb/s, 1 Gb/s or 10 Gb/s.
     pub rate: Rate,
-    /// The share of SR class A in percent of the rate: 0 to 90, and with class B 90 at most (IEEE Std
-    /// 802.1Q-2018, 34.3).
+    /// The share of SR class A in percent of the rate: 0 to 90, and with class B 90 at most (IEEE
+    /// Std 802.1Q-2018, 34.3).
     pub delta_a: Percent,
     /// The share of SR class B in percent of the rate.
     pub delta_b: Percent,
@@ -62,7 +63,8 @@ pub struct StreamEntry {
     pub frames: u16,
     /// The VID of its frames: 1 to 4,094.
     pub vid: Vid,
-    /// The priority of its frames: 3 is SR class A, 2 SR class B, and no other is of an SR class (34.5).
+    /// The priority of its frames: 3 is SR class A, 2 SR class B, and no other is of an SR class
+    /// (34.5).
     pub priority: Priority,
     /// The Rank bit: emergency traffic, or all other (35.2.2.8.5).
     pub rank: Rank,
@@ -107,7 +109,8 @@ pub enum EventKind {
         station: NodeNo,
         stream: u16,
     },
-    /// The PDU of this index, from 0 to 65,535, is lost: of those that wait at `to` and come from `from`.
+    /// The PDU of this index, from 0 to 65,535, is lost: of those that wait at `to` and come from
+    /// `from`.
     Lose {
         from: NodeNo,
         to: NodeNo,
@@ -119,7 +122,8 @@ pub enum EventKind {
         to: NodeNo,
         index: u32,
     },
-    /// A PDU that `from` didn't send stands at this index, of an application, of at most 1,500 octets.
+    /// A PDU that `from` didn't send stands at this index, of an application, of at most 1,500
+    /// octets.
     Forge {
         from: NodeNo,
         to: NodeNo,

@@ -35,7 +35,8 @@ fn is_name(word: &[u8]) -> bool
     1 <= word.len() && word.len() <= 32 && has_name_chars(word)
 }
 
-/// The name at a key: a text of 1 to 32 characters a to z, 0 to 9, `-` and `_`. None where there is none.
+/// The name at a key: a text of 1 to 32 characters a to z, 0 to 9, `-` and `_`. None where there is
+/// none.
 pub fn read_name<'a>(table: &'a Table, key: &str) -> Option<&'a str>
     ensures { option_copied result ≡ name_at key.now (table_view table.now) }
 {

@@ -90,7 +90,8 @@ fn both_named(names: &Names, station: &str, stream: &str) -> Option<(NodeNo, u16
 
 /// The station and the stream of these names, where the station doesn't talk in the stream.
 fn listener_named(names: &Names, station: &str, stream: &str) -> Option<(NodeNo, u16)>
-    ensures { result ≡ listener_named_spec names.now.nodes names.now.streams station.now stream.now }
+    ensures { result
+        ≡ listener_named_spec names.now.nodes names.now.streams station.now stream.now }
 {
     let (x, n) = both_named(names, station, stream)?;
     if is_talker_of(names, stream, x.0) {
@@ -113,8 +114,8 @@ fn joined_nodes(names: &Names, from: &str, to: &str) -> Option<(NodeNo, NodeNo)>
     }
 }
 
-/// Two nodes, missing where no link joins nodes of these names, and the index of a PDU, at keys that
-/// are known.
+/// Two nodes, missing where no link joins nodes of these names, and the index of a PDU, at keys
+/// that are known.
 fn read_known_pdu(names: &Names, table: &Table) -> Option<(Option<(NodeNo, NodeNo)>, u32)>
     ensures { result ≡ known_pdu names.now.nodes names.now.links (table_view table.now) }
 {
@@ -126,9 +127,9 @@ fn read_known_pdu(names: &Names, table: &Table) -> Option<(Option<(NodeNo, NodeN
 
 const PDU_KEYS: [&str; 5] = ["tick", "kind", "from", "to", "index"];
 
-/// The two nodes of an event on a link, from the one to the other, and the index of a PDU, 0 to 65,535, at exactly
-/// the keys `tick`, `kind`, `from`, `to` and `index`; the nodes are missing where no link joins nodes of these names.
-/// None where a key or a value hasn't its form.
+/// The two nodes of an event on a link, from the one to the other, and the index of a PDU, 0 to
+/// 65,535, at exactly the keys `tick`, `kind`, `from`, `to` and `index`; the nodes are missing
+/// where no link joins nodes of these names. None where a key or a value hasn't its form.
 pub fn read_pdu(names: &Names, table: &Table) -> Option<(Option<(NodeNo, NodeNo)>, u32)>
     ensures { result ≡ pdu_at names.now.nodes names.now.links (table_view table.now) }
 {
@@ -207,8 +208,8 @@ fn read_repeat(names: &Names, table: &Table) -> Option<Option<EventKind>>
     Some(ends.map(|(from, to)| EventKind::Repeat { from, to, index }))
 }
 
-/// A PDU is forged: two nodes, missing where no link joins nodes of these names, an index, an application and
-/// octets, at keys that are known.
+/// A PDU is forged: two nodes, missing where no link joins nodes of these names, an index, an
+/// application and octets, at keys that are known.
 fn read_known_forgery(
     alloc: Global,
     names: &Names,

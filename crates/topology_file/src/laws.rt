@@ -1,4 +1,5 @@
-//! Laws of what a file's events name. Each is a function that does nothing; calling it brings the law to a proof.
+//! Laws of what a file's events name. Each is a function that does nothing; calling it brings the
+//! law to a proof.
 
 ghost use Rattle.std.specs.Prelude.{◌≤◌, List, ℕ, IfSome};
 ghost use Rattle.toml.specs.Data.{Members};
@@ -7,8 +8,8 @@ ghost use Rattle.topology_file.specs.declared.entries.NodeEntry.{NodeEntry};
 ghost use Rattle.topology_file.specs.Entries.{station_named};
 ghost use Rattle.topology_file.specs.Kinds.{AreJoinedNumbers, IsStationNumber, pdu_at};
 
-/// The station of a name is a station, and the two nodes of an event on a link are joined by a link, with an index
-/// of at most 65,535.
+/// The station of a name is a station, and the two nodes of an event on a link are joined by a
+/// link, with an index of at most 65,535.
 pub fn what_events_name_is_known()
     ensures station { (nodes : List NodeEntry) (name : List ℕ)
         → IfSome (station_named nodes name) (λ x. IsStationNumber nodes x.0) }

@@ -5,7 +5,8 @@ ghost use Rattle.std.specs.Prelude.{◌≡◌, ◌≤◌, [], length};
 use crate::entries::{LinkEntry, NodeEntry, StreamEntry};
 use std::marker::Model;
 
-/// The nodes, 64 at most, the links, and the streams, 128 at most, that a file has so far. Contracts see a `Named`.
+/// The nodes, 64 at most, the links, and the streams, 128 at most, that a file has so far.
+/// Contracts see a `Named`.
 #[derive(Drop)]
 pub struct Names<'a> {
     pub(crate) nodes: &'a [NodeEntry],

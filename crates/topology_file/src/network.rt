@@ -98,9 +98,9 @@ pub(crate) fn read_network(
     Ok(Network { tree, nodes, links })
 }
 
-/// The network of a table with its times, or the first rule that fails with its first failing entry: rules
-/// 1 to 15, of the keys `ticks`, `leave_time`, `periodic`, `node` and `link` alone, without SRP domains. What
-/// else the table may have is judged by whoever reads it.
+/// The network of a table with its times, or the first rule that fails with its first failing
+/// entry: rules 1 to 15, of the keys `ticks`, `leave_time`, `periodic`, `node` and `link` alone,
+/// without SRP domains. What else the table may have is judged by whoever reads it.
 ///
 /// # Errors
 ///

@@ -29,7 +29,8 @@ const NODE_KEYS: [&str; 3] = ["name", "kind", "id"];
 
 const DOMAIN_NODE_KEYS: [&str; 4] = ["name", "kind", "id", "domain"];
 
-/// Whether a node's entry has no other keys than it may have; its domain is one where the file has domains.
+/// Whether a node's entry has no other keys than it may have; its domain is one where the file has
+/// domains.
 fn has_node_keys(domains: bool, table: &Table) -> bool
     ensures { result ≡ has_only_spec (node_keys domains) (table_view table.now) }
 {

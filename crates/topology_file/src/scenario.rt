@@ -177,8 +177,8 @@ const FILE_KEYS: [&str; 9] = [
     "frame",
 ];
 
-/// The scenario of these nodes, links and streams, and of the times, events and frames of a table: rules
-/// 2 to 24.
+/// The scenario of these nodes, links and streams, and of the times, events and frames of a table:
+/// rules 2 to 24.
 fn read_events_and_frames(
     alloc: Global,
     ticks: u64,
@@ -221,7 +221,8 @@ fn read_entries(alloc: Global, ticks: u64, table: &Table) -> Result<Scenario, Ru
     read_events_and_frames(alloc, ticks, table, &nodes, &links, &streams)
 }
 
-/// The scenario of a table, or the first rule that fails with its first failing entry: rules 1 to 24.
+/// The scenario of a table, or the first rule that fails with its first failing entry: rules 1 to
+/// 24.
 ///
 /// # Errors
 ///

@@ -58,8 +58,8 @@ pub record HasPortLaws (tree : Topology) : Type 0 where
       → IsTrue (is_behind tree.links q y) → IsTrue (is_behind tree.links p y)
   pub no_more : (p : EgressPort) (y : ℕ) → HasPort tree p → HasNode tree y → IsTrue (is_behind tree.links p y)
       → (y ≡ far_node tree.links p) ⊎ HasBeyond tree (λ q. is_behind tree.links q y) p
-  -- a path begins with the port behind which its end lies and goes on from the far node, and ends with
-  -- a port that leads to its end and behind which its start doesn't lie
+  -- a path begins with the port behind which its end lies and goes on from the far node, and ends
+  -- with a port that leads to its end and behind which its start doesn't lie
   pub path_none : (x : ℕ) → HasNode tree x → path_between tree.links x x ≡ []
   pub path_first : (p : EgressPort) (y : ℕ) → HasPort tree p → HasNode tree y → IsTrue (is_behind tree.links p y)
       → path_between tree.links p.node.0 y ≡ p ∷ path_between tree.links (far_node tree.links p) y

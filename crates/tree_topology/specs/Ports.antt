@@ -1,5 +1,5 @@
--- The egress ports of a tree: a node with one of its links. A node's ports are numbered from 1 in the
--- order of its links.
+-- The egress ports of a tree: a node with one of its links. A node's ports are numbered from 1 in
+-- the order of its links.
 use Rattle.std.specs.Prelude.{◌≡◌, ◌==◌, ℕ, ◌-◌, ◌≤◌, List, [], ◌∷◌, length, Option, Some, None, if◌then◌else◌, filter_map, slice_index, slice_index_or, ◌+◌}
 use Rattle.std.specs.List.{position_or_len}
 use Rattle.srp_base.specs.declared.numbers.EgressPort.{EgressPort}
@@ -45,8 +45,8 @@ abbrev pub IsPortPath : List Link → ℕ → ℕ → List EgressPort → Type 0
 IsPortPath links x y ports =
     (walk : List ℕ) × IsPath (Joined links) x walk y × (ports ≡ egress_ports links x walk)
 
--- a node lies behind a port: the walk without a repeated node from the port's node to it begins with
--- the port's link
+-- a node lies behind a port: the walk without a repeated node from the port's node to it begins
+-- with the port's link
 abbrev pub LiesBehind : List Link → EgressPort → ℕ → Type 0
 LiesBehind links p y = (walk : List ℕ) × IsPath (Joined links) p.node.0 (far_node links p ∷ walk) y
 

@@ -5,7 +5,8 @@ use Rattle.srp_base.specs.declared.numbers.EgressPort.{EgressPort}
 use Rattle.tree_topology.specs.declared.{graph.Link.Link, graph.NodeKind.NodeKind}
 use Rattle.tree_topology.specs.{Graph.IsNode, Graph.Joined, Refusal.IsAccepted, Walk.path_between}
 
--- the kinds and links of a tree, with the parent and the depth of each node at the place of its number
+-- the kinds and links of a tree, with the parent and the depth of each node at the place of its
+-- number
 pub record Routed : Type 0 where
   pub kinds : List NodeKind
   pub links : List Link

@@ -39,8 +39,8 @@ abbrev pub joined_ranks : List ℕ → ℕ → ℕ → List ℕ
 joined_ranks ranks a b =
     if nat_lt (get_or ranks a 0) (get_or ranks b 0) then ranks else set ranks a (max (get_or ranks a 0) (get_or ranks b 0 + 1))
 
--- the nodes that a search from node 1 has reached, in order; each but the first with the node that it
--- was reached from as its parent, and deeper than that
+-- the nodes that a search from node 1 has reached, in order; each but the first with the node that
+-- it was reached from as its parent, and deeper than that
 pub record IsSpan (count : ℕ) (links : List Link) (parents depths order : List ℕ) : Type 0 where
   pub parents_size : length parents ≡ count + 1
   pub depths_size : length depths ≡ count + 1

@@ -1,5 +1,6 @@
--- The walk between two nodes, and what lies behind a port, as functions. The law `the_walk` says that
--- in a tree they are the walk without a repeated node, and the nodes whose walk begins with the port.
+-- The walk between two nodes, and what lies behind a port, as functions. The law `the_walk` says
+-- that in a tree they are the walk without a repeated node, and the nodes whose walk begins with
+-- the port.
 use Rattle.std.specs.Prelude.{◌==◌, ℕ, List, [], ◌∷◌, ◌++◌, Bool, false, if◌then◌else◌, count_by}
 use Rattle.std.specs.List.{range_with_len}
 use Rattle.srp_base.specs.declared.numbers.EgressPort.{EgressPort}

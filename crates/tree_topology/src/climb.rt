@@ -9,7 +9,8 @@ use crate::routes::Routes;
 use srp_base::{EgressPort, NoMemory, NodeNo, Seq};
 use std::alloc::Global;
 
-/// The ports of a path from its start up to `here`, and from `there` down to its end, the last first.
+/// The ports of a path from its start up to `here`, and from `there` down to its end, the last
+/// first.
 #[derive(Drop)]
 struct Climb {
     here: u16,

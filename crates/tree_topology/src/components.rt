@@ -11,8 +11,8 @@ use crate::graph::{Link, NodeKind, TreeErr};
 use srp_base::{LinkNo, NoMemory};
 use std::alloc::Global;
 
-/// The components of nodes. Each node leads to another one of its component or is its leader. A node
-/// that leads to another has the lower rank, so that the way to a leader is short.
+/// The components of nodes. Each node leads to another one of its component or is its leader. A
+/// node that leads to another has the lower rank, so that the way to a leader is short.
 #[derive(Drop)]
 struct Components {
     leaders: Vec<u16>,

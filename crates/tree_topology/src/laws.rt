@@ -22,8 +22,8 @@ pub fn one_refusal()
         → IsRefusal tree.kinds tree.links e → e ≡ NoMemory }
 {}
 
-/// `refusal` gives the one refusal that fits nodes and links, want of memory aside, and none exactly for
-/// an accepted tree.
+/// `refusal` gives the one refusal that fits nodes and links, want of memory aside, and none
+/// exactly for an accepted tree.
 pub fn refusals()
     ensures gives { (tree : Topology) (e : TreeErr) → refusal tree.kinds tree.links ≡ Some e
         → IsRefusal tree.kinds tree.links e × (e ≢ NoMemory) }
@@ -38,8 +38,8 @@ pub fn refusals()
         → IsGraph (length tree.kinds) tree.links }
 {}
 
-/// `path_between` is the egress ports of the one walk without a repeated node, and `is_behind` tells
-/// whose walk begins with the port's link.
+/// `path_between` is the egress ports of the one walk without a repeated node, and `is_behind`
+/// tells whose walk begins with the port's link.
 pub fn the_walk()
     ensures path { (tree : Topology) (x y : ℕ) (ports : List EgressPort) → IsSound tree
         → HasNode tree x → HasNode tree y
@@ -49,8 +49,9 @@ pub fn the_walk()
         → (LiesBehind tree.links p y ↔ IsTrue (is_behind tree.links p y)) }
 {}
 
-/// What every accepted tree keeps of its ports: which there are, whose peers they are, what lies behind
-/// them, how paths begin and end, and what is propagated from port to port. `HasPortLaws` lists it.
+/// What every accepted tree keeps of its ports: which there are, whose peers they are, what lies
+/// behind them, how paths begin and end, and what is propagated from port to port. `HasPortLaws`
+/// lists it.
 pub fn ports()
     ensures { (tree : Topology) → IsSound tree → HasPortLaws tree }
 {}
@@ -61,8 +62,8 @@ pub fn components()
         ≡ component links y) ↔ Connected links x y }
 {}
 
-/// A graph has few links for its nodes: a node at most one for each node and one, all together at most
-/// as many as pairs of such numbers.
+/// A graph has few links for its nodes: a node at most one for each node and one, all together at
+/// most as many as pairs of such numbers.
 pub fn few_links()
     ensures node { (count : ℕ) (links : List Link) (x : ℕ) → IsGraph count links
         → length (neighbours links x) ≤ count + 1 }
@@ -70,7 +71,8 @@ pub fn few_links()
         → length links ≤ (count + 1) * (count + 1) }
 {}
 
-/// In a tree no link closes a loop, and all nodes are connected; and a graph of which this is true is a tree.
+/// In a tree no link closes a loop, and all nodes are connected; and a graph of which this is true
+/// is a tree.
 pub fn one_component()
     ensures no_loop { (count : ℕ) (links : List Link) → IsTree count links → HasNoLoop links }
     ensures connected { (count : ℕ) (links : List Link) (x y : ℕ) → IsTree count links

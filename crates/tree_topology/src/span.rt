@@ -11,7 +11,8 @@ use crate::graph::TreeErr;
 use srp_base::{NoMemory, NodeNo};
 use std::alloc::Global;
 
-/// What a search from node 1 has reached. A node that it hasn't reached has parent 0, node 1 is its own.
+/// What a search from node 1 has reached. A node that it hasn't reached has parent 0, node 1 is its
+/// own.
 #[derive(Drop)]
 pub(crate) struct Span {
     pub(crate) parents: Vec<u16>,

@@ -1,4 +1,5 @@
-//! The tree of a network: its nodes and links, the egress ports along a path, and what lies behind a port.
+//! The tree of a network: its nodes and links, the egress ports along a path, and what lies behind
+//! a port.
 
 ghost use Rattle.std.specs.Prelude.{◌≡◌, ◌≢◌, ◌<◌, ◌↔◌, length, Some, None, IsTrue, IsSome, IfSome, OnOk, IfOk, IfErr, IsOkUnless};
 ghost use Rattle.tree_topology.specs.Graph.{Joined};
@@ -16,7 +17,8 @@ use std::alloc::Global;
 use std::marker::Model;
 
 /// A tree of stations and bridges, in which each station has exactly one link and each node at most
-/// 255. Nodes and links are numbered from 1 in the order of their lists, and a node's ports from 1 in
+/// 255. Nodes and links are numbered from 1 in the order of their lists, and a node's ports from 1
+///      in
 /// the order of its links. Contracts see the kinds of the nodes and the links.
 #[derive(Drop)]
 pub struct Tree {
@@ -41,7 +43,8 @@ impl Tree {
     ///
     /// # Errors
     ///
-    /// The first refusal in the order of `TreeErr` that fits, with the first link or node that it fits.
+    /// The first refusal in the order of `TreeErr` that fits, with the first link or node that it
+    /// fits.
     pub fn new(alloc: Global, nodes: &[NodeKind], links: &[Link]) -> Result<Tree, TreeErr>
         requires few_nodes { length nodes.now < 65536 }
         requires few_links { length links.now < 65536 }
@@ -58,7 +61,8 @@ impl Tree {
         Ok(Tree { routes })
     }
 
-    /// The egress ports of the walk from one node to another, in order; none where the two are equal.
+    /// The egress ports of the walk from one node to another, in order; none where the two are
+    /// equal.
     pub fn path(&self, alloc: Global, from: NodeNo, to: NodeNo) -> Result<Seq<EgressPort>, NoMemory>
         requires from { HasNode self.now from.0 }
         requires to { HasNode self.now to.0 }

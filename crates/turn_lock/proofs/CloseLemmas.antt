@@ -66,7 +66,8 @@ module _ {S Ask Answer : Type 0} (does : S → Ask → Answer × S) (start : S) 
       let same : r.kept ≡ kept = some-injective r.kept kept (sym (final.4 0 r.kept (ap (λ (hs : List (Option (Kept S Ask Answer))). get_elem? hs 0) slot_is)) ∙ at_slot) in
       let home = r.home at_rest in
       let history : r.history ≡ kept.history.items = sym home.0 ∙ ap (λ (k : Kept S Ask Answer). k.history.items) same in
-      subst (λ (k : Known S Ask Answer). HasEndedAll does start passes k kept.state kept.history.items) same_given (subst (λ (h : Log Ask Answer). HasEndedAll does start passes known kept.state h) history (record {
+      subst (λ (k : Known S Ask Answer). HasEndedAll does start passes k kept.state kept.history.items) same_given
+      (subst (λ (h : Log Ask Answer). HasEndedAll does start passes known kept.state h) history (record {
         legal = r.legal;
         last = sym (ap (λ (k : Kept S Ask Answer). k.state) same) ∙ home.1;
         own = (true_of.front, true_of.own);
@@ -88,7 +89,8 @@ module _ {S Ask Answer : Type 0} (does : S → Ask → Answer × S) (start : S) 
     no_others = λ number past. h.no_others number (λ one. let p = past one in omega (arith, p, passes_are));
     given = given;
   } where
-    each_of : (h : Log Ask Answer) (before : List (PassOf S Ask Answer)) (p : PassOf S Ask Answer) → All (λ (q : ℕ × Log Ask Answer). HasCallsOf h q.0 q.1) (map ended_of before) → HasCallsOf h p.number p.seen
+    each_of : (h : Log Ask Answer) (before : List (PassOf S Ask Answer)) (p : PassOf S Ask Answer)
+        → All (λ (q : ℕ × Log Ask Answer). HasCallsOf h q.0 q.1) (map ended_of before) → HasCallsOf h p.number p.seen
         → All (λ (q : PassOf S Ask Answer). HasCallsOf h q.number q.seen) (before ++ p ∷ [])
     each_of h [] p all one zero d below = one
     each_of h [] p all one (suc k) d below = absurd (omega arith)
@@ -110,4 +112,5 @@ module _ {S Ask Answer : Type 0} where
   -- one more pass was taken in
   pub took_one : (all left : List (PassOf S Ask Answer)) (other : PassOf S Ask Answer) (taken : List (ℕ × Log Ask Answer)) → map ended_of (left ++ other ∷ []) ++ taken ≡ map ended_of all
       → map ended_of left ++ ended_of other ∷ taken ≡ map ended_of all
-  took_one all left other taken e = sym (append_assoc (map ended_of left) (ended_of other ∷ []) taken) ∙ (ap (λ (l : List (ℕ × Log Ask Answer)). l ++ taken) (sym (map-append ended_of left (other ∷ []))) ∙ e)
+  took_one all left other taken e = sym (append_assoc (map ended_of left) (ended_of other ∷ []) taken)
+      ∙ (ap (λ (l : List (ℕ × Log Ask Answer)). l ++ taken) (sym (map-append ended_of left (other ∷ []))) ∙ e)

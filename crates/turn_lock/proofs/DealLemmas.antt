@@ -88,7 +88,9 @@ module _ {S Ask Answer : Type 0} (does : S → Ask → Answer × S) (start : S) 
         unmade = λ number past. r.unmade number (λ one. let p = past one in omega (arith, long, p));
         living = λ j u there. ⊎_elim
             (λ here. ⊎_elim
-            (λ t. let same : _ ≡ u = same_known (record { start = known.start; passes = known.passes; number = known.number; dealt = true; stage = known.stage; seen = known.seen; ended = known.ended }) u (ap some t.1) in
+            (λ t. let same : _ ≡ u = same_known
+            (record { start = known.start; passes = known.passes; number = known.number; dealt = true; stage = known.stage; seen = known.seen; ended = known.ended })
+            u (ap some t.1) in
             subst (λ (z : ℕ × Known S Ask Answer). IsTrue start passes r.served r.drawn r.owner r.out r.history views z.0 z.1) (λ i. (sym t.0 i, same i)) (record {
               start_is = true_of.start_is;
               passes_are = true_of.passes_are;
@@ -110,7 +112,8 @@ module _ {S Ask Answer : Type 0} (does : S → Ask → Answer × S) (start : S) 
               stage = other.stage;
             })
             (at_set s.views seat j left (Living u) here))
-            (λ t. let same : _ ≡ u = same_known (record { start = known.start; passes = known.passes; number = known.number + 1; dealt = false; stage = Idle; seen = []; ended = [] }) u (ap some t.1) in
+            (λ t. let same : _ ≡ u = same_known
+            (record { start = known.start; passes = known.passes; number = known.number + 1; dealt = false; stage = Idle; seen = []; ended = [] }) u (ap some t.1) in
             let there' : j ≡ n = t.0 ∙ length-set s.views seat left in
             let number : known.number + 1 ≡ n + 1 = let b = true_of.number_is in omega arith in
             subst (λ (z : ℕ × Known S Ask Answer). IsTrue start passes r.served r.drawn r.owner r.out r.history views z.0 z.1) (λ i. (sym there' i, same i)) (record {
@@ -167,7 +170,17 @@ module _ {S Ask Answer : Type 0} (does : S → Ask → Answer × S) (start : S) 
         living = λ j u here. ⊎_elim
             (λ t. absurd (living_not_spent u (sym (ap some t.1))))
             (λ outer. ⊎_elim
-            (λ t. let same : _ ≡ u = same_known (record { start = known.start; passes = known.passes; number = known.number; dealt = known.dealt; stage = known.stage; seen = known.seen; ended = (joined.number, joined.seen) ∷ known.ended }) u (ap some t.1) in
+            (λ t. let same : _ ≡ u = same_known
+            (record {
+              start = known.start;
+              passes = known.passes;
+              number = known.number;
+              dealt = known.dealt;
+              stage = known.stage;
+              seen = known.seen;
+              ended =
+                  (joined.number, joined.seen) ∷ known.ended;
+            }) u (ap some t.1) in
             subst (λ (z : ℕ × Known S Ask Answer). IsTrue start passes r.served r.drawn r.owner r.out r.history views z.0 z.1) (λ i. (sym t.0 i, same i)) (record {
               start_is = true_of.start_is;
               passes_are = true_of.passes_are;

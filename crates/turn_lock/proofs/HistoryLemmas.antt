@@ -22,7 +22,8 @@ module _ {A : Type 0} where
 
 module _ {Ask Answer : Type 0} where
   pub calls_stay : (n : ℕ) (history added : Log Ask Answer) → calls_of n added ≡ [] → calls_of n (history ++ added) ≡ calls_of n history
-  calls_stay n history added none = filter-append (λ (e : Entry Ask Answer). number_of e == n) history added ∙ (ap (λ (z : Log Ask Answer). calls_of n history ++ z) none ∙ append-nil (calls_of n history))
+  calls_stay n history added none = filter-append (λ (e : Entry Ask Answer). number_of e == n) history added
+      ∙ (ap (λ (z : Log Ask Answer). calls_of n history ++ z) none ∙ append-nil (calls_of n history))
 
   pub begins_itself : (history : Log Ask Answer) → BeginsWith history history
   begins_itself history = ([], sym (append-nil history))

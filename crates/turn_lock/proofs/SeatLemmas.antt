@@ -47,7 +47,8 @@ module _ {S Ask Answer : Type 0} where
   few_tickets [] = omega arith
   few_tickets (view ∷ views) = omega (arith, few_of view, few_tickets views)
 
-  pub tickets-set : (views : List (View S Ask Answer)) (seat : ℕ) (v w : View S Ask Answer) → get_elem? views seat ≡ some v → ticket_count (set views seat w) + tickets_of v ≡ ticket_count views + tickets_of w
+  pub tickets-set : (views : List (View S Ask Answer)) (seat : ℕ) (v w : View S Ask Answer) → get_elem? views seat ≡ some v
+      → ticket_count (set views seat w) + tickets_of v ≡ ticket_count views + tickets_of w
   tickets-set [] seat v w at = absurd (some-ne-none v (sym at))
   tickets-set (view ∷ views) zero v w at = let e : tickets_of view ≡ tickets_of v = ap tickets_of (some-injective view v at) in omega (arith, e)
   tickets-set (view ∷ views) (suc seat) v w at = omega (arith, tickets-set views seat v w at)

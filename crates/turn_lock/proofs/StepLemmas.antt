@@ -55,7 +55,9 @@ module _ {S Ask Answer : Type 0} (does : S → Ask → Answer × S) (start : S) 
             (r.living seat known at).front
             (r.living seat known at).own
             (low, omega arith, given_here r.owner t seat, λ same. is_clear r.out (λ out. let b = r.busy out in absurd (omega arith)))
-            (λ j seen stage apart. elim stage as (λ (z : Stage). FitsStage r.served r.drawn r.owner r.out r.history j seen z → FitsStage r.served (r.drawn + 1) (given_to r.owner t seat) r.out r.history j seen z) [
+            (λ j seen stage apart. elim stage as
+            (λ (z : Stage). FitsStage r.served r.drawn r.owner r.out r.history j seen z → FitsStage r.served (r.drawn + 1)
+            (given_to r.owner t seat) r.out r.history j seen z) [
               | Idle ↦ λ h. tt
               | Waits x ↦ λ h. let below = h.1 in (h.0, omega arith, given_else r.owner t seat x (λ same. absurd (omega arith)) ∙ h.2, h.3)
               | Holds x ↦ λ h. let below = h.1 in (h.0, omega arith, given_else r.owner t seat x (λ same. absurd (omega arith)) ∙ h.2, h.3, h.4)
@@ -77,7 +79,8 @@ module _ {S Ask Answer : Type 0} (does : S → Ask → Answer × S) (start : S) 
       → Allows (IsInTurn does start passes) slots seat (Living known, []) 1 (λ n. n) (looked does (step slots 1 0 0 none) (Living known, []))
   looks_from slots seat known t waits s r sized at fits =
       let true_of = r.living seat known at in
-      let mine : FitsStage r.served r.drawn r.owner r.out r.history seat known.seen (Waits t) = subst (λ (z : Stage). FitsStage r.served r.drawn r.owner r.out r.history seat known.seen z) waits true_of.stage in
+      let mine : FitsStage r.served r.drawn r.owner r.out r.history seat known.seen (Waits t)
+      = subst (λ (z : Stage). FitsStage r.served r.drawn r.owner r.out r.history seat known.seen z) waits true_of.stage in
       let found : ℕ = get_or s.words 1 0 in
       let few : ticket_count s.views < 2 ^ 32 = let a = r.few in let b = r.dealt.1 in let c = few_tickets s.views in omega arith in
       let of_stage : (x : ℕ) → Waits t ≡ Waits x → t ≡ x = λ x e. ap (elim_waits t) e in
@@ -112,14 +115,15 @@ module _ {S Ask Answer : Type 0} (does : S → Ask → Answer × S) (start : S) 
               | Holds x ↦ λ h. absurd (not_both r.out h.3 in_place)
             ]),
         (λ x waits' none. (
-          (λ _. let t_is : t ≡ x = of_stage x (sym waits ∙ waits') in subst (λ (y : ℕ). Took does known y (Living (having_seen (at_stage known (Holds t)) kept.history.items), (0, kept) ∷ [])) t_is (record {
-            kept = kept;
-            now = refl;
-            stands = subst (λ (z : S). Stands does z kept) (sym true_of.start_is)
-                (stands.1 ∙ ap (last_state does start) (sym stands.0), subst (IsHistory does start) (sym stands.0) r.legal);
-            front = subst (λ (h : Log Ask Answer). BeginsWith h known.seen) (sym stands.0) true_of.front;
-            own = ap (calls_of known.number) stands.0 ∙ true_of.own;
-          })),
+          (λ _. let t_is : t ≡ x = of_stage x (sym waits ∙ waits')
+              in subst (λ (y : ℕ). Took does known y (Living (having_seen (at_stage known (Holds t)) kept.history.items), (0, kept) ∷ [])) t_is (record {
+                kept = kept;
+                now = refl;
+                stands = subst (λ (z : S). Stands does z kept) (sym true_of.start_is)
+                    (stands.1 ∙ ap (last_state does start) (sym stands.0), subst (IsHistory does start) (sym stands.0) r.legal);
+                front = subst (λ (h : Log Ask Answer). BeginsWith h known.seen) (sym stands.0) true_of.front;
+                own = ap (calls_of known.number) stands.0 ∙ true_of.own;
+              })),
           (λ not. absurd (not (is ∙ ap (λ (y : ℕ). y % 2 ^ 64) (of_stage x (sym waits ∙ waits'))))),
         )),
       ))
@@ -158,7 +162,8 @@ module _ {S Ask Answer : Type 0} (does : S → Ask → Answer × S) (start : S) 
       → Allows (IsInTurn does start passes) slots seat (Living known, (0, kept) ∷ []) 1 (λ n. (n + 1) % 2 ^ 64) (advanced (step slots 1 1 0 none) (Living known, (0, kept) ∷ []))
   advances_from slots seat known t kept holds more s r sized at fits =
       let true_of = r.living seat known at in
-      let mine : FitsStage r.served r.drawn r.owner r.out r.history seat known.seen (Holds t) = subst (λ (z : Stage). FitsStage r.served r.drawn r.owner r.out r.history seat known.seen z) holds true_of.stage in
+      let mine : FitsStage r.served r.drawn r.owner r.out r.history seat known.seen (Holds t)
+      = subst (λ (z : Stage). FitsStage r.served r.drawn r.owner r.out r.history seat known.seen z) holds true_of.stage in
       let history : Log Ask Answer = kept.history.items in
       let one : 1 ≡ tickets_at known.stage = sym (ap tickets_at holds) in
       let away : s.homes ≡ none ∷ [] = r.slot ∙ ap (λ (b : Bool). at_home b r.kept ∷ []) mine.3 in
@@ -192,7 +197,9 @@ module _ {S Ask Answer : Type 0} (does : S → Ask → Answer × S) (start : S) 
       )
 
   -- giving the slot back and serving the next ticket: fetch_add on word 1
-  pub advances : (slots seat : ℕ) (me : Seated S Ask Answer) (known : Known S Ask Answer) (t : ℕ) (kept : Kept S Ask Answer) → me ≡ (Living known, (0, kept) ∷ []) → known.stage ≡ Holds t → Goes_on does known kept
+  pub advances : (slots seat : ℕ) (me : Seated S Ask Answer) (known : Known S Ask Answer) (t : ℕ) (kept : Kept S Ask Answer) → me ≡ (Living known, (0, kept) ∷ [])
+      → known.stage ≡ Holds t → Goes_on does known kept
       → Allows (IsInTurn does start passes) slots seat me 1 (λ n. (n + 1) % 2 ^ 64) (advanced (step slots 1 1 0 none) me)
   advances slots seat me known t kept is holds more =
-      subst (λ (m : Seated S Ask Answer). Allows (IsInTurn does start passes) slots seat m 1 (λ n. (n + 1) % 2 ^ 64) (advanced (step slots 1 1 0 none) m)) (sym is) (advances_from slots seat known t kept holds more)
+      subst (λ (m : Seated S Ask Answer). Allows (IsInTurn does start passes) slots seat m 1 (λ n. (n + 1) % 2 ^ 64) (advanced (step slots 1 1 0 none) m)) (sym is)
+      (advances_from slots seat known t kept holds more)

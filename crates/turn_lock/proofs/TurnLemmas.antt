@@ -13,7 +13,8 @@ one_known known other c d e = ap (λ m. known_or known m.0) e
 
 module _ {Ask Answer : Type 0} where
   -- the calls of a number in one more call of it, and in one of another
-  pub calls_mine : (history : Log Ask Answer) (number : ℕ) (ask : Ask) (answer : Answer) → calls_of number (history ++ (number, ask, answer) ∷ []) ≡ calls_of number history ++ (number, ask, answer) ∷ []
+  pub calls_mine : (history : Log Ask Answer) (number : ℕ) (ask : Ask) (answer : Answer)
+      → calls_of number (history ++ (number, ask, answer) ∷ []) ≡ calls_of number history ++ (number, ask, answer) ∷ []
   calls_mine history number ask answer =
       filter-append (λ (e : Entry Ask Answer). number_of e == number) history ((number, ask, answer) ∷ [])
       ∙ ap (λ (b : Bool). calls_of number history ++ cond b ((number, ask, answer) ∷ []) []) (eq-eqb number number refl)
@@ -27,7 +28,8 @@ module _ {S Ask Answer : Type 0} (does : S → Ask → Answer × S) where
       let same : waits.0 ≡ known = ap (λ (m : Seated S Ask Answer). known_or known m.0) (sym waits.2 ∙ is) in
       waits.4 ∙ ap (λ (x : ℕ). x % 2 ^ 64) (ap (elim_waits t) (sym waits.3 ∙ (ap (λ (k : Known S Ask Answer). k.stage) same ∙ stage)))
 
-  looked_at : (before after : Seated S Ask Answer) (found : ℕ) → looked does (step 0 0 0 0 none) before found after → (known : Known S Ask Answer) (t : ℕ) → before ≡ (Living known, []) → known.stage ≡ Waits t
+  looked_at : (before after : Seated S Ask Answer) (found : ℕ) → looked does (step 0 0 0 0 none) before found after → (known : Known S Ask Answer) (t : ℕ)
+      → before ≡ (Living known, []) → known.stage ≡ Waits t
       → (found ≡ t % 2 ^ 64 → Took does known t after) × (found ≢ t % 2 ^ 64 → after ≡ (Living known, []))
   looked_at before after found told known t is stage =
       subst (λ (m : Seated S Ask Answer). looked does (step 0 0 0 0 none) m found after) is told t stage refl
@@ -41,8 +43,10 @@ module _ {S Ask Answer : Type 0} (does : S → Ask → Answer × S) where
   waits_on before after found ticket told waits other =
       (looked_at before after found told waits.0 waits.1 waits.2 waits.3).1 (λ e. other (e ∙ sym waits.4)) ∙ sym waits.2
 
-  called : (known : Known S Ask Answer) (number : ℕ) (ask : Ask) (t : ℕ) (taken : Seated S Ask Answer) (took : Took does (at_stage known (Waits t)) t taken) (left : Kept S Ask Answer) (answer : Answer) → known.number ≡ number
-      → (left.history.items ≡ took.kept.history.items ++ (number, ask, answer) ∷ []) → (does took.kept.state ask ≡ (answer, left.state)) → HasCalled does known.start number known.seen ask answer left.history.items
+  called : (known : Known S Ask Answer) (number : ℕ) (ask : Ask) (t : ℕ) (taken : Seated S Ask Answer) (took : Took does (at_stage known (Waits t)) t taken) (left : Kept S Ask Answer)
+      (answer : Answer) → known.number ≡ number
+      → (left.history.items ≡ took.kept.history.items ++ (number, ask, answer) ∷ []) → (does took.kept.state ask ≡ (answer, left.state))
+      → HasCalled does known.start number known.seen ask answer left.history.items
   called known number ask t taken took left answer numbered history step =
       let kept = took.kept in
       let said : answer ≡ (does (last_state does known.start kept.history.items) ask).0 = sym (ap (λ (p : Answer × S). p.0) step) ∙ ap (λ (z : S). (does z ask).0) took.stands.0 in record {
@@ -51,7 +55,9 @@ module _ {S Ask Answer : Type 0} (does : S → Ask → Answer × S) where
         front = took.front;
         answer_is = said;
         legal = subst (IsHistory does known.start) (sym history) (said_last does known.start kept.history.items (number, ask, answer) took.stands.1 said);
-        own = ap (calls_of number) history ∙ (calls_mine kept.history.items number ask answer ∙ ap (λ (h : Log Ask Answer). h ++ (number, ask, answer) ∷ []) (subst (λ (n : ℕ). calls_of n kept.history.items ≡ calls_of n known.seen) numbered took.own));
+        own = ap (calls_of number) history
+            ∙ (calls_mine kept.history.items number ask answer
+            ∙ ap (λ (h : Log Ask Answer). h ++ (number, ask, answer) ∷ []) (subst (λ (n : ℕ). calls_of n kept.history.items ≡ calls_of n known.seen) numbered took.own));
       }
 
   looked_on : (known : Known S Ask Answer) (number t : ℕ) (taken : Seated S Ask Answer) (took : Took does (at_stage known (Waits t)) t taken) (left : Kept S Ask Answer) → known.number ≡ number
@@ -73,7 +79,9 @@ module _ {S Ask Answer : Type 0} (does : S → Ask → Answer × S) where
           history_is = made.0 ∙ ap (λ (h : Log Ask Answer). h ++ (known.number, ask, answer) ∷ []) (sym seen);
           mine = λ n apart. calls_others n known.number ask answer apart;
           stands = (
-            sym (ap (λ (p : Answer × S). p.1) made.1) ∙ (ap (λ (z : S). (does z ask).1) stands.0 ∙ (sym (last-append does known.start kept.history.items (known.number, ask, answer)) ∙ ap (last_state does known.start) (sym made.0))),
+            sym (ap (λ (p : Answer × S). p.1) made.1)
+                ∙ (ap (λ (z : S). (does z ask).1) stands.0
+                ∙ (sym (last-append does known.start kept.history.items (known.number, ask, answer)) ∙ ap (last_state does known.start) (sym made.0))),
             subst (IsHistory does known.start) (sym made.0) (said_last does known.start kept.history.items (known.number, ask, answer) stands.1 said),
           );
         }

@@ -5,7 +5,8 @@ use Rattle.turn_lock.specs.declared.{board.Known.Known, board.Stage.TheVariants.
 use Rattle.turn_lock.specs.{History.Log, History.calls_of, History.BeginsWith, History.last_state, History.IsHistory, Steps.Seated, Passes.Lock, Passes.PassOf, Passes.is_given}
 
 module _ {Ask Answer : Type 0} where
-  -- the history begins with what a pass has seen, and its entries of that pass's number are exactly the pass's calls
+  -- the history begins with what a pass has seen, and its entries of that pass's number are exactly
+  -- the pass's calls
   abbrev pub HasCallsOf : Log Ask Answer → ℕ → Log Ask Answer → Type 0
   HasCallsOf history number seen = BeginsWith history seen × (calls_of number history ≡ calls_of number seen)
 

@@ -1,4 +1,5 @@
--- The rule of a lock's table: what its words, its slot and what its seats know have to do with one another.
+-- The rule of a lock's table: what its words, its slot and what its seats know have to do with one
+-- another.
 use Rattle.std.specs.Prelude.{◌≡◌, ℕ, ◌+◌, ◌%◌, ◌^◌, ◌<◌, ◌≤◌, Bool, true, false, List, [], ◌∷◌, length, All}
 use mathlib.Core.Option.{Option, none, some}
 use lib.ListN.{get_elem?}
@@ -36,8 +37,8 @@ module _ {S Ask Answer : Type 0} where
   abbrev pub first_view : S → ℕ → View S Ask Answer
   first_view start passes = Living (dealt_known start passes 1)
 
--- what a seat's stage has to do with the tickets and the slot: the ticket that is served, the next one to be drawn, whose seat each ticket is,
--- whether the slot is out, and the history
+-- what a seat's stage has to do with the tickets and the slot: the ticket that is served, the next
+-- one to be drawn, whose seat each ticket is, whether the slot is out, and the history
 module _ {Ask Answer : Type 0} (served drawn : ℕ) (owner : ℕ → ℕ) (out : Bool) (history : Log Ask Answer) where
   abbrev pub FitsStage : ℕ → Log Ask Answer → Stage → Type 0
   FitsStage seat seen Idle = Unit {0}
@@ -76,7 +77,8 @@ module _ {S Ask Answer : Type 0} (does : S → Ask → Answer × S) (start : S) 
     pub tickets : drawn ≡ served + ticket_count s.views
     pub few : passes < 2 ^ 32
     pub dealt : (0 < length s.views) × (length s.views ≤ passes)
-    -- the slot stands for the history where it is at home, and it is out only with the holder of the served ticket
+    -- the slot stands for the history where it is at home, and it is out only with the holder of
+    -- the served ticket
     pub slot : s.homes ≡ at_home out kept ∷ []
     pub home : out ≡ false → (kept.history.items ≡ history) × (kept.state ≡ last_state does start history)
     pub busy : out ≡ true → served < drawn

@@ -1,4 +1,5 @@
--- What each step on a lock's table tells the pass that makes it, and how a seat is cut in two or taken in.
+-- What each step on a lock's table tells the pass that makes it, and how a seat is cut in two or
+-- taken in.
 use Rattle.std.specs.Prelude.{◌≡◌, ◌≢◌, ℕ, ◌+◌, ◌%◌, ◌^◌, true, false, [], ◌∷◌, ◌++◌}
 use Rattle.atomic_table.specs.Table.{Me, Step}
 use Rattle.turn_lock.specs.declared.{board.Kept.Kept, board.Known.Known, board.Stage.Stage, board.View.View, board.View.TheVariants.Spent, board.View.TheVariants.Living}
@@ -32,7 +33,8 @@ module _ {S Ask Answer : Type 0} where
     abbrev pub Stands : S → Kept S Ask Answer → Type 0
     Stands start kept = (kept.state ≡ last_state does start kept.history.items) × IsHistory does start kept.history.items
 
-    -- the slot was taken with the ticket t: the seat has now seen the whole history, in which it has the calls that it knew of
+    -- the slot was taken with the ticket t: the seat has now seen the whole history, in which it
+    -- has the calls that it knew of
     pub record Took (known : Known S Ask Answer) (t : ℕ) (after : Seated S Ask Answer) : Type 0 where
       pub kept : Kept S Ask Answer
       pub now : after ≡ (Living (having_seen (at_stage known (Holds t)) kept.history.items), (0, kept) ∷ [])
@@ -40,7 +42,8 @@ module _ {S Ask Answer : Type 0} where
       pub front : BeginsWith kept.history.items known.seen
       pub own : calls_of known.number kept.history.items ≡ calls_of known.number known.seen
 
-    -- the served ticket was read: where it is the seat's own the slot was taken, and else nothing changed
+    -- the served ticket was read: where it is the seat's own the slot was taken, and else nothing
+    -- changed
     abbrev pub looked : Step (Kept S Ask Answer) → Seated S Ask Answer → ℕ → Seated S Ask Answer → Type 0
     looked step before found after = OnLiving before.0 (λ known. (t : ℕ) → known.stage ≡ Waits t → before.1 ≡ []
         → (found ≡ t % 2 ^ 64 → Took known t after) × (found ≢ t % 2 ^ 64 → after ≡ before))

@@ -18,8 +18,8 @@ use std::mem;
 use std::snapshot::Snapshot;
 
 impl<S: Sequential> TurnLock<S> {
-    /// A lock round a state, with its passes, numbered from 1 in the order of the list. At least one pass is
-    /// asked for. After want of memory the state comes back.
+    /// A lock round a state, with its passes, numbered from 1 in the order of the list. At least
+    /// one pass is asked for. After want of memory the state comes back.
     pub fn begin(
         alloc: Global,
         state: S,
@@ -118,7 +118,8 @@ fn deal_one<S: Sequential>(
 fn deal<S: Sequential>(board: &Board<S>, seat: Place<S>, terms: &Terms<S>, list: &mut Vec<Pass<S>>)
     requires seat { IsDealtFrom terms.now board.now.table_id board.now.key seat 1 }
     requires list { (list.old.items ≡ []) × (terms.now.passes ≤ vec_capacity list.old) }
-    ensures { list.new.items ≡ first_passes (lock_of board.now.table_id terms.now) terms.now.passes }
+    ensures { list.new.items
+        ≡ first_passes (lock_of board.now.table_id terms.now) terms.now.passes }
 {
     let passes = terms.passes;
     let mut seat = seat;

@@ -13,8 +13,8 @@ use crate::plays::TakeIn;
 use crate::sequential::Sequential;
 use srp_base::Seq;
 
-/// What a lock held: the state, and the history that led to it, each call with the number of its pass, what
-/// was asked and what was answered.
+/// What a lock held: the state, and the history that led to it, each call with the number of its
+/// pass, what was asked and what was answered.
 #[derive(Drop)]
 pub struct Closed<S: Sequential> {
     pub state: S,
@@ -139,8 +139,8 @@ impl<S: Sequential> TurnLock<S> {
         shut(board, seat)
     }
 
-    /// Closes the lock with all its passes, in any order, and answers its state and its history. Where one is
-    /// missing everything comes back.
+    /// Closes the lock with all its passes, in any order, and answers its state and its history.
+    /// Where one is missing everything comes back.
     pub fn close(self, passes: Seq<Pass<S>>) -> Result<Closed<S>, CloseErr<S>>
         requires { All (λ p. p.lock ≡ self) passes }
         ensures closed { IfOk result (λ c. HasClosed S.does self passes c.state c.history) }

@@ -11,8 +11,8 @@ use std::marker::Model;
 use std::snapshot::Snapshot;
 use std::sync::Wait;
 
-/// A lock round a state that threads step in turn. Contracts see the state that it began with and its
-/// number of passes.
+/// A lock round a state that threads step in turn. Contracts see the state that it began with and
+/// its number of passes.
 #[derive(Drop)]
 pub struct TurnLock<S: Sequential> {
     pub(crate) board: Whole<S>,
@@ -36,8 +36,8 @@ impl<S: Sequential> Model for TurnLock<S> {
         × (l.board.shared.key.passes ≡ l.passes) × (0 < l.passes) };
 }
 
-/// The right to call a lock, for one thread at a time. Contracts see its lock, its number, and the history
-/// as far as it has seen it.
+/// The right to call a lock, for one thread at a time. Contracts see its lock, its number, and the
+/// history as far as it has seen it.
 #[derive(Drop)]
 pub struct Pass<S: Sequential> {
     pub(crate) number: u32,
@@ -71,9 +71,10 @@ impl<S: Sequential> Pass<S> {
 }
 
 impl<S: Sequential> TurnLock<S> {
-    /// Waits for its turn, calls `inside` once with the turn held, and steps the state. The answer is that of
-    /// one thread at the call's place in one history, which begins with all that the pass had seen. After want
-    /// of memory the state and the history are as before; the pass may have seen more of the history.
+    /// Waits for its turn, calls `inside` once with the turn held, and steps the state. The answer
+    /// is that of one thread at the call's place in one history, which begins with all that the
+    /// pass had seen. After want of memory the state and the history are as before; the pass may
+    /// have seen more of the history.
     pub fn call<R: Wait, F: Fn()>(
         &self,
         rt: &R,

@@ -6,7 +6,8 @@ use srp_base::NoMemory;
 
 /// An object that one thread steps: a state, what may be asked of it, and what it answers.
 ///
-/// Its meaning, `does`, is the one-thread step: the answer to an ask at a state, and the state after it.
+/// Its meaning, `does`, is the one-thread step: the answer to an ask at a state, and the state
+/// after it.
 pub trait Sequential {
     /// What is asked.
     type Ask: Copy;

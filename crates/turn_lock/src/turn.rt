@@ -16,7 +16,8 @@ const NEXT: usize = 0;
 
 const SERVED: usize = 1;
 
-// How many times a waiting thread looks again after a pause, and then after it gave way to other threads.
+// How many times a waiting thread looks again after a pause, and then after it gave way to other
+// threads.
 const PAUSES: u32 = 100;
 
 const YIELDS: u32 = 100;
@@ -31,8 +32,8 @@ fn draw<S: Sequential>(board: &Board<S>, seat: &mut Place<S>) -> u64
     board.fetch_add::<Draw>(seat, NEXT, 1)
 }
 
-// Waits until the ticket is served, and takes the slot: spins first, then gives way to other threads,
-// then sleeps.
+// Waits until the ticket is served, and takes the slot: spins first, then gives way to other
+// threads, then sleeps.
 fn await_turn<S: Sequential, R: Wait>(rt: &R, board: &Board<S>, seat: &mut Place<S>, ticket: u64)
     requires board { IsBoard board.now.table_id }
     requires seat { (seat.old.table_id ≡ board.now.table_id) × Awaits seat.old.me ticket }
@@ -51,8 +52,8 @@ fn await_turn<S: Sequential, R: Wait>(rt: &R, board: &Board<S>, seat: &mut Place
     unreachable!()
 }
 
-// What a waiting thread does until it looks again, after so many looks: a pause, then it gives way, then it sleeps
-// until another ticket is served than the one that it saw.
+// What a waiting thread does until it looks again, after so many looks: a pause, then it gives way,
+// then it sleeps until another ticket is served than the one that it saw.
 fn rest<S: Sequential, R: Wait>(rt: &R, board: &Board<S>, looks: u32, served: u64)
     requires { IsBoard board.now.table_id }
 {
@@ -113,7 +114,8 @@ fn advance<S: Sequential>(board: &Board<S>, seat: &mut Place<S>)
     }
 }
 
-/// One whole turn: a ticket, a wait for it, a call of `inside`, a step in the slot, and the turn given on.
+/// One whole turn: a ticket, a wait for it, a call of `inside`, a step in the slot, and the turn
+/// given on.
 pub(crate) fn turn<S: Sequential, R: Wait, F: Fn()>(
     rt: &R,
     board: &Board<S>,

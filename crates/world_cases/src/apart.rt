@@ -1,5 +1,5 @@
-//! Two stations on a link that are taken apart and put together again, while a LeaveAll that will put them in step is on its way:
-//! they are as before, and go on.
+//! Two stations on a link that are taken apart and put together again, while a LeaveAll that will
+//! put them in step is on its way: they are as before, and go on.
 
 use crate::leaving::{calling, hears, says_again};
 use crate::vlans::{PAIR, S1, S2, carries, makes, takes};

@@ -1,5 +1,6 @@
-//! Two stations on a link, at the end of a run in which both PDUs by which one said what it declares were lost: the other's
-//! LeaveAll alone puts both in step, unless the first has said something before it takes it.
+//! Two stations on a link, at the end of a run in which both PDUs by which one said what it
+//! declares were lost: the other's LeaveAll alone puts both in step, unless the first has said
+//! something before it takes it.
 
 use crate::schedule::run_of_text;
 use crate::vlans::{S1, S2, carries, has_sides, makes, takes};

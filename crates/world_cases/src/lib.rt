@@ -2,7 +2,8 @@
 //! (`network_laws`), and its run from tick to tick (`srp_schedule`). The crate has tests alone,
 //! called as a user calls, since a crate with tests beside its code is proved once more with them.
 //!
-//! To add one: a test in the module of its crate; a whole run is better shown by a scenario of `examples/`.
+//! To add one: a test in the module of its crate; a whole run is better shown by a scenario of
+//! `examples/`.
 #![tactic(auto)]
 
 #[cfg(test)]

@@ -1,5 +1,6 @@
-//! A Talker, two bridges and three listeners, run by the clock. In the end the stream is ready at all three. In the tick in which
-//! bridge 2 books the stream, its next clock shows that, and goes on once the bridge is ready for it.
+//! A Talker, two bridges and three listeners, run by the clock. In the end the stream is ready at
+//! all three. In the tick in which bridge 2 books the stream, its next clock shows that, and goes
+//! on once the bridge is ready for it.
 
 ghost use Rattle.std.specs.Prelude.{◌≡◌, true};
 ghost use Rattle.attribute_propagation.specs.Ports.{IsLinkPort};
@@ -13,7 +14,8 @@ use srp_base::{Cs, NoMemory, NodeNo, PortNo, StreamId};
 use std::alloc::Global;
 use world_core::{Run, World};
 
-/// Station 1 talks, and stations 4, 5 and 6 listen: station 4 at port 3 of bridge 2, the others behind bridge 3.
+/// Station 1 talks, and stations 4, 5 and 6 listen: station 4 at port 3 of bridge 2, the others
+/// behind bridge 3.
 const HALL: &str = "node = [{ name = 't1', kind = 'station' }, { name = 'b1', kind = 'bridge' }, \
     { name = 'b2', kind = 'bridge' }, { name = 'l1', kind = 'station' }, \
     { name = 'l2', kind = 'station' }, { name = 'l3', kind = 'station' }]\n\
@@ -49,7 +51,8 @@ fn are_ready(alloc: Global, world: &World) -> Result<bool, NoMemory> {
     )
 }
 
-// Whether nothing is pending at the end of a run, and all are ready; an error where there is no run.
+// Whether nothing is pending at the end of a run, and all are ready; an error where there is no
+// run.
 fn ends_ready(alloc: Global, run: &Option<Run>) -> Result<bool, NoMemory> {
     match run {
         Some(run) => Ok(run.world.quiet() && are_ready(alloc, &run.world)?),
@@ -125,7 +128,8 @@ fn ticks_when_ready(node: &mut Node) -> bool {
     node.step(NodeEvent::Clock).ok() == Some(Taken)
 }
 
-// Whether a bridge whose ports make their jobs books at port 3 in this tick, and its clock goes on then.
+// Whether a bridge whose ports make their jobs books at port 3 in this tick, and its clock goes on
+// then.
 fn books_and_ticks(node: &mut Node) -> Result<bool, NoMemory> {
     let moment = node.now();
     let worked = work(node, PortNo(1))? && work(node, PortNo(2))? && work(node, PortNo(3))?;

@@ -1,4 +1,5 @@
-//! A list of events in two parts: what a run leaves, and answers, is what one run of all of them does.
+//! A list of events in two parts: what a run leaves, and answers, is what one run of all of them
+//! does.
 //!
 //! The events are steps of ports and the carrying of PDUs, which may happen at any time.
 
@@ -100,7 +101,8 @@ fn show_same(one: &World, other: &World) -> bool {
         && one.in_step() == other.in_step()
 }
 
-// Whether a declaration in one network goes on at once, in the other in two parts, and they end alike.
+// Whether a declaration in one network goes on at once, in the other in two parts, and they end
+// alike.
 fn end_alike(alloc: Global, one: &mut World, other: &mut World, vid: Vid) -> bool {
     declares(one, vid)
         && declares(other, vid)

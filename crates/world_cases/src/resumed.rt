@@ -1,7 +1,9 @@
-//! A run that wants memory goes on where it stopped, and the network ends as after one run of all its events.
+//! A run that wants memory goes on where it stopped, and the network ends as after one run of all
+//! its events.
 //!
-//! In the gate nothing is refused. `tools/memory` runs both tests once for each growth, and refuses just that one: where it is
-//! one of a run, the rest goes on, and where it is one of what stands around the runs, all begins anew.
+//! In the gate nothing is refused. `tools/memory` runs both tests once for each growth, and refuses
+//! just that one: where it is one of a run, the rest goes on, and where it is one of what stands
+//! around the runs, all begins anew.
 
 ghost use Rattle.std.specs.Prelude.{◌≤◌, length};
 
@@ -27,8 +29,9 @@ fn behind(events: &[WorldEvent], done: usize) -> &[WorldEvent]
     &events[done..]
 }
 
-// Lets these events happen in at most so many runs, each of which goes on where the one before it stopped, and answers what the
-// last of them did. None where that isn't enough, or where they can't happen.
+// Lets these events happen in at most so many runs, each of which goes on where the one before it
+// stopped, and answers what the last of them did. None where that isn't enough, or where they can't
+// happen.
 fn run_in(
     alloc: Global,
     world: &mut World,
@@ -61,8 +64,8 @@ fn tick_in(alloc: Global, world: &mut World, runs: usize) -> bool {
     false
 }
 
-// Whether these events happen in one network in one run, in the other in at most so many, and the last of these answers as the
-// end of the one does.
+// Whether these events happen in one network in one run, in the other in at most so many, and the
+// last of these answers as the end of the one does.
 fn run_alike(
     alloc: Global,
     runs: usize,
@@ -124,7 +127,8 @@ fn join(alloc: Global) -> Result<Wire, NoMemory> {
     })
 }
 
-// Station 1 declares a VID and talks, station 3 declares it and listens, and what they say of it comes in at the bridge.
+// Station 1 declares a VID and talks, station 3 declares it and listens, and what they say of it
+// comes in at the bridge.
 fn asking(vid: Vid, talker: Talker) -> [WorldEvent; 13] {
     [
         Request(NodeNo(1), AppRequest::Declare(vid)),
@@ -187,7 +191,8 @@ fn booking() -> [WorldEvent; 9] {
     ]
 }
 
-// The bridge sends LeaveAlls, by which the leave timers of its registrations begin, and that of the Listener ends.
+// The bridge sends LeaveAlls, by which the leave timers of its registrations begin, and that of the
+// Listener ends.
 fn firing() -> [WorldEvent; 8] {
     [
         step_of(theirs(), LeaveAllNow(App::Mvrp)),
@@ -219,8 +224,8 @@ fn leaving() -> [WorldEvent; 12] {
     ]
 }
 
-/// What is seen of a port: each attribute that is registered there, with its registrar and its content; what is booked; the
-/// PDUs that came in; and whether either application is sound.
+/// What is seen of a port: each attribute that is registered there, with its registrar and its
+/// content; what is booked; the PDUs that came in; and whether either application is sound.
 #[derive(PartialEq, Eq, Drop)]
 struct Shown {
     registered: Seq<(NodeKey, Registrar, Option<MsrpContent>)>,
@@ -269,8 +274,8 @@ fn show_same_at(
     }
 }
 
-/// What is seen of a node beside its ports: its clock, the stream's Talker, what its application hears and asks for, and
-/// whether nothing is pending there.
+/// What is seen of a node beside its ports: its clock, the stream's Talker, what its application
+/// hears and asks for, and whether nothing is pending there.
 #[derive(Clone, Copy, PartialEq, Eq)]
 struct Said {
     now: Cs,
@@ -400,7 +405,8 @@ fn new_ones_go_alike(alloc: Global, runs: usize) -> Result<bool, NoMemory> {
     alike
 }
 
-// The same, at the second try where the first couldn't be ended: no more than one growth is refused.
+// The same, at the second try where the first couldn't be ended: no more than one growth is
+// refused.
 fn end_alike(alloc: Global, runs: usize) -> bool {
     match new_ones_go_alike(alloc, runs) {
         Ok(alike) => alike,

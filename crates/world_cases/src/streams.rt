@@ -60,8 +60,8 @@ fn new_talker() -> Option<Talker> {
     })
 }
 
-// What an event answers, which happens once more in the same network where memory ran out: `tools/memory` refuses each growth
-// in turn.
+// What an event answers, which happens once more in the same network where memory ran out:
+// `tools/memory` refuses each growth in turn.
 fn again(world: &mut World, event: &WorldEvent) -> Result<Option<WorldReply>, NoMemory> {
     match answer(world, event.clone()?) {
         Ok(reply) => Ok(reply),

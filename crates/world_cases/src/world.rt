@@ -1,5 +1,5 @@
-//! A bridge between two stations: a declaration and a Talker go over a link, a PDU is repeated, lost
-//! and forged, the clocks go on.
+//! A bridge between two stations: a declaration and a Talker go over a link, a PDU is repeated,
+//! lost and forged, the clocks go on.
 //!
 //! An event is asked at run time whether it may happen, so that a test needs no proof of what the
 //! file's text says.

@@ -1,5 +1,6 @@
--- The steps of nodes that are apart: a step of a port is of its node alone, so the nodes may be taken out of a network, make
--- their steps each by itself, and be put back, with the marks after what their ports took and sent.
+-- The steps of nodes that are apart: a step of a port is of its node alone, so the nodes may be
+-- taken out of a network, make their steps each by itself, and be put back, with the marks after
+-- what their ports took and sent.
 use Rattle.std.specs.Prelude.{◌≡◌, ◌≤◌, ◌-◌, List, [], ◌∷◌, map, fold, Some, slice_get, slice_set}
 use Rattle.std.specs.{Option.option_map_or, List.AllByRecursion}
 use Rattle.srp_base.specs.declared.{numbers.NodeNo.NodeNo, numbers.EgressPort.EgressPort}
@@ -38,7 +39,8 @@ abbrev pub HaveOwnReplies : List NodeStep → NodeState → Type 0
 HaveOwnReplies [] s = Unit {0}
 HaveOwnReplies (st ∷ made) s = (st.reply ≡ (node_step (node_events.Port st.port st.step) s).1) × HaveOwnReplies made (stepped_node st s)
 
--- the marks after a step of a port with its answer: by what the port takes of the node as it was before, or sends
+-- the marks after a step of a port with its answer: by what the port takes of the node as it was
+-- before, or sends
 abbrev pub marks_of_step : EgressPort → PortStep → StepReply → NodeState → MarksState → MarksState
 marks_of_step p Work reply s m = marks_taking p (slice_get (box_at (place_of p.port) s.inboxes) 0) m
 marks_of_step p (Send app) reply s m = marks_sending p app (is_leave_all_at app (place_of p.port) s) (Step reply) m
@@ -61,13 +63,15 @@ after_own n made s w =
 abbrev pub nodes_after : List NodeSteps → List NodeState → List NodeState
 nodes_after made nodes = fold (λ all ns. nodes_with ns.node (node_after ns.steps) all) nodes made
 
--- the marks after the steps of these nodes, one node after the other, each of which was as it is among the nodes
+-- the marks after the steps of these nodes, one node after the other, each of which was as it is
+-- among the nodes
 abbrev pub marks_of_nodes : List NodeSteps → List NodeState → MarksState → MarksState
 marks_of_nodes [] nodes m = m
 marks_of_nodes (ns ∷ made) nodes m =
     marks_of_nodes made nodes (option_map_or (λ s. marks_of_steps ns.node ns.steps s m) (slice_get nodes (ns.node.0 - 1)) m)
 
--- a network whose nodes have become what their own steps make of them, and whose marks have followed
+-- a network whose nodes have become what their own steps make of them, and whose marks have
+-- followed
 abbrev pub after_nodes : List NodeSteps → WorldState → WorldState
 after_nodes made w =
     record { tree = w.tree; nodes = nodes_after made w.nodes; marks = marks_of_nodes made w.nodes w.marks }
@@ -76,8 +80,8 @@ after_nodes made w =
 abbrev pub HasMade : List NodeState → NodeSteps → Type 0
 HasMade nodes ns = (1 ≤ ns.node.0) × ((s : NodeState) × (slice_get nodes (ns.node.0 - 1) ≡ Some s) × HaveOwnReplies ns.steps s)
 
--- steps that nodes of a network have made apart: the nodes ascend, the tree has the ports, and each step has the answer that its
--- node gives at its place among the node's own steps
+-- steps that nodes of a network have made apart: the nodes ascend, the tree has the ports, and each
+-- step has the answer that its node gives at its place among the node's own steps
 pub record AreMadeApart (w : WorldState) (made : List NodeSteps) : Type 0 where
   pub nodes : AscendByNode made
   pub ports : AllByRecursion (λ ns. HavePorts w.tree ns.node ns.steps) made

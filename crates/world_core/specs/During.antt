@@ -10,14 +10,16 @@ use Rattle.world_core.specs.declared.events.WorldEvent.{WorldEvent}
 use Rattle.world_core.specs.declared.events.WorldEvent.TheVariants.{Request, Port, Lose, Repeat, Forge, Carry, Clock}
 use Rattle.world_core.specs.{World.WorldState, Kept.IsKeptWorld}
 
--- a network over this tree during tick t: it keeps what every network keeps, and every clock is at t
+-- a network over this tree during tick t: it keeps what every network keeps, and every clock is at
+-- t
 pub record IsDuring (tree : Topology) (t : ℕ) (w : WorldState) : Type 0 where
   pub kept : IsKeptWorld w
   pub tree_is : w.tree ≡ tree
   pub clock : (x : ℕ) (s : NodeState) → slice_get w.nodes x ≡ Some s → s.clock.0 ≡ t
 
--- an event that a tick over this tree may have, whatever happened before in the tick: its port exists, a forged PDU is of at
--- most 1,500 octets, or it is the request of a VID or of a stream at a station; the clock's ends the tick
+-- an event that a tick over this tree may have, whatever happened before in the tick: its port
+-- exists, a forged PDU is of at most 1,500 octets, or it is the request of a VID or of a stream at
+-- a station; the clock's ends the tick
 abbrev pub IsAllowed : Topology → WorldEvent → Type 0
 IsAllowed tree (Request n request) = (1 ≤ n.0) × (slice_get tree.kinds (n.0 - 1) ≡ Some Station) × AsksInRange request
 IsAllowed tree (Port n port step) = HasPort tree (record { node = n; port = port })

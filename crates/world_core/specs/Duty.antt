@@ -1,6 +1,6 @@
--- What is on each link, as messages: the octets in flight read as what they say, so that the duty of a link's two ends
--- (mrp_participant) speaks of the network. It is said of any application, by the order of its keys, its participant at a place
--- of a node, and what a PDU says in it.
+-- What is on each link, as messages: the octets in flight read as what they say, so that the duty
+-- of a link's two ends (mrp_participant) speaks of the network. It is said of any application, by
+-- the order of its keys, its participant at a place of a node, and what a PDU says in it.
 use Rattle.std.specs.Prelude.{◌≡◌, ℕ, true, List, ◌++◌, filter_map, Option, Some, None, option_map, Result, Ok, Err, slice_get}
 use Rattle.std.specs.{declared.cmp.Ordering.Ordering, Option.option_and_then, Ordering.nat_cmp}
 use Rattle.srp_base.specs.declared.{numbers.EgressPort.EgressPort, mrp.App.App, mrp.App.TheVariants.Mvrp, mrp.App.TheVariants.Msrp}
@@ -32,7 +32,8 @@ part_at part p w = option_and_then (λ s. part (place_of p.port) s) (node_at p.n
 abbrev pub flags_of : EndMark → Mark
 flags_of e = record { clear = e.clear; assured = e.assured }
 
--- the link between two participants with these PDUs in flight, as messages, and the marks of both ends
+-- the link between two participants with these PDUs in flight, as messages, and the marks of both
+-- ends
 abbrev pub marked_link : {K C : Type 0} → (Wire → Option (Messages K C)) → State K C → State K C → (sent coming : List Wire)
     → BothMarks → MarkedLink K C
 marked_link said near far sent coming marks =
@@ -42,9 +43,9 @@ marked_link said near far sent coming marks =
       far = flags_of marks.1;
     }
 
--- what a link keeps in an application: both ends meet their duty, where a port is sound also by its mark; the marks count the
--- PDUs in flight from each end; and where a way is clear, nothing is in flight from its end, malformed PDUs included, and its
--- neighbour holds nothing of any key
+-- what a link keeps in an application: both ends meet their duty, where a port is sound also by its
+-- mark; the marks count the PDUs in flight from each end; and where a way is clear, nothing is in
+-- flight from its end, malformed PDUs included, and its neighbour holds nothing of any key
 pub record IsLinkMet {K C : Type 0} (cmp : K → K → Ordering) (said : Wire → Option (Messages K C)) (app : App)
     (near far : State K C) (sent coming : List Wire) (marks : BothMarks) : Type 0 where
   pub duties : AreMarkedDutiesMet cmp (marked_link said near far sent coming marks)
@@ -96,7 +97,8 @@ AreVlanDutiesMet w = AreDutiesMetIn nat_cmp vlan_place message_of Mvrp w
 
 -- ---- of MSRP
 
--- what the octets of a PDU of MSRP say to a participant, in the order in which they stand; malformed octets say nothing
+-- what the octets of a PDU of MSRP say to a participant, in the order in which they stand;
+-- malformed octets say nothing
 abbrev pub said_of_streams : Result MsrpPdu ℕ → Option (Messages MsrpKey MsrpContent)
 said_of_streams (Ok pdu) = Some (record { leave_all = pdu.leave_all; events = pdu.events })
 said_of_streams (Err place) = None

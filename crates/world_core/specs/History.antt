@@ -1,4 +1,5 @@
--- The changes of a run that goes on, port by port; and a tick of which only the nodes that acted are noted.
+-- The changes of a run that goes on, port by port; and a tick of which only the nodes that acted
+-- are noted.
 use Rattle.std.specs.Prelude.{◌≡◌, ◌≤◌, ℕ, zero, suc, ◌+◌, Bool, ◌&&◌, ◌==◌, not, if◌then◌else◌, List, [], ◌∷◌, map, flat_map, length}
 use Rattle.std.specs.List.{AllByRecursion, list_any, range_with_len}
 use Rattle.srp_base.specs.declared.{numbers.NodeNo.NodeNo, numbers.EgressPort.EgressPort, ports.PortChange.PortChange}
@@ -70,7 +71,8 @@ ComeUpTo tick changes = AllByRecursion (λ c. c.tick ≤ tick) changes
 abbrev pub node_noted : ℕ → NodeNo → WorldState → EgressPort → List PortChange → List PortChange
 node_noted tick n w p changes = if n.0 == p.node.0 then changes_noted tick p (force_at p w) changes else changes
 
--- the changes of a node's ports, of which the first has number k, with those of the first `count` noted
+-- the changes of a node's ports, of which the first has number k, with those of the first `count`
+-- noted
 abbrev pub ports_noted : ℕ → NodeState → NodeNo → ℕ → ℕ → List (List PortChange) → List (List PortChange)
 ports_noted tick s n k zero ports = ports
 ports_noted tick s n k (suc count) [] = []

@@ -1,4 +1,5 @@
--- How the code goes from an event to the marks: what it notes before a step of a port. No public contract names this file.
+-- How the code goes from an event to the marks: what it notes before a step of a port. No public
+-- contract names this file.
 use Rattle.std.specs.Prelude.{◌≤◌, Bool, true, false}
 use Rattle.srp_base.specs.declared.numbers.EgressPort.{EgressPort}
 use Rattle.tree_topology.specs.Ports.{peer_of}

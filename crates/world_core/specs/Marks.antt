@@ -1,6 +1,7 @@
--- The marks of a network: of each end of each link, in each application, whether a neighbour's LeaveAll has cleared its way,
--- whether it is assured by one, and how many PDUs are on their way from it (IEEE Std 802.1Q-2018, 10.7: LeaveAll). An end whose
--- way was clear when it took a LeaveAll is sound, as after a LeaveAll of its own. The marks are this project's.
+-- The marks of a network: of each end of each link, in each application, whether a neighbour's
+-- LeaveAll has cleared its way, whether it is assured by one, and how many PDUs are on their way
+-- from it (IEEE Std 802.1Q-2018, 10.7: LeaveAll). An end whose way was clear when it took a
+-- LeaveAll is sound, as after a LeaveAll of its own. The marks are this project's.
 use Rattle.std.specs.Prelude.{◌≡◌, ℕ, ◌+◌, ◌-◌, ◌==◌, Bool, true, false, ◌||◌, ◌&&◌, if◌then◌else◌, List, [], ◌∷◌, length, replicate, Option, Some, slice_get, slice_set}
 use Rattle.std.specs.Option.{option_map_or, option_and_then}
 use Rattle.srp_base.specs.declared.{numbers.EgressPort.EgressPort, mrp.App.App, mrp.App.TheVariants.Mvrp, mrp.App.TheVariants.Msrp}
@@ -74,7 +75,8 @@ pub record IsOfTree (m : MarksState) : Type 0 where
 abbrev pub after_saying : EndMark → EndMark
 after_saying e = record { clear = false; assured = e.assured; flying = e.flying + 1 }
 
--- its neighbour has sent a PDU, which may have LeaveAll: with nothing on the way from this end, its way is clear
+-- its neighbour has sent a PDU, which may have LeaveAll: with nothing on the way from this end, its
+-- way is clear
 abbrev pub after_hearing_of : (leave_all : Bool) → EndMark → EndMark
 after_hearing_of leave_all e = record e { clear = e.clear || (leave_all && e.flying == 0) }
 

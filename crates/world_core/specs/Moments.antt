@@ -9,7 +9,8 @@ abbrev pub events_from : Plan → ℕ → List Tick → List WorldEvent
 events_from plan t [] = []
 events_from plan t (tick ∷ ticks) = tick_events plan t tick ++ events_from plan (suc t) ticks
 
--- the network at a moment of a run: after the first of all that happens, as many as there are of them
+-- the network at a moment of a run: after the first of all that happens, as many as there are of
+-- them
 pub record IsMoment (plan : Plan) (ticks : List Tick) (w : WorldState) : Type 0 where
   pub count : ℕ
   pub reached : w ≡ world_after (take count (events_from plan 0 ticks)) (world_of plan)

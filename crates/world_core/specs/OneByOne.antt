@@ -1,5 +1,5 @@
--- The steps of a tick one by one: whichever of a node's ports makes the next step, it is the next of the jobs that this port has
--- left; and one node makes its steps after the other.
+-- The steps of a tick one by one: whichever of a node's ports makes the next step, it is the next
+-- of the jobs that this port has left; and one node makes its steps after the other.
 use Rattle.std.specs.Prelude.{◌≡◌, ◌≤◌, ℕ, zero, suc, List, [], ◌∷◌, length, map, Some, slice_get, slice_set}
 use Rattle.std.specs.{Option.option_map_or, List.range_with_len, List.AllByRecursion}
 use Rattle.srp_base.specs.declared.numbers.NodeNo.{NodeNo}
@@ -16,8 +16,8 @@ use Rattle.world_core.specs.{World.WorldState, World.node_at, World.world_step, 
 abbrev pub node_jobs : NodeNo → WorldState → List (List PortStep)
 node_jobs n w = option_map_or (λ s. map (λ at. job_list at s) (range_with_len 0 (ports_of s))) (node_at n w) []
 
--- a step of a port of a node is the first of the jobs that the port has left, and has the network's answer; behind it the port has
--- the rest left
+-- a step of a port of a node is the first of the jobs that the port has left, and has the network's
+-- answer; behind it the port has the rest left
 pub record IsNextJob (n : NodeNo) (left : List (List PortStep)) (w : WorldState) (st : NodeStep) (rest : List PortStep) : Type 0 where
   pub port : 1 ≤ st.port.0
   pub job : slice_get left (place_of st.port) ≡ Some (st.step ∷ rest)
@@ -37,7 +37,8 @@ abbrev pub steps_before : NodeNo → List NodeStep → List NodeSteps → List N
 steps_before n [] later = later
 steps_before n (st ∷ made) later = record { node = n; steps = st ∷ made } ∷ later
 
--- so many nodes, of which the first has number x, make all jobs of their ports, one node after the other
+-- so many nodes, of which the first has number x, make all jobs of their ports, one node after the
+-- other
 abbrev pub MakeAll : ℕ → ℕ → WorldState → List NodeSteps → Type 0
 MakeAll x zero w steps = steps ≡ []
 MakeAll x (suc count) w steps =
@@ -45,8 +46,8 @@ MakeAll x (suc count) w steps =
     × MakeLeft (record { 0 = x }) (node_jobs (record { 0 = x }) w) w made
     × MakeAll (suc x) count (world_after (events_of (record { 0 = x }) made) w) later)
 
--- A tick whose events are those of the scenario with their answers, and in which each node makes the jobs of its ports one by one,
--- nodes ascending.
+-- A tick whose events are those of the scenario with their answers, and in which each node makes
+-- the jobs of its ports one by one, nodes ascending.
 pub record IsOneByOne (plan : Plan) (t : ℕ) (w : WorldState) (tick : Tick) : Type 0 where
   pub numbers : map (λ e. e.0) tick.events ≡ map (λ e. e.0) (script_at plan t)
   pub answers : map (λ e. e.1) tick.events ≡ replies_to (map (λ e. e.1) (script_at plan t)) w

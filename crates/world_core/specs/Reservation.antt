@@ -1,5 +1,5 @@
--- What is in force at an egress port: the streams that are booked there and their slopes (IEEE Std 802.1Q-2018, 34.3), and the
--- VIDs that are registered there (11.2).
+-- What is in force at an egress port: the streams that are booked there and their slopes (IEEE Std
+-- 802.1Q-2018, 34.3), and the VIDs that are registered there (11.2).
 use Rattle.std.specs.Prelude.{ℕ, Bool, ◌&&◌, ◌==◌, List, [], map, filter, Option, Some, None}
 use Rattle.std.specs.Cmp.Lexicographic.{pointwise}
 use Rattle.srp_base.specs.declared.{numbers.EgressPort.EgressPort, numbers.StreamId.StreamId, ports.PortChange.PortChange, bandwidth.Class.TheVariants.A, bandwidth.Class.TheVariants.B}
@@ -10,8 +10,8 @@ use Rattle.mrp_participant.specs.declared.row.Row.{Row}
 use Rattle.mrp_participant.specs.Lookup.{key_of}
 use Rattle.mvrp.specs.Part.{Part}
 
--- what is in force at a port: the booked streams ascending, their slopes of each class together in bit/s, and the
--- registered VIDs ascending
+-- what is in force at a port: the booked streams ascending, their slopes of each class together in
+-- bit/s, and the registered VIDs ascending
 pub record Reservation : Type 0 where
   pub booked : List StreamId
   pub slope_a : ℕ

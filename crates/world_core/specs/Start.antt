@@ -1,5 +1,5 @@
--- The network of a scenario at its start: its tree, and each node with its ports, nothing declared but the Domain values of its
--- nodes, and no PDU anywhere.
+-- The network of a scenario at its start: its tree, and each node with its ports, nothing declared
+-- but the Domain values of its nodes, and no PDU anywhere.
 use Rattle.std.specs.Prelude.{◌≡◌, ℕ, Bool, true, false, ◌+◌, ◌*◌, ◌-◌, ◌%◌, ◌==◌, if◌then◌else◌, List, [], ◌∷◌, ◌++◌}
 use Rattle.std.specs.List.{AllByRecursion}
 use Rattle.srp_base.specs.declared.{numbers.Cs.Cs, ports.PortSetup.PortSetup}
@@ -20,8 +20,9 @@ use Rattle.node_core.specs.declared.types.Wire.{Wire}
 use Rattle.node_core.specs.{State.NodeState, State.new_node, Proper.AsksNothing}
 use Rattle.world_core.specs.{Marks.new_marks, World.WorldState}
 
--- the LeaveAll period of the end of a link with this number, in cs: the ends of link l have the numbers 2l - 1 and 2l, so
--- that ends don't all send LeaveAll at once (IEEE Std 802.1Q-2018, 10.7.11: LeaveAllTime)
+-- the LeaveAll period of the end of a link with this number, in cs: the ends of link l have the
+-- numbers 2l - 1 and 2l, so that ends don't all send LeaveAll at once (IEEE Std 802.1Q-2018,
+-- 10.7.11: LeaveAllTime)
 abbrev pub period_of : ℕ → Cs
 period_of n = record { 0 = 1001 + 7 * (n % 64) }
 
@@ -41,8 +42,8 @@ abbrev pub setups_from : ℕ → ℕ → List LinkEntry → List PortSetup
 setups_from n x [] = []
 setups_from n x (l ∷ links) = end_setup n x l ++ setups_from (n + 1) x links
 
--- the Domain values that a node declares at each of its ports, by the word of its entry; where the scenario has no domains,
--- they are off
+-- the Domain values that a node declares at each of its ports, by the word of its entry; where the
+-- scenario has no domains, they are off
 abbrev pub domain_set : Bool → DomainWord → DomainSet
 domain_set false word = Off
 domain_set true words.Both = Both
@@ -62,8 +63,8 @@ world_of plan = record { tree = plan.tree; nodes = nodes_from plan 1 plan.nodes;
 
 -- ---- what there is at the start, in plain numbers
 
--- a port's row of the Domain value of an SR class, with the VID 2: it is declared, nothing of it was said yet, and none is
--- registered (IEEE Std 802.1Q-2018, 35.2.2.9)
+-- a port's row of the Domain value of an SR class, with the VID 2: it is declared, nothing of it
+-- was said yet, and none is registered (IEEE Std 802.1Q-2018, 35.2.2.9)
 abbrev pub domain_row : ℕ → ℕ → Row MsrpKey MsrpContent
 domain_row id priority = record {
   key = DomainKey id;
@@ -74,8 +75,8 @@ domain_row id priority = record {
   leave = record { 0 = 0 };
 }
 
--- the rows of MSRP at each link port, by the word of its node: class A has the ID 6 and the priority 3, class B 5 and 2; where
--- the scenario has no domains there are none
+-- the rows of MSRP at each link port, by the word of its node: class A has the ID 6 and the
+-- priority 3, class B 5 and 2; where the scenario has no domains there are none
 abbrev pub domain_rows : Bool → DomainWord → List (Row MsrpKey MsrpContent)
 domain_rows false word = []
 domain_rows true words.Both = domain_row 5 2 ∷ domain_row 6 3 ∷ []
@@ -88,8 +89,8 @@ pub record HasRowsAlone {K C : Type 0} (those : List (Row K C)) (part : State K 
   pub leave_all : part.leave_all ≡ Passive
   pub sound : part.sound ≡ true
 
--- A node at its start: its clock is at 0, at no port anything is kept of a VID, and of MSRP these rows alone, nothing is
--- booked, no PDU waits, and its application asks for nothing.
+-- A node at its start: its clock is at 0, at no port anything is kept of a VID, and of MSRP these
+-- rows alone, nothing is booked, no PDU waits, and its application asks for nothing.
 pub record IsAtStart (rows : List (Row MsrpKey MsrpContent)) (s : NodeState) : Type 0 where
   pub clock : s.clock.0 ≡ 0
   pub vlans : AllByRecursion (λ (part : Part). HasRowsAlone [] part) s.vlans.parts

@@ -1,4 +1,5 @@
--- The ticks of a run: which steps are made in a tick and in which order, and when a journal tells a run of a scenario.
+-- The ticks of a run: which steps are made in a tick and in which order, and when a journal tells a
+-- run of a scenario.
 use Rattle.std.specs.Prelude.{◌≡◌, ◌≢◌, ◌<◌, ℕ, suc, ◌+◌, ◌-◌, ◌==◌, Bool, true, false, if◌then◌else◌, List, [], ◌∷◌, ◌++◌, map, filter, Option, Some, None, option_map, slice_get}
 use Rattle.std.specs.{Option.option_map_or, List.flat_map, List.range_with_len, List.AllByRecursion}
 use Rattle.srp_base.specs.declared.{numbers.NodeNo.NodeNo, numbers.PortNo.PortNo, numbers.EgressPort.EgressPort, streams.Talker.Talker}
@@ -18,7 +19,8 @@ use Rattle.world_core.specs.{World.WorldState, World.node_at, World.world_after,
 
 -- ---- what the scenario's events are in the network
 
--- what the Talker of a stream states (IEEE Std 802.1Q-2018, 35.2.2.8): the entry's values, and no latency so far
+-- what the Talker of a stream states (IEEE Std 802.1Q-2018, 35.2.2.8): the entry's values, and no
+-- latency so far
 abbrev pub talker_of_entry : StreamEntry → Talker
 talker_of_entry e =
     record {
@@ -36,8 +38,8 @@ talker_of_entry e =
 abbrev pub stream_at : List StreamEntry → ℕ → Option StreamEntry
 stream_at streams n = slice_get streams (n - 1)
 
--- What happens to a stream is asked of its Talker's station, or of the listening one. A loss, a repeat and a forgery act on the
--- PDUs that wait at `to` and come from `from`.
+-- What happens to a stream is asked of its Talker's station, or of the listening one. A loss, a
+-- repeat and a forgery act on the PDUs that wait at `to` and come from `from`.
 abbrev pub event_of : List Link → List StreamEntry → EventKind → Option WorldEvent
 event_of links streams (kinds.Declare station vid) = Some (Request station (Declare vid))
 event_of links streams (kinds.Withdraw station vid) = Some (Request station (Withdraw vid))
@@ -116,9 +118,9 @@ abbrev pub AscendByNode : List NodeSteps → Type 0
 AscendByNode [] = Unit {0}
 AscendByNode (ns ∷ nodes) = AllByRecursion (λ later. ns.node.0 < later.node.0) nodes × AscendByNode nodes
 
--- A tick of a journal is legal from a state of the network: its events are those of the scenario with their answers; each
--- port has made exactly its jobs, as the scripted events left its node, in some interleaving with the node's other ports;
--- and each step has its answer at its place.
+-- A tick of a journal is legal from a state of the network: its events are those of the scenario
+-- with their answers; each port has made exactly its jobs, as the scripted events left its node, in
+-- some interleaving with the node's other ports; and each step has its answer at its place.
 pub record IsLegalTick (plan : Plan) (t : ℕ) (w : WorldState) (tick : Tick) : Type 0 where
   pub numbers : map (λ e. e.0) tick.events ≡ map (λ e. e.0) (script_at plan t)
   pub answers : map (λ e. e.1) tick.events ≡ replies_to (map (λ e. e.1) (script_at plan t)) w
@@ -159,7 +161,8 @@ node_ports n w =
 abbrev pub jobs_that : (PortStep → Bool) → NodeNo → WorldState → List (PortNo × PortStep)
 jobs_that test n w = flat_map (λ p. map (λ step. (p.port, step)) (filter test (jobs_of p w))) (node_ports n w)
 
--- the canonical order: all Works, then all Dues, then all Settles, then all Sends, ports ascending in each
+-- the canonical order: all Works, then all Dues, then all Settles, then all Sends, ports ascending
+-- in each
 abbrev pub canonical_order : NodeNo → WorldState → List (PortNo × PortStep)
 canonical_order n w = jobs_that is_work n w ++ jobs_that is_due n w ++ jobs_that is_settle n w ++ jobs_that is_send n w
 

@@ -1,4 +1,5 @@
--- The timeline of a run: what was in force at each port after the steps of each tick, as changes by port and tick.
+-- The timeline of a run: what was in force at each port after the steps of each tick, as changes by
+-- port and tick.
 use Rattle.std.specs.Prelude.{◌≡◌, ℕ, ◌<◌, ◌≤◌, List, [], ◌∷◌, ◌++◌, length, map, take, Some, if◌then◌else◌, flat_map, slice_get, All, AllPairs}
 use Rattle.std.specs.{Option.option_map_or, List.range_with_len}
 use Rattle.srp_base.specs.declared.{numbers.EgressPort.EgressPort, bandwidth.Class.TheVariants.A, bandwidth.Class.TheVariants.B, ports.PortChange.PortChange}
@@ -28,7 +29,8 @@ force_at p w = option_map_or (node_force (place_of p.port)) (node_at p.node w) n
 
 -- ---- the changes of one tick more
 
--- the change that a port's changes lack to say in a tick what is in force there: none where they say it
+-- the change that a port's changes lack to say in a tick what is in force there: none where they
+-- say it
 abbrev pub lacking : ℕ → EgressPort → Reservation → List PortChange → List PortChange
 lacking tick p force changes =
     if is_same (said_by (in_force tick changes)) force then [] else change_of tick p force ∷ []
@@ -41,7 +43,8 @@ changes_noted tick p force changes = changes ++ lacking tick p force changes
 abbrev pub tree_ports : Topology → List EgressPort
 tree_ports tree = flat_map (ports_at tree.links) (range_with_len 1 (length tree.kinds))
 
--- the changes of all ports, each port's with the one that they lack to say in a tick what is in force in a network
+-- the changes of all ports, each port's with the one that they lack to say in a tick what is in
+-- force in a network
 abbrev pub with_notes : ℕ → WorldState → List PortChange → List PortChange
 with_notes tick w changes =
     flat_map (λ p. changes_noted tick p (force_at p w) (changes_at changes p)) (tree_ports w.tree)
@@ -67,15 +70,15 @@ SaysFrom tick changes w =
 abbrev pub world_after_ticks : Plan → List Tick → WorldState
 world_after_ticks plan ticks = world_after (events_from plan 0 ticks) (world_of plan)
 
--- the network after the events and steps of tick t, which are in force during that tick: the PDUs of its ports aren't
--- carried yet
+-- the network after the events and steps of tick t, which are in force during that tick: the PDUs
+-- of its ports aren't carried yet
 pub record IsAfterSteps (plan : Plan) (ticks : List Tick) (t : ℕ) (w : WorldState) : Type 0 where
   pub tick : Tick
   pub at : slice_get ticks t ≡ Some tick
   pub reached : w ≡ after_steps plan t tick (world_after_ticks plan (take t ticks))
 
--- The timeline of ticks: its changes ascend by port and tick, are of the tree's ports and within the ticks, and for each port
--- and tick they say what is in force there after the tick's steps.
+-- The timeline of ticks: its changes ascend by port and tick, are of the tree's ports and within
+-- the ticks, and for each port and tick they say what is in force there after the tick's steps.
 pub record IsTimelineOf (plan : Plan) (ticks : List Tick) (changes : List PortChange) : Type 0 where
   pub are : AreChanges plan.tree (length ticks) changes
   pub gives : (t : ℕ) (w : WorldState) (p : EgressPort) → IsAfterSteps plan ticks t w → HasPort plan.tree p

@@ -14,7 +14,8 @@ use Rattle.world_core.specs.declared.events.WorldEvent.TheVariants.{Request, Por
 use Rattle.world_core.specs.declared.events.WorldReply.TheVariants.{Step, Done, Missed}
 use Rattle.world_core.specs.Marks.{MarksState, mark_at, with_both, both_sent, both_took, both_lost, both_copied, both_forged}
 
--- a tree, a state for each of its nodes in the order of their numbers, and the marks of the ends of its links
+-- a tree, a state for each of its nodes in the order of their numbers, and the marks of the ends of
+-- its links
 pub record WorldState : Type 0 where
   pub tree : Topology
   pub nodes : List NodeState
@@ -119,7 +120,8 @@ with_marks m made = (record made.0 { marks = m }, made.1)
 abbrev pub has_leave_all_next : App → EgressPort → WorldState → Bool
 has_leave_all_next app p w = option_map_or (λ s. is_leave_all_at app (place_of p.port) s) (node_at p.node w) false
 
--- the marks after a port has taken this PDU, if any: whether it has LeaveAll counts only where the way is clear
+-- the marks after a port has taken this PDU, if any: whether it has LeaveAll counts only where the
+-- way is clear
 abbrev pub marks_taking : EgressPort → Option Wire → MarksState → MarksState
 marks_taking p None m = m
 marks_taking p (Some wire) m = with_both wire.app p (both_took ((mark_at wire.app p m).clear && has_leave_all wire)) m
@@ -179,8 +181,8 @@ replies_to (e ∷ events) w = (world_step e w).1 ∷ replies_to events (world_st
 
 -- ---- when an event may happen
 
--- its nodes and ports exist, a request is made at a station, a forged PDU has at most 1,500 octets, and the clock goes on from
--- below 2^61
+-- its nodes and ports exist, a request is made at a station, a forged PDU has at most 1,500 octets,
+-- and the clock goes on from below 2^61
 abbrev pub CanHappen : WorldEvent → WorldState → Type 0
 CanHappen (Request n request) w = (1 ≤ n.0) × ((s : NodeState) × (node_at n w ≡ Some s) × (s.kind ≡ Station))
 CanHappen (Port n port step) w = HasPort w.tree (record { node = n; port = port })
@@ -195,8 +197,9 @@ abbrev pub CanAllHappen : List WorldEvent → WorldState → Type 0
 CanAllHappen [] w = Unit {0}
 CanAllHappen (e ∷ events) w = CanHappen e w × CanAllHappen events (world_step e w).0
 
--- the request of an event is of what fits: of a VID (IEEE Std 802.1Q-2018, 9.6), or of a Talker whose numbers fit in their fields
--- (35.2.2.8), and a forged PDU is of octets, as the types of a request and of a PDU have it
+-- the request of an event is of what fits: of a VID (IEEE Std 802.1Q-2018, 9.6), or of a Talker
+-- whose numbers fit in their fields (35.2.2.8), and a forged PDU is of octets, as the types of a
+-- request and of a PDU have it
 abbrev pub IsEventInRange : WorldEvent → Type 0
 IsEventInRange (Request n request) = AsksInRange request
 IsEventInRange (Port n port step) = Unit {0}
@@ -208,14 +211,15 @@ IsEventInRange Clock = Unit {0}
 
 -- ---- what the readers say
 
--- whether nothing is pending anywhere: no PDU is on its way, every Applicant is VO or QA, every Registrar IN or MT, every
--- LeaveAll machine Passive, and no key awaits
+-- whether nothing is pending anywhere: no PDU is on its way, every Applicant is VO or QA, every
+-- Registrar IN or MT, every LeaveAll machine Passive, and no key awaits
 abbrev pub is_quiet : WorldState → Bool
 is_quiet w = list_all is_still_node w.nodes
 
--- whether an application at a port is sound: it has sent a LeaveAll since a PDU of the application was last lost or forged on the
--- port's link, if one was; or since then it took one of its neighbour's on a clear way: the neighbour had sent one while nothing
--- was on the way to it, and the port hadn't said anything since
+-- whether an application at a port is sound: it has sent a LeaveAll since a PDU of the application
+-- was last lost or forged on the port's link, if one was; or since then it took one of its
+-- neighbour's on a clear way: the neighbour had sent one while nothing was on the way to it, and
+-- the port hadn't said anything since
 abbrev pub is_sound_in : App → EgressPort → NodeState → MarksState → Bool
 is_sound_in app p s m = (mark_at app p m).assured || is_sound_at app (place_of p.port) s
 

@@ -1,4 +1,5 @@
-//! A network taken apart: its nodes, each of which may make the steps of its ports by itself, and what is left of it.
+//! A network taken apart: its nodes, each of which may make the steps of its ports by itself, and
+//! what is left of it.
 
 ghost use Rattle.std.specs.Prelude.{◌≡◌};
 ghost use Rattle.std.specs.List.{AllByRecursion};
@@ -13,8 +14,8 @@ use node_core::Node;
 use srp_base::Seq;
 use tree_topology::Tree;
 
-/// What is left of a network without its nodes: its tree, and the marks of its ports, which whoever lets the nodes make their
-/// steps has to follow up.
+/// What is left of a network without its nodes: its tree, and the marks of its ports, which whoever
+/// lets the nodes make their steps has to follow up.
 #[derive(Drop)]
 pub struct WorldRest {
     pub tree: Tree,
@@ -22,8 +23,8 @@ pub struct WorldRest {
 }
 
 impl World {
-    /// Takes a network apart: what is left without its nodes, and the nodes, ascending by number. Nothing is changed in them,
-    /// and no memory is taken.
+    /// Takes a network apart: what is left without its nodes, and the nodes, ascending by number.
+    /// Nothing is changed in them, and no memory is taken.
     pub fn part(self) -> (WorldRest, Seq<Node>)
         ensures tree { result.0.tree ≡ self.tree }
         ensures marks { result.0.marks ≡ self.marks }
@@ -36,10 +37,10 @@ impl World {
         (WorldRest { tree, marks }, Seq::from_vec(nodes))
     }
 
-    /// Puts a network together from what was left and nodes ascending by number, which stand in the tree and with it and the
-    /// marks keep one clock and what each link keeps; what each node keeps by itself is known of it. That they do after
-    /// steps which the nodes have made apart is the law `steps_made_apart_keep_it`. Nothing is changed in them, and no memory
-    /// is taken.
+    /// Puts a network together from what was left and nodes ascending by number, which stand in the
+    /// tree and with it and the marks keep one clock and what each link keeps; what each node keeps
+    /// by itself is known of it. That they do after steps which the nodes have made apart is the
+    /// law `steps_made_apart_keep_it`. Nothing is changed in them, and no memory is taken.
     pub fn join(rest: WorldRest, nodes: Seq<Node>) -> World
         requires { IsWhole (world_with rest.tree (states_in nodes) rest.marks) }
         ensures { result ≡ world_with rest.tree (states_in nodes) rest.marks }

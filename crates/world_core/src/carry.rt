@@ -1,4 +1,5 @@
-//! The carrying at the end of one tick: a part of a tick, for those who run a scenario tick by tick.
+//! The carrying at the end of one tick: a part of a tick, for those who run a scenario tick by
+//! tick.
 
 ghost use Rattle.std.specs.Prelude.{◌≡◌, false, map, IfOk, OnOk};
 ghost use Rattle.std.specs.List.{list_any};
@@ -14,7 +15,8 @@ use crate::world::World;
 use node_core::PortStep;
 use srp_base::{LinkNo, NoMemory};
 
-/// Where a step of the tick was Send, lets the PDUs of every port be carried; else no PDU waits. Answers which.
+/// Where a step of the tick was Send, lets the PDUs of every port be carried; else no PDU waits.
+/// Answers which.
 pub fn carry_sent(world: &mut World, steps: &[NodeSteps]) -> Result<bool, NoMemory>
     requires { has_send steps.now ≡ false
         → world_after (map WorldEvent.Carry (link_ports world.old.tree)) world.old ≡ world.old }

@@ -14,7 +14,8 @@ pub enum WorldEvent {
     Lose(EgressPort, u32),
     /// The PDU with this index is in a port's inbox twice.
     Repeat(EgressPort, u32),
-    /// A PDU of at most 1,500 octets that no neighbour sent stands at this index in a port's inbox, before the one that had it.
+    /// A PDU of at most 1,500 octets that no neighbour sent stands at this index in a port's inbox,
+    /// before the one that had it.
     Forge(EgressPort, u32, Wire),
     /// The PDUs of a port's outbox come in at its peer.
     Carry(EgressPort),

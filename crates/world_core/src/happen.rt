@@ -40,7 +40,8 @@ pub(crate) fn make_step(
     Ok(WorldReply::Step(reply))
 }
 
-// Every node makes room for its next clock. Where memory runs out, some have room, and all are as they were.
+// Every node makes room for its next clock. Where memory runs out, some have room, and all are as
+// they were.
 fn make_room(nodes: &mut Vec<Node>) -> Result<(), NoMemory>
     ensures states { states_in nodes.new.items ≡ states_in nodes.old.items }
     ensures ready { OnOk result (AllByRecursion (λ n. n.ready ≡ true) nodes.new.items) }
@@ -74,7 +75,8 @@ fn tick_each(nodes: &mut Vec<Node>)
     }
 }
 
-/// The clock of every node goes on, or that of none where memory runs out: each makes room for it before the first goes on.
+/// The clock of every node goes on, or that of none where memory runs out: each makes room for it
+/// before the first goes on.
 pub(crate) fn tick_all(nodes: &mut Vec<Node>) -> Result<WorldReply, NoMemory>
     requires { AllByRecursion (λ s. s.clock.0 < 2 ^ 61) (states_in nodes.old.items) }
     ensures ok { IfOk result (λ reply. (tree : Topology) (m : MarksState)

@@ -1,4 +1,5 @@
-//! The changes of a run that goes on, in a list for each port: a tick costs only the ports of the nodes that acted.
+//! The changes of a run that goes on, in a list for each port: a tick costs only the ports of the
+//! nodes that acted.
 
 ghost use Rattle.std.specs.Prelude.{◌≡◌, ◌++◌, [], ℕ, List, length, map, option_map, IfOk, OnOk};
 ghost use Rattle.std.specs.List.{AllByRecursion, range_with_len};
@@ -20,7 +21,8 @@ use std::collections::VecDeque;
 use std::marker::Model;
 use tree_topology::Tree;
 
-/// The changes of a run that goes on, each at the end of its port's. Contracts see a tree and the changes of its ports.
+/// The changes of a run that goes on, each at the end of its port's. Contracts see a tree and the
+/// changes of its ports.
 #[derive(Drop)]
 pub struct History {
     tree: Tree,
@@ -63,9 +65,10 @@ impl History {
         Ok(History { tree, nodes })
     }
 
-    /// Enters a change at a tick for each port of a node that has made a step other than Send among these, where something else
-    /// is in force now than the changes have of it. The changes are of the tree's ports, and none is at that tick or after it.
-    /// After want of memory nothing is left.
+    /// Enters a change at a tick for each port of a node that has made a step other than Send among
+    /// these, where something else is in force now than the changes have of it. The changes are of
+    /// the tree's ports, and none is at that tick or after it. After want of memory nothing is
+    /// left.
     pub fn note_steps(
         self,
         world: &World,
@@ -84,7 +87,8 @@ impl History {
         Ok(History { tree, nodes })
     }
 
-    /// All changes as a timeline: ascending by port, and those of a port in the order in which they were entered.
+    /// All changes as a timeline: ascending by port, and those of a port in the order in which they
+    /// were entered.
     pub fn into_timeline(self) -> Result<Timeline, NoMemory>
         ensures { IfOk result (λ timeline. timeline.changes ≡ self.changes) }
     {

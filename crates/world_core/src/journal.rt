@@ -12,8 +12,8 @@ pub struct NodeSteps {
     pub steps: Seq<NodeStep>,
 }
 
-/// A tick: the scripted events with the numbers of their entries in the file, and the steps of the nodes that made some,
-/// ascending by node.
+/// A tick: the scripted events with the numbers of their entries in the file, and the steps of the
+/// nodes that made some, ascending by node.
 #[derive(PartialEq, Eq, Drop)]
 pub struct Tick {
     pub events: Seq<(u32, WorldReply)>,
@@ -26,7 +26,8 @@ pub struct Journal {
     pub ticks: Seq<Tick>,
 }
 
-/// A run of a scenario: the network at its end, what happened, and what was in force at the ports after each tick's steps.
+/// A run of a scenario: the network at its end, what happened, and what was in force at the ports
+/// after each tick's steps.
 #[derive(Drop)]
 pub struct Run {
     pub world: World,

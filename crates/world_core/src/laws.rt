@@ -1,5 +1,5 @@
-//! What every network keeps, whatever happens in it: laws over the states that contracts see. Each is a function that does
-//! nothing; calling it brings the law to a proof.
+//! What every network keeps, whatever happens in it: laws over the states that contracts see. Each
+//! is a function that does nothing; calling it brings the law to a proof.
 
 ghost use Rattle.std.specs.Prelude.{◌≡◌, ◌≢◌, ◌<◌, ◌-◌, ◌^◌, ◌++◌, ◌∷◌, [], ℕ, suc, List, map, take, drop, slice_get, Some, IfSome, false};
 ghost use Rattle.srp_base.specs.declared.{numbers.NodeNo.NodeNo, numbers.PortNo.PortNo};
@@ -39,8 +39,8 @@ use node_core::laws::{
 use port_ledger::laws::bookings_are_within_caps;
 use tree_topology::laws::ports;
 
-/// A list of events that stopped after the first of them goes on with the rest, which may happen then: the network ends, and
-/// answers, as after all of them at once.
+/// A list of events that stopped after the first of them goes on with the rest, which may happen
+/// then: the network ends, and answers, as after all of them at once.
 pub fn a_run_goes_on_where_it_stopped()
     ensures can { (done : ℕ) (es : List WorldEvent) (w : WorldState) → CanAllHappen es w
         → CanAllHappen (drop done es) (world_after (take done es) w) }
@@ -62,15 +62,17 @@ pub fn a_scenario_begins_well()
     a_new_node_is_proper();
 }
 
-/// It begins with nothing but the Domain values that its nodes declare, none of them said yet: where the scenario has domains,
-/// each link port of a node has the rows that the word of the node's entry names, and no port has any other row.
+/// It begins with nothing but the Domain values that its nodes declare, none of them said yet:
+/// where the scenario has domains, each link port of a node has the rows that the word of the
+/// node's entry names, and no port has any other row.
 pub fn a_scenario_begins_with_domains_alone()
     ensures { (plan : Plan) (x : ℕ) (entry : NodeEntry) (s : NodeState)
         → slice_get plan.nodes x ≡ Some entry → slice_get (world_of plan).nodes x ≡ Some s
         → IsAtStart (domain_rows plan.domains entry.domain) s }
 {}
 
-/// Each event that may happen keeps it, where what a request asks for fits, and so does each list of such events.
+/// Each event that may happen keeps it, where what a request asks for fits, and so does each list
+/// of such events.
 pub fn every_event_keeps_it()
     ensures event { (e : WorldEvent) (w : WorldState) → CanHappen e w → IsEventInRange e
         → IsKeptWorld w → IsKeptWorld (world_step e w).0 }
@@ -95,7 +97,8 @@ pub fn every_event_keeps_it()
     steps_keep_what_a_node_is();
 }
 
-/// Each event of a legal run of a scenario may happen in its turn, and what a request of it asks for fits.
+/// Each event of a legal run of a scenario may happen in its turn, and what a request of it asks
+/// for fits.
 pub fn every_event_of_a_run_may_happen()
     ensures can { (plan : Plan) (ticks : List Tick) (end : WorldState) → KeepsRules plan
         → AreLegalTicks plan ticks end
@@ -110,9 +113,10 @@ pub fn every_event_of_a_run_may_happen()
     steps_keep_what_a_node_is();
 }
 
-/// What a tick of a scenario may have can happen, whatever happened before in the tick, and doesn't end the tick: each event
-/// of the file, a loss, a repeat and a forgery between neighbours, each step of a port, and the carrying of each port's PDUs.
-/// The clock can go on, and then the next tick begins. The tree stays in any case.
+/// What a tick of a scenario may have can happen, whatever happened before in the tick, and doesn't
+/// end the tick: each event of the file, a loss, a repeat and a forgery between neighbours, each
+/// step of a port, and the carrying of each port's PDUs. The clock can go on, and then the next
+/// tick begins. The tree stays in any case.
 pub fn what_is_allowed_may_happen()
     ensures begins { (plan : Plan) → KeepsRules plan → IsDuring plan.tree 0 (world_of plan) }
     ensures can { (tree : Topology) (t : ℕ) (e : WorldEvent) (w : WorldState)
@@ -148,7 +152,8 @@ pub fn what_is_allowed_may_happen()
     steps_keep_what_a_node_is();
 }
 
-/// Ticks that lead to a state go on by each legal tick from there, and in the canonical order by each canonical one.
+/// Ticks that lead to a state go on by each legal tick from there, and in the canonical order by
+/// each canonical one.
 pub fn ticks_go_on()
     ensures legal { (plan : Plan) (t t' : ℕ) (w v : WorldState) (ticks : List Tick) (tick : Tick)
         → LeadTo (IsLegalTick plan) plan t w ticks t' v → IsLegalTick plan t' v tick
@@ -172,8 +177,8 @@ pub fn every_moment_keeps_it()
     every_event_of_a_run_may_happen();
 }
 
-/// After every list of events that may happen, losses, repeats and forgeries included, no port has booked more than its link's
-/// entry allows.
+/// After every list of events that may happen, losses, repeats and forgeries included, no port has
+/// booked more than its link's entry allows.
 pub fn every_list_of_events_keeps_limits()
     ensures { (plan : Plan) (es : List WorldEvent) → KeepsRules plan
         → CanAllHappen es (world_of plan) → AllByRecursion IsEventInRange es
@@ -195,7 +200,8 @@ pub fn every_moment_is_within_limits()
     every_event_of_a_run_may_happen();
 }
 
-/// At every moment of a legal run the stations talk only what the scenario has them talk, so that no two talk one stream.
+/// At every moment of a legal run the stations talk only what the scenario has them talk, so that
+/// no two talk one stream.
 pub fn every_moment_talks_by_the_plan()
     ensures talks { (plan : Plan) (ticks : List Tick) (end w : WorldState) → KeepsRules plan
         → AreLegalTicks plan ticks end
@@ -211,9 +217,9 @@ pub fn canonical_ticks_are_legal()
         → AreCanonicalTicks plan ticks end → AreLegalTicks plan ticks end }
 {}
 
-/// A port's step is of its node alone: the node becomes, and answers, what its own step says, and each other node stays as it
-/// is. So steps of a node's ports each see the node that the steps before left, and steps of different nodes don't see each
-/// other.
+/// A port's step is of its node alone: the node becomes, and answers, what its own step says, and
+/// each other node stays as it is. So steps of a node's ports each see the node that the steps
+/// before left, and steps of different nodes don't see each other.
 pub fn a_step_is_of_its_node_alone()
     ensures own { (n : NodeNo) (port : PortNo) (step : PortStep) (w : WorldState) (s : NodeState)
         → node_at n w ≡ Some s
@@ -228,10 +234,11 @@ pub fn a_step_is_of_its_node_alone()
         → node_at m (world_step (port_event n port step) w).0 ≡ node_at m w }
 {}
 
-/// Nodes may make the steps of their ports apart from the network, each from the state that it had there and by itself: with its
-/// own answers, such a node is what the same steps as events make of the network, and the marks have followed what its ports took
-/// and sent (`marks_of_steps`). So it is with steps of all nodes, nodes ascending: nodes and marks after them are the network
-/// after these events, with the answers that these have, and keep what every network keeps.
+/// Nodes may make the steps of their ports apart from the network, each from the state that it had
+/// there and by itself: with its own answers, such a node is what the same steps as events make of
+/// the network, and the marks have followed what its ports took and sent (`marks_of_steps`). So it
+/// is with steps of all nodes, nodes ascending: nodes and marks after them are the network after
+/// these events, with the answers that these have, and keep what every network keeps.
 pub fn steps_made_apart_keep_it()
     ensures one { (n : NodeNo) (made : List NodeStep) (w : WorldState) (s : NodeState)
         → node_at n w ≡ Some s → HaveOwnReplies made s
@@ -249,15 +256,17 @@ pub fn steps_made_apart_keep_it()
     every_event_keeps_it();
 }
 
-/// What every network keeps is what it keeps beside its nodes, and what each of them keeps by itself, which its type says.
+/// What every network keeps is what it keeps beside its nodes, and what each of them keeps by
+/// itself, which its type says.
 pub fn what_is_kept_is_whole()
     ensures whole { (w : WorldState) → IsKeptWorld w → IsWhole w }
     ensures kept { (w : WorldState) → IsWhole w → AllByRecursion IsProperNode w.nodes
         → IsKeptWorld w }
 {}
 
-/// Nothing waits to be carried when a network begins, nor at the end of a tick at whose beginning nothing did. Where no step of such
-/// a tick was Send, the carrying at its end changes nothing, since a Send alone puts a PDU in an outbox.
+/// Nothing waits to be carried when a network begins, nor at the end of a tick at whose beginning
+/// nothing did. Where no step of such a tick was Send, the carrying at its end changes nothing,
+/// since a Send alone puts a PDU in an outbox.
 pub fn a_tick_carries_what_it_has_sent()
     ensures begins { (plan : Plan) → NothingWaits (world_of plan) }
     ensures nothing { (plan : Plan) (t : ℕ) (w : WorldState) (tick : Tick)

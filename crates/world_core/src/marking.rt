@@ -1,7 +1,8 @@
 //! The marks of a network after an event: what the event does to the nodes, and then the marks.
 //!
-//! A PDU that is taken is read before the step, where its LeaveAll counts, so that the step is taken back where memory runs
-//! out; whether a PDU that is sent has LeaveAll shows in the machine before it.
+//! A PDU that is taken is read before the step, where its LeaveAll counts, so that the step is
+//! taken back where memory runs out; whether a PDU that is sent has LeaveAll shows in the machine
+//! before it.
 
 ghost use Rattle.srp_base.specs.declared.mrp.App.TheVariants.{Mvrp, Msrp};
 ghost use Rattle.std.specs.Prelude.{◌≡◌, ◌<◌, ◌≤◌, ◌^◌, ◌&&◌, false, length, slice_get, IfOk, IfSome, OnErr};
@@ -24,8 +25,8 @@ use std::alloc::Global;
 use tree_topology::Tree;
 use tree_topology::laws::ports;
 
-/// What a step of a port will do to the marks: nothing; it takes a PDU of an application, or sends one if it has something
-/// to say, with a LeaveAll that counts or without.
+/// What a step of a port will do to the marks: nothing; it takes a PDU of an application, or sends
+/// one if it has something to say, with a LeaveAll that counts or without.
 #[derive(Clone, Copy, PartialEq, Eq)]
 pub(crate) enum Noted {
     Nothing,
@@ -113,7 +114,8 @@ fn taking(tree: &Tree, nodes: &Vec<Node>, marks: &Marks, at: EgressPort) -> Resu
     }
 }
 
-// Whether the front PDU that waits at a port has a LeaveAll that counts: it is read only where the port's way is clear.
+// Whether the front PDU that waits at a port has a LeaveAll that counts: it is read only where the
+// port's way is clear.
 fn counts(nodes: &Vec<Node>, marks: &Marks, at: EgressPort, app: App) -> Result<bool, NoMemory>
     requires { StandsAt at (states_in nodes.now.items) }
     ensures { IfOk result (λ leaves. (tree : Topology) (m : MarksState) → leaves
@@ -305,7 +307,8 @@ fn in_count(nodes: &Vec<Node>, at: EgressPort) -> usize
     nodes[place(at.node)].pending_pdus(at.port)
 }
 
-/// Whether both applications of every port of these nodes are sound, by their own LeaveAll or by a mark.
+/// Whether both applications of every port of these nodes are sound, by their own LeaveAll or by a
+/// mark.
 pub(crate) fn are_nodes_in_step(nodes: &Vec<Node>, count: u16, marks: &Marks) -> bool
     requires { count ≡ length (states_in nodes.now.items) }
     ensures { result ≡ are_nodes_sound 1 (states_in nodes.now.items) marks.now }

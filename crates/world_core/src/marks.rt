@@ -11,8 +11,9 @@ use std::marker::Model;
 use std::mem;
 use tree_topology::Tree;
 
-/// The marks of an end of a link in an application: whether its neighbour's LeaveAll has cleared its way, whether it is
-/// assured by one that it took then, and how many PDUs are on their way from it.
+/// The marks of an end of a link in an application: whether its neighbour's LeaveAll has cleared
+/// its way, whether it is assured by one that it took then, and how many PDUs are on their way from
+/// it.
 #[derive(Clone, Copy, PartialEq, Eq)]
 pub struct EndMark {
     pub clear: bool,
@@ -54,8 +55,9 @@ impl Marks {
         Ok(Marks { tree: copy, ends })
     }
 
-    /// A port has sent a PDU of an application, which may have LeaveAll: its way isn't clear any more, and with LeaveAll its
-    /// peer's way is, where nothing of the application is on its way from there.
+    /// A port has sent a PDU of an application, which may have LeaveAll: its way isn't clear any
+    /// more, and with LeaveAll its peer's way is, where nothing of the application is on its way
+    /// from there.
     pub fn sent(&mut self, at: EgressPort, app: App, leave_all: bool)
         requires port { HasPort self.old.tree at }
         requires few { (mark_at app at self.old).flying < 2 ^ 100 }
@@ -65,8 +67,8 @@ impl Marks {
         self.put_both(at, app, two_sent(leave_all, before));
     }
 
-    /// A port has taken a PDU of an application, which may have LeaveAll and was on its way: where its own way is clear, a
-    /// LeaveAll assures it.
+    /// A port has taken a PDU of an application, which may have LeaveAll and was on its way: where
+    /// its own way is clear, a LeaveAll assures it.
     pub fn took(&mut self, at: EgressPort, app: App, leave_all: bool)
         requires port { HasPort self.old.tree at }
         requires some { 1 ≤ (mark_at app (peer_of self.old.tree.links at) self.old).flying }
@@ -97,7 +99,8 @@ impl Marks {
         self.put_both(at, app, two_copied(before));
     }
 
-    /// A PDU of an application that no neighbour sent is on its way to a port: neither end has any mark.
+    /// A PDU of an application that no neighbour sent is on its way to a port: neither end has any
+    /// mark.
     pub fn forged(&mut self, at: EgressPort, app: App)
         requires port { HasPort self.old.tree at }
         requires few { (mark_at app (peer_of self.old.tree.links at) self.old).flying < 2 ^ 100 }
@@ -107,7 +110,8 @@ impl Marks {
         self.put_both(at, app, two_forged(before));
     }
 
-    /// Whether a port took its neighbour's LeaveAll of an application while its way was clear, so that it is sound.
+    /// Whether a port took its neighbour's LeaveAll of an application while its way was clear, so
+    /// that it is sound.
     pub fn assured(&self, at: EgressPort, app: App) -> bool
         requires { HasPort self.now.tree at }
         ensures { result ≡ (mark_at app at self.now).assured }

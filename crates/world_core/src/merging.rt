@@ -48,7 +48,8 @@ fn new_room(
     Ok(Vec::with_capacity(alloc, changes.len() + lacking.len())?)
 }
 
-// Puts changes among others, both ascending by port, each behind those of its port. There is room for all of them.
+// Puts changes among others, both ascending by port, each behind those of its port. There is room
+// for all of them.
 fn merge(
     mut old: VecDeque<PortChange>,
     mut lacking: VecDeque<PortChange>,
@@ -64,7 +65,8 @@ fn merge(
     move_all(lacking, all);
 }
 
-// Moves the changes in front whose ports come before a port to the end of others, where there is room.
+// Moves the changes in front whose ports come before a port to the end of others, where there is
+// room.
 fn move_before(lacking: &mut VecDeque<PortChange>, at: EgressPort, all: &mut Vec<PortChange>)
     requires { deque_len lacking.old + vec_len all.old ≤ vec_capacity all.old }
     ensures moved { all.new.items ≡ all.old.items ++ front_before at lacking.old.items }

@@ -61,8 +61,8 @@ fn books_just(ledger: &Ledger, streams: &[StreamId]) -> bool
     next == streams.len()
 }
 
-// The place after one in these streams, once the entry of an index has been compared: the next one where it is booked and
-// of the stream at that place, the same where it isn't booked; else None.
+// The place after one in these streams, once the entry of an index has been compared: the next one
+// where it is booked and of the stream at that place, the same where it isn't booked; else None.
 fn after_entry(ledger: &Ledger, i: usize, streams: &[StreamId], next: usize) -> Option<usize>
     requires index { i < length ledger.now.book.entries }
     requires place { next ≤ length streams.now }

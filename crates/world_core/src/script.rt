@@ -17,8 +17,8 @@ use std::alloc::Global;
 use topology_file::{EventKind, Scenario, StreamEntry};
 use tree_topology::Tree;
 
-/// Lets the events of tick t happen, from the cursor on, and answers each with the number of its entry. The cursor then stands
-/// at the first event of a later tick.
+/// Lets the events of tick t happen, from the cursor on, and answers each with the number of its
+/// entry. The cursor then stands at the first event of a later tick.
 pub fn make_events(
     alloc: Global,
     scenario: &Scenario,
@@ -52,7 +52,8 @@ pub fn make_events(
     Ok(answers)
 }
 
-// Lets the event of an entry happen, if it is one in the network, and answers it with the entry's number.
+// Lets the event of an entry happen, if it is one in the network, and answers it with the entry's
+// number.
 fn make_entry(
     scenario: &Scenario,
     number: u32,
@@ -122,7 +123,8 @@ fn wire_of(app: App, octets: &Seq<u8>) -> Result<Wire, NoMemory>
     Ok(Wire { app, octets })
 }
 
-// What is asked of the station of a stream's number, if there is such a stream: that it talks, as its Talker states it.
+// What is asked of the station of a stream's number, if there is such a stream: that it talks, as
+// its Talker states it.
 fn talk(streams: &[StreamEntry], stream: u16) -> Option<WorldEvent>
     ensures { result ≡ option_map (λ e. WorldEvent.Request e.talker
         (AppRequest.Talk (talker_of_entry e))) (stream_at streams.now stream) }

@@ -37,7 +37,8 @@ fn nodes_of_entries(
     Ok(nodes)
 }
 
-/// The Domain values that a node declares, by the word of its entry, where the scenario has domains.
+/// The Domain values that a node declares, by the word of its entry, where the scenario has
+/// domains.
 fn domain_of(domains: bool, word: DomainWord) -> DomainSet
     ensures { result ≡ domain_set domains word }
 {

@@ -20,10 +20,11 @@ pub struct RunErr {
 }
 
 impl World {
-    /// Lets one event happen, and answers what came of it: `Step` with the node's answer for a request and a port's step,
-    /// `Missed` exactly where no PDU has the index, or the inbox doesn't reach to that of a forged one, `Done` for all else.
-    /// The nodes and ports that the event names exist, a request is made at a station, a forged PDU has at most 1,500 octets,
-    /// and the clock goes on from below 2^61. After want of memory the network is as it was.
+    /// Lets one event happen, and answers what came of it: `Step` with the node's answer for a
+    /// request and a port's step, `Missed` exactly where no PDU has the index, or the inbox doesn't
+    /// reach to that of a forged one, `Done` for all else. The nodes and ports that the event names
+    /// exist, a request is made at a station, a forged PDU has at most 1,500 octets, and the clock
+    /// goes on from below 2^61. After want of memory the network is as it was.
     pub fn step(&mut self, event: WorldEvent) -> Result<WorldReply, NoMemory>
         requires { CanHappen event self.old }
         ensures ok { IfOk result (λ reply. world_step event self.old ≡ (self.new, reply)) }
@@ -75,9 +76,9 @@ impl World {
         self.step(copy)
     }
 
-    /// Lets a list of events happen, one after the other, and answers what came of each. After want of memory the network is
-    /// that after the first `done` events, from which it goes on with the rest (`a_run_goes_on_where_it_stopped`). Only a forged
-    /// PDU is copied, once.
+    /// Lets a list of events happen, one after the other, and answers what came of each. After want
+    /// of memory the network is that after the first `done` events, from which it goes on with the
+    /// rest (`a_run_goes_on_where_it_stopped`). Only a forged PDU is copied, once.
     pub fn run(&mut self, alloc: Global, events: &[WorldEvent]) -> Result<Seq<WorldReply>, RunErr>
         requires { CanAllHappen events.now self.old }
         ensures replies { IfOk result (λ replies. replies ≡ replies_to events.now self.old) }

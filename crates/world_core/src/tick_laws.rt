@@ -1,5 +1,6 @@
-//! What makes a tick legal, step by step, and that a legal run goes on from each network during a tick: laws over the states that
-//! contracts see. Each is a function that does nothing; calling it brings the law to a proof.
+//! What makes a tick legal, step by step, and that a legal run goes on from each network during a
+//! tick: laws over the states that contracts see. Each is a function that does nothing; calling it
+//! brings the law to a proof.
 
 ghost use Rattle.std.specs.Prelude.{◌≡◌, ◌+◌, ◌<◌, ◌≤◌, [], ◌∷◌, ◌++◌, ℕ, suc, List, length};
 ghost use Rattle.srp_base.specs.declared.ports.PortChange.{PortChange};
@@ -25,8 +26,9 @@ use crate::timeline_laws::{
     what_is_noted_is_in_force,
 };
 
-/// A tick is legal exactly where its events have their answers, and each node in its turn makes the jobs of its ports one by one:
-/// each step is the next of the jobs that some port has left, with the network's answer, until no port has any.
+/// A tick is legal exactly where its events have their answers, and each node in its turn makes the
+/// jobs of its ports one by one: each step is the next of the jobs that some port has left, with
+/// the network's answer, until no port has any.
 pub fn a_legal_tick_is_made_one_by_one()
     ensures made { (plan : Plan) (t : ℕ) (w : WorldState) (tick : Tick) → KeepsRules plan
         → IsDuring plan.tree t w → IsLegalTick plan t w tick → IsOneByOne plan t w tick }
@@ -36,8 +38,8 @@ pub fn a_legal_tick_is_made_one_by_one()
     what_is_allowed_may_happen();
 }
 
-/// From each network during a tick a legal tick can be made, behind it the next tick begins, and so a run can be made legally to the
-/// scenario's end.
+/// From each network during a tick a legal tick can be made, behind it the next tick begins, and so
+/// a run can be made legally to the scenario's end.
 pub fn a_legal_run_goes_on()
     ensures tick { (plan : Plan) (t : ℕ) (w : WorldState) → KeepsRules plan
         → IsDuring plan.tree t w → (tick : Tick) × IsLegalTick plan t w tick }
@@ -52,8 +54,8 @@ pub fn a_legal_run_goes_on()
     what_is_allowed_may_happen();
 }
 
-/// So can the rest of a tick: what a node's ports have left of their jobs, and all jobs of the nodes from some number on. A node has
-/// jobs for each of its ports.
+/// So can the rest of a tick: what a node's ports have left of their jobs, and all jobs of the
+/// nodes from some number on. A node has jobs for each of its ports.
 pub fn a_tick_can_be_made_to_its_end()
     ensures count { (tree : Topology) (t x : ℕ) (w : WorldState) → IsDuring tree t w
         → HasNode tree x
@@ -71,8 +73,8 @@ pub fn a_tick_can_be_made_to_its_end()
     what_is_allowed_may_happen();
 }
 
-/// A legal run with what it has noted goes on by each legal tick, once the tick is noted: the ticks lead on, the next tick begins, and
-/// the timeline is theirs.
+/// A legal run with what it has noted goes on by each legal tick, once the tick is noted: the ticks
+/// lead on, the next tick begins, and the timeline is theirs.
 pub fn a_noted_run_goes_on()
     ensures begins { (plan : Plan) → KeepsRules plan → IsNotedRun plan 0 [] (world_of plan) [] }
     ensures changes { (plan : Plan) (t : ℕ) (ticks : List Tick) (w : WorldState)

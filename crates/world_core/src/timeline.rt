@@ -19,9 +19,10 @@ use std::alloc::Global;
 use std::collections::VecDeque;
 
 impl World {
-    /// Enters a change at a tick for each port at which something else is in force now than the timeline has of it: other
-    /// streams are booked, a slope is another one, or other VIDs are registered. The timeline's changes are of the tree's ports,
-    /// in order, and none is at that tick or after it. After want of memory the timeline is as it was.
+    /// Enters a change at a tick for each port at which something else is in force now than the
+    /// timeline has of it: other streams are booked, a slope is another one, or other VIDs are
+    /// registered. The timeline's changes are of the tree's ports, in order, and none is at that
+    /// tick or after it. After want of memory the timeline is as it was.
     pub fn note_tick(&self, tick: u64, timeline: &mut Timeline) -> Result<(), NoMemory>
         requires { AreChanges self.now.tree tick timeline.old.changes }
         ensures ok { OnOk result (timeline.new.changes

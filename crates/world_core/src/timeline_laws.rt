@@ -1,5 +1,5 @@
-//! What noting a tick makes of a timeline, and what a timeline says of a run: laws over the states that contracts see. Each is a
-//! function that does nothing; calling it brings the law to a proof.
+//! What noting a tick makes of a timeline, and what a timeline says of a run: laws over the states
+//! that contracts see. Each is a function that does nothing; calling it brings the law to a proof.
 
 ghost use Rattle.std.specs.Prelude.{◌≡◌, ◌<◌, ◌≤◌, ◌+◌, ◌++◌, ◌∷◌, [], ℕ, suc, false, List, length, map, All};
 ghost use Rattle.srp_base.specs.declared.{numbers.EgressPort.EgressPort, ports.PortChange.PortChange};
@@ -18,15 +18,16 @@ ghost use Rattle.world_core.specs.History.{has_acted, acts_noted};
 
 use crate::laws::every_moment_is_within_limits;
 
-/// Once a tick is noted, the changes are again in order and of the tree's ports, and none is after that tick.
+/// Once a tick is noted, the changes are again in order and of the tree's ports, and none is after
+/// that tick.
 pub fn noting_keeps_changes()
     ensures { (tick : ℕ) (w : WorldState) (changes : List PortChange)
         → AreChanges w.tree tick changes
         → AreChanges w.tree (suc tick) (with_notes tick w changes) }
 {}
 
-/// Once a tick is noted, what was in force at a port in an earlier tick is so still, and from that tick on what is in force is what
-/// the network has.
+/// Once a tick is noted, what was in force at a port in an earlier tick is so still, and from that
+/// tick on what is in force is what the network has.
 pub fn what_is_noted_is_in_force()
     ensures before { (tick t : ℕ) (w : WorldState) (changes : List PortChange) (p : EgressPort)
         → AreChanges w.tree tick changes → HasPort w.tree p → t < tick
@@ -37,17 +38,17 @@ pub fn what_is_noted_is_in_force()
         → SaysFrom tick (with_notes tick w changes) w }
 {}
 
-/// Nothing is in force at a network's start, and what ends a tick, the carrying of PDUs and the clock, changes nothing that is in
-/// force.
+/// Nothing is in force at a network's start, and what ends a tick, the carrying of PDUs and the
+/// clock, changes nothing that is in force.
 pub fn what_ends_a_tick_changes_nothing_in_force()
     ensures start { (plan : Plan) → SaysFrom 0 [] (world_of plan) }
     ensures closing { (tree : Topology) (w : WorldState) (p : EgressPort)
         → force_at p (world_after (closing_events tree) w) ≡ force_at p w }
 {}
 
-/// In a legal tick, what is in force at a port changes only where the port's node makes a step other than Send: requests,
-/// losses, repeats and forgeries change nothing in force, a step is of its node alone, and what a node sends leaves its ledgers and what is
-/// registered of each VID.
+/// In a legal tick, what is in force at a port changes only where the port's node makes a step
+/// other than Send: requests, losses, repeats and forgeries change nothing in force, a step is of
+/// its node alone, and what a node sends leaves its ledgers and what is registered of each VID.
 pub fn only_a_node_that_acts_changes_what_is_in_force()
     ensures { (plan : Plan) (t : ℕ) (w : WorldState) (tick : Tick) (p : EgressPort)
         → IsLegalTick plan t w tick
@@ -55,7 +56,8 @@ pub fn only_a_node_that_acts_changes_what_is_in_force()
         → force_at p (after_steps plan t tick w) ≡ force_at p w }
 {}
 
-/// Noting the nodes that have acted in a tick notes the tick, where the changes say already what is in force at the others.
+/// Noting the nodes that have acted in a tick notes the tick, where the changes say already what is
+/// in force at the others.
 pub fn noting_who_has_acted_notes_a_tick()
     ensures { (tick : ℕ) (steps : List NodeSteps) (w : WorldState) (changes : List PortChange)
         → ((p : EgressPort) → HasPort w.tree p → has_acted p.node steps ≡ false
@@ -63,8 +65,9 @@ pub fn noting_who_has_acted_notes_a_tick()
         → acts_noted tick steps w changes ≡ with_notes tick w changes }
 {}
 
-/// A timeline begins with no change. It goes on by a tick: its changes and what is noted of the network after the tick's steps; or
-/// the same changes, where these say already what that network has.
+/// A timeline begins with no change. It goes on by a tick: its changes and what is noted of the
+/// network after the tick's steps; or the same changes, where these say already what that network
+/// has.
 pub fn a_timeline_goes_on()
     ensures begins { (plan : Plan) → IsTimelineOf plan [] [] }
     ensures noted { (plan : Plan) (ticks : List Tick) (tick : Tick) (changes : List PortChange)
@@ -93,8 +96,8 @@ pub fn a_moment_follows_each_ticks_steps()
         → IsMoment plan ticks w }
 {}
 
-/// In the timeline of a legal run the slopes of each change are within what its port may give away, to class A and to both classes,
-/// so that at each port both together are below the link's rate.
+/// In the timeline of a legal run the slopes of each change are within what its port may give away,
+/// to class A and to both classes, so that at each port both together are below the link's rate.
 pub fn slopes_stay_within_limits()
     ensures class_a { (plan : Plan) (ticks : List Tick) (end : WorldState)
         (changes : List PortChange)

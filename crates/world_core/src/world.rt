@@ -40,8 +40,8 @@ impl Model for World {
 }
 
 impl World {
-    /// The network of a scenario at its start: nothing is declared but the Domain values of its nodes, where it has domains,
-    /// no PDU waits, the clock is at 0.
+    /// The network of a scenario at its start: nothing is declared but the Domain values of its
+    /// nodes, where it has domains, no PDU waits, the clock is at 0.
     pub fn of(alloc: Global, scenario: &Scenario) -> Result<World, NoMemory>
         ensures { IfOk result (λ world. world ≡ world_of scenario.now) }
     {
@@ -53,8 +53,8 @@ impl World {
         Ok(World { tree, nodes, marks })
     }
 
-    /// What every network keeps, whatever has happened in it: the nodes of its tree, one clock, and on each link both duties
-    /// in each application. It is a law, and does nothing.
+    /// What every network keeps, whatever has happened in it: the nodes of its tree, one clock, and
+    /// on each link both duties in each application. It is a law, and does nothing.
     pub fn keeps(&self)
         ensures { IsKeptWorld self.now }
     {
@@ -76,17 +76,18 @@ impl World {
         &self.tree
     }
 
-    /// Whether nothing is pending: no PDU is on its way, every Applicant is VO or QA, every Registrar IN or MT, every LeaveAll
-    /// machine Passive, and no attribute awaits.
+    /// Whether nothing is pending: no PDU is on its way, every Applicant is VO or QA, every
+    /// Registrar IN or MT, every LeaveAll machine Passive, and no attribute awaits.
     pub fn quiet(&self) -> bool
         ensures { result ≡ is_quiet self.now }
     {
         are_still(self.nodes.as_slice())
     }
 
-    /// Whether both applications of every port are sound: each has sent a LeaveAll since a PDU of it was last lost or forged
-    /// on the port's link, if one was; or since then it took one of its neighbour's on a clear way: the neighbour had sent one
-    /// while nothing was on the way to it, and the port hadn't said anything since.
+    /// Whether both applications of every port are sound: each has sent a LeaveAll since a PDU of
+    /// it was last lost or forged on the port's link, if one was; or since then it took one of its
+    /// neighbour's on a clear way: the neighbour had sent one while nothing was on the way to it,
+    /// and the port hadn't said anything since.
     pub fn in_step(&self) -> bool
         ensures { result ≡ is_in_step self.now }
     {

@@ -12,8 +12,8 @@ use port_ledger::Ledger;
 use srp_base::{Cs, NoMemory};
 use std::alloc::Global;
 
-/// The ledger once the wants are applied in file order at their ticks, and the moment of the last one
-/// in cs, 0 where there is none. Each stream that the file mentions has its line in the text.
+/// The ledger once the wants are applied in file order at their ticks, and the moment of the last
+/// one in cs, 0 where there is none. Each stream that the file mentions has its line in the text.
 pub fn bookings(alloc: Global, file: &LedgerFile) -> Result<(Ledger, Cs), NoMemory>
     requires shares { file.now.delta_a + file.now.delta_b ≤ 90 }
     requires ticks { first_fall 1 0 (want_ticks file.now.wants) ≡ None }

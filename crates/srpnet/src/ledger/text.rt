@@ -23,8 +23,8 @@ fn write_booked(out: &mut String, want: &Want, since: Cs) -> Result<(), AllocErr
     writeln!(out, "{stream} booked slope {slope} since {tick}")
 }
 
-/// The line of a stream that doesn't fit: what the more important streams take, and the cap, both in
-/// bit/s, with the failure code.
+/// The line of a stream that doesn't fit: what the more important streams take, and the cap, both
+/// in bit/s, with the failure code.
 fn write_refused(
     out: &mut String,
     want: &Want,
@@ -51,7 +51,8 @@ fn write_sum(out: &mut String, classes: &str, sum: u64, cap: u64) -> Result<(), 
     writeln!(out, "slope {classes} {sum} cap {cap}")
 }
 
-/// The line of a stream that isn't booked. Each want that a ledger keeps and hasn't booked doesn't fit.
+/// The line of a stream that isn't booked. Each want that a ledger keeps and hasn't booked doesn't
+/// fit.
 fn write_unbooked(out: &mut String, ledger: &Ledger, now: Cs, want: &Want) -> Result<(), AllocError>
     requires now { now.0 ≡ ledger.now.book.moment }
     ensures { OnOk result (string_bytes out.new

@@ -19,7 +19,9 @@ returns-then-code-eq9 c =
 pub returns-in_err-rest-in-Some : goal.returns-in_err-rest-in-Some
 returns-in_err-rest-in-Some c =
     let e = rw c.in-Some.is at c.in_ok-next_option.ensures in
-    rw c.from_residual-in_err-rest-in-Some.ensures (sym (fails c.args.order c.more.rest.now c.in-Some.code c.in-Some.len c.in-Some.behind.now (sym e) c.if-code-eq9.false (sym c.in_err-rest-in-Some.ensures)) ∙ c.more.invariant)
+    rw c.from_residual-in_err-rest-in-Some.ensures
+    (sym (fails c.args.order c.more.rest.now c.in-Some.code c.in-Some.len c.in-Some.behind.now (sym e) c.if-code-eq9.false (sym c.in_err-rest-in-Some.ensures))
+    ∙ c.more.invariant)
 
 pub more-smaller : goal.more-smaller
 more-smaller c =
@@ -29,4 +31,5 @@ more-smaller c =
 pub more-preserved : goal.more-preserved
 more-preserved c =
     let e = rw c.in-Some.is at c.in_ok-next_option.ensures in
-    sym (steps c.args.order c.more.rest.now c.in-Some.code c.in-Some.len c.in-Some.behind.now (sym e) c.in_ok-rest-in-Some.rest.now c.if-code-eq9.false (sym c.in_ok-rest-in-Some.ensures)) ∙ c.more.invariant
+    sym (steps c.args.order c.more.rest.now c.in-Some.code c.in-Some.len c.in-Some.behind.now (sym e) c.in_ok-rest-in-Some.rest.now c.if-code-eq9.false
+    (sym c.in_ok-rest-in-Some.ensures)) ∙ c.more.invariant

@@ -25,7 +25,8 @@ returns-clause-reads c = λ capture is.
 
 pub returns-clause-broken : goal.returns-clause-broken
 returns-clause-broken c = λ capture place is.
-    breaks c.args.octets.now capture place (capture_read c.args.octets.now c.in_ok-records.records c.in_ok-records.left c.placed-broken.result capture c.in_ok-records.ensures c.placed-broken.ensures is)
+    breaks c.args.octets.now capture place
+    (capture_read c.args.octets.now c.in_ok-records.records c.in_ok-records.left c.placed-broken.result capture c.in_ok-records.ensures c.placed-broken.ensures is)
 
 pub returns-clause-exact : goal.returns-clause-exact
 returns-clause-exact c =

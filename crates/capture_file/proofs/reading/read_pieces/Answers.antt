@@ -11,7 +11,8 @@ returns-in-None c =
 pub returns-in_err-take-in-Some : goal.returns-in_err-take-in-Some
 returns-in_err-take-in-Some c =
     let p = err_from_is_err_and c.from_residual.result c.from_residual.ensures.1 in
-    rw (p.1, p.2) (fails _ (packets_in c.more.records.items) c.more.now c.more.rest.now c.more.invariant (meant_in c.in-Some.said) c.in-Some.size (sym c.in-Some.ensures) c.in_err-take-in-Some.field-0.0 c.in_err-take-in-Some.ensures.err)
+    rw (p.1, p.2) (fails _ (packets_in c.more.records.items) c.more.now c.more.rest.now c.more.invariant (meant_in c.in-Some.said) c.in-Some.size
+    (sym c.in-Some.ensures) c.in_err-take-in-Some.field-0.0 c.in_err-take-in-Some.ensures.err)
 
 pub more-smaller : goal.more-smaller
 more-smaller c =

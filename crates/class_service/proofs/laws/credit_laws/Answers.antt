@@ -15,7 +15,8 @@ returns c = record { first = first; step = step }
     first input B class = c.credits_go_on.ensures.first_b input
     first input Other class = refl
 
-    step : (input : PortInput) (traffic : Traffic) (t : ℕ) → IsClass traffic → credit_at input traffic (suc t) ≡ credit_after (bits_of input.rate) (slope_at input traffic t) (is_on_line input traffic t) (is_waiting input traffic t) (credit_at input traffic t)
+    step : (input : PortInput) (traffic : Traffic) (t : ℕ) → IsClass traffic
+        → credit_at input traffic (suc t) ≡ credit_after (bits_of input.rate) (slope_at input traffic t) (is_on_line input traffic t) (is_waiting input traffic t) (credit_at input traffic t)
     step input A t class = c.credits_go_on.ensures.class_a input t
     step input B t class = c.credits_go_on.ensures.class_b input t
     step input Other t class = absurd class

@@ -7,7 +7,8 @@ use Rattle.class_service.proofs.service.service_over.Goals as goal
 pub overflow_add-piece : goal.overflow_add-piece
 overflow_add-piece c =
     let short : (d : Piece) → (get_or c.args.pieces.now c.loop-piece.piece-index d).bit + (get_or c.args.pieces.now c.loop-piece.piece-index d).bits ≤ c.args.input.now.end =
-    piece_short c.args.input.now c.args.class c.args.from c.args.to c.loop-piece.at c.loop-piece.service c.args.pieces.now c.loop-piece.piece-index c.loop-piece-test.true c.loop-piece.invariant.served in
+    piece_short c.args.input.now c.args.class c.args.from c.args.to c.loop-piece.at c.loop-piece.service c.args.pieces.now c.loop-piece.piece-index
+    c.loop-piece-test.true c.loop-piece.invariant.served in
     omega (arith, short, c.requires.short)
 
 pub loop-piece-preserved : goal.loop-piece-preserved
@@ -20,6 +21,7 @@ loop-piece-preserved c =
           c.with-service.ensures (omega arith) c.loop-piece.invariant.bits;
       area = small_area c.args.class c.loop-piece.at c.clamp-next.result c.loop-piece.service c.with-service.result c.args.pieces.now c.loop-piece.piece-index _
           c.with-service.ensures (omega arith)
-          (piece_slope c.args.input.now c.args.class c.args.from c.args.to c.loop-piece.at c.loop-piece.service c.args.pieces.now c.loop-piece.piece-index _ c.loop-piece-test.true c.loop-piece.invariant.served)
+          (piece_slope c.args.input.now c.args.class c.args.from c.args.to c.loop-piece.at c.loop-piece.service c.args.pieces.now c.loop-piece.piece-index _
+          c.loop-piece-test.true c.loop-piece.invariant.served)
           c.loop-piece.invariant.area;
     }

@@ -17,7 +17,9 @@ invariant_of-result c =
     let of_links : links ≡ n.network.links = ap (λ (x : Named). x.links) c.of_network-names.ensures ∙ c.as_slice.ensures in
     let entries = map (λ t. table_view t.now) c.args.event_tables.now in
     let kept : GroupsKeep n.times.ticks n.network.nodes n.network.links c.in_ok-events.events.items =
-    rw (sym of_nodes, sym of_links) (ok-says (GroupsKeep n.times.ticks nodes links) (groups_of n.times.ticks nodes links entries) c.in_ok-events.events.items c.in_ok-events.ensures (groups-keep law nodes links n.times.ticks entries)) in
+    rw (sym of_nodes, sym of_links)
+    (ok-says (GroupsKeep n.times.ticks nodes links) (groups_of n.times.ticks nodes links entries) c.in_ok-events.events.items c.in_ok-events.ensures
+    (groups-keep law nodes links n.times.ticks entries)) in
     let same = c.from_vec.ensures in
     record {
       network = c.in_ok-read.ensures.kept;

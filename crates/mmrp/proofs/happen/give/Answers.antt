@@ -12,4 +12,6 @@ put_in-requires-clause-port c = port_there c.args.at c.args.nodes.now.items c.pl
 pub returns-clause-ok : goal.returns-clause-ok
 returns-clause-ok c =
     on_ok c.put_in.result (λ is. ap (slice_set c.args.nodes.now.items c.place.result) is
-    ∙ changed_here c.args.at (with_carried (place_of c.args.at.port) c.args.pdus) c.args.nodes.now.items c.place.result c.index_mut.result.now c.requires.here c.place.ensures c.index_mut.ensures.value) c.put_in.ensures.ok
+    ∙ changed_here c.args.at
+    (with_carried (place_of c.args.at.port) c.args.pdus) c.args.nodes.now.items c.place.result c.index_mut.result.now c.requires.here c.place.ensures
+    c.index_mut.ensures.value) c.put_in.ensures.ok

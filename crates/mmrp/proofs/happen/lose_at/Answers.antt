@@ -9,7 +9,8 @@ pub lose-requires-clause-port : goal.lose-requires-clause-port
 lose-requires-clause-port c = port_there c.args.at c.args.nodes.now.items c.place.result c.index_mut.result.now c.requires.here c.place.ensures c.index_mut.ensures.value
 
 pub lose-requires-clause-there : goal.lose-requires-clause-there
-lose-requires-clause-there c = c.requires.there c.index_mut.result.now (get_there c.args.at c.args.nodes.now.items c.place.result c.index_mut.result.now c.requires.here c.place.ensures c.index_mut.ensures.value)
+lose-requires-clause-there c = c.requires.there c.index_mut.result.now
+    (get_there c.args.at c.args.nodes.now.items c.place.result c.index_mut.result.now c.requires.here c.place.ensures c.index_mut.ensures.value)
 
 pub returns-clause-after : goal.returns-clause-after
 returns-clause-after c =

@@ -9,7 +9,8 @@ pub repeat-requires-clause-port : goal.repeat-requires-clause-port
 repeat-requires-clause-port c = port_there c.args.at c.args.nodes.now.items c.place.result c.index_mut.result.now c.requires.here c.place.ensures c.index_mut.ensures.value
 
 pub repeat-requires-clause-there : goal.repeat-requires-clause-there
-repeat-requires-clause-there c = c.requires.there c.index_mut.result.now (get_there c.args.at c.args.nodes.now.items c.place.result c.index_mut.result.now c.requires.here c.place.ensures c.index_mut.ensures.value)
+repeat-requires-clause-there c = c.requires.there c.index_mut.result.now
+    (get_there c.args.at c.args.nodes.now.items c.place.result c.index_mut.result.now c.requires.here c.place.ensures c.index_mut.ensures.value)
 
 pub returns-clause-ok : goal.returns-clause-ok
 returns-clause-ok c =

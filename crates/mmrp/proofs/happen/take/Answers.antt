@@ -17,7 +17,10 @@ returns-clause-after c =
 
 pub returns-clause-taken : goal.returns-clause-taken
 returns-clause-taken c =
-    c.take_out.ensures.taken ∙ sym (ap (λ o. option_map_or (λ (s : NodeGroups). box_at (place_of c.args.at.port) s.outboxes) o []) (get_there c.args.at c.args.nodes.now.items c.place.result c.index_mut.result.now c.requires c.place.ensures c.index_mut.ensures.value))
+    c.take_out.ensures.taken
+    ∙ sym (ap (λ o. option_map_or (λ (s : NodeGroups). box_at (place_of c.args.at.port) s.outboxes) o [])
+    (get_there c.args.at c.args.nodes.now.items c.place.result c.index_mut.result.now c.requires c.place.ensures c.index_mut.ensures.value))
 
 pub returns-clause-stand : goal.returns-clause-stand
-returns-clause-stand c = stands_still c.args.at c.args.nodes.now.items c.place.result c.index_mut.result.now c.take_out.new.self c.requires c.place.ensures c.index_mut.ensures.value (ap ports_of c.take_out.ensures.after)
+returns-clause-stand c = stands_still c.args.at c.args.nodes.now.items c.place.result c.index_mut.result.now c.take_out.new.self c.requires c.place.ensures
+    c.index_mut.ensures.value (ap ports_of c.take_out.ensures.after)

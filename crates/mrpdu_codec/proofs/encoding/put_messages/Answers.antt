@@ -15,7 +15,9 @@ returns-in_err-put_message c = of_error c.from_residual.result _ _ c.from_residu
 
 pub loop-message-preserved : goal.loop-message-preserved
 loop-message-preserved c =
-    spelled_more message_octets (message_for c.args.form) c.args.out.now.items c.args.messages.now _ _ _ _ c.loop-message-test.true c.message-item.is c.loop-message.invariant c.in_ok-put_message.ensures
+    spelled_more message_octets
+    (message_for c.args.form) c.args.out.now.items c.args.messages.now _ _ _ _ c.loop-message-test.true c.message-item.is c.loop-message.invariant
+    c.in_ok-put_message.ensures
 
 pub returns : goal.returns
 returns c = c.loop-message.invariant ∙ ap (λ ms. c.args.out.now.items ++ messages_octets (map (message_for c.args.form) ms)) (take_all _ c.args.messages.now c.loop-message-test.false)

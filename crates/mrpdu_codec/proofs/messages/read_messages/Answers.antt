@@ -16,7 +16,9 @@ pub returns-in_err-message-in-Some : goal.returns-in_err-message-in-Some
 returns-in_err-message-in-Some c =
     let p = err_from_is_err_and c.from_residual-in_err-message-in-Some.result c.from_residual-in_err-message-in-Some.ensures.1 in
     let t : type_at c.more.rest.now ≡ Ok (Some (c.in-Some.kind, c.in-Some.after.now)) = rw c.in-Some.is at c.in_ok-next_type.ensures in
-    rw (p.1, p.2) (fails_in_message c.args.form _ (map message_in c.more.found.items) c.more.rest.now c.more.invariant c.in-Some.kind c.in-Some.after.now c.in_err-message-in-Some.field-0.0 t c.in_err-message-in-Some.ensures)
+    rw (p.1, p.2) (fails_in_message c.args.form _
+    (map message_in c.more.found.items) c.more.rest.now c.more.invariant c.in-Some.kind c.in-Some.after.now c.in_err-message-in-Some.field-0.0 t
+    c.in_err-message-in-Some.ensures)
 
 pub more-smaller : goal.more-smaller
 more-smaller c =
@@ -26,4 +28,6 @@ more-smaller c =
 pub more-preserved : goal.more-preserved
 more-preserved c =
     let t : type_at c.more.rest.now ≡ Ok (Some (c.in-Some.kind, c.in-Some.after.now)) = rw c.in-Some.is at c.in_ok-next_type.ensures in
-    rw c.in_ok-push_some-in-Some.ensures (goes_on c.args.form _ (map message_in c.more.found.items) c.more.rest.now c.more.invariant c.in-Some.kind c.in-Some.after.now (messages_in c.in_ok-message-in-Some.message) c.in_ok-message-in-Some.after.now t c.in_ok-message-in-Some.ensures)
+    rw c.in_ok-push_some-in-Some.ensures
+    (goes_on c.args.form _ (map message_in c.more.found.items) c.more.rest.now c.more.invariant c.in-Some.kind c.in-Some.after.now
+    (messages_in c.in_ok-message-in-Some.message) c.in_ok-message-in-Some.after.now t c.in_ok-message-in-Some.ensures)

@@ -21,7 +21,9 @@ tell-requires-clause-room c =
     let here : slice_get c.args.ports.now.items c.args.at ≡ Some x = port_is c.args.ports.now.items c.args.at x c.requires.place c.index_mut.ensures.value in
     let told : c.as_slice-3.result.now ≡ told_by_receipt c.args.now (record { leave_all = c.args.msgs.now.leave_all; events = c.args.msgs.now.events }) x.state.part =
     c.as_slice-3.ensures ∙ (c.in_ok-told.ensures.keys ∙ ap (λ (p : PortState). changed_keys key_cmp same_content x.state.part.rows p.part.rows) c.in_ok-told.ensures.after) in
-    let rows : AreRows key_cmp x.state.part.rows = each-get (λ (p : PortState). AreRows key_cmp p.part.rows) (ports_in c.args.ports.now.items) c.args.at x.state c.requires.rows (state_is c.args.ports.now.items c.args.at x here) in
+    let rows : AreRows key_cmp x.state.part.rows
+    = each-get (λ (p : PortState). AreRows key_cmp p.part.rows) (ports_in c.args.ports.now.items) c.args.at x.state c.requires.rows
+    (state_is c.args.ports.now.items c.args.at x here) in
     let count : length c.as_slice-4.result.now ≡ c.len-2.result = omega (arith, c.as_slice-4.ensures.len, c.len-2.ensures) in
     fewer _ _ c.room_to_tell.new.sets.items
     (omega (arith, ap (λ (ks : List MsrpKey). length ks) told, c.told_keys_are_few.ensures.receive x.state.part c.args.now c.args.msgs.now.leave_all c.args.msgs.now.events rows, c.len.ensures, count))
@@ -34,7 +36,9 @@ returns-clause-ok c =
     let look : slice_get c.args.ports.now.items c.args.at ≡ Some c.port.result.now = ap (λ xs. slice_get xs c.args.at) (sym c.as_slice.ensures.value) ∙ c.port.ensures in
     let told : c.as_slice-3.result.now ≡ told_by_receipt c.args.now (record { leave_all = c.args.msgs.now.leave_all; events = c.args.msgs.now.events }) x.state.part =
     c.as_slice-3.ensures ∙ (c.in_ok-told.ensures.keys ∙ ap (λ (p : PortState). changed_keys key_cmp same_content x.state.part.rows p.part.rows) c.in_ok-told.ensures.after) in
-    let rows : AreRows key_cmp x.state.part.rows = each-get (λ (p : PortState). AreRows key_cmp p.part.rows) (ports_in c.args.ports.now.items) c.args.at x.state c.requires.rows (state_is c.args.ports.now.items c.args.at x here) in
+    let rows : AreRows key_cmp x.state.part.rows
+    = each-get (λ (p : PortState). AreRows key_cmp p.part.rows) (ports_in c.args.ports.now.items) c.args.at x.state c.requires.rows
+    (state_is c.args.ports.now.items c.args.at x here) in
     let domain : c.domain-domain.result ≡ x.state.domain = c.domain-domain.ensures ∙ ap (λ (p : PortHolding). p.state.domain) (one_some _ _ _ look here) in
     let marked : keys_in c.tell.new.sets.items ≡ told_sets c.args.at x.state.domain c.as_slice-3.result.now c.as_slice-4.result.now (keys_in c.args.sets.now.items) =
     c.tell.ensures ∙ (ap (λ d. told_sets c.args.at d c.as_slice-3.result.now c.as_slice-4.result.now (keys_in c.room_to_tell.new.sets.items)) domain

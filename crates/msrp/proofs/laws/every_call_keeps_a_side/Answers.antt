@@ -13,7 +13,8 @@ returns-clause-receive c = λ now at pdu side belong kept.
     let s : Part = p.part in
     let t : Part = received_part now pdu s in
     let port = port_kept side kept at p here in
-    kept-heard c.each_port_is_told.ensures c.a_place_for_each_key.ensures.registered side kept at p here t (told_by_receipt now pdu s) (c.rows_stay_rows.ensures.receive s now pdu.leave_all pdu.events port.rows)
+    kept-heard c.each_port_is_told.ensures c.a_place_for_each_key.ensures.registered side kept at p here t (told_by_receipt now pdu s)
+    (c.rows_stay_rows.ensures.receive s now pdu.leave_all pdu.events port.rows)
     (own-received s t (after now s.leave_time) pdu.leave_all pdu.events port.contents belong (c.each_key_after_receive.ensures s now pdu.leave_all pdu.events port.rows))
     (c.declarations_stay.ensures.receive s now pdu.leave_all pdu.events port.rows)
     (c.receive_tells_each_change.ensures.told s now pdu.leave_all pdu.events port.rows))

@@ -14,7 +14,8 @@ returns-clause-receive c = λ now at pdu side belong fits proper.
     let t : Part = received_part now pdu s in
     let port = port_kept side proper.kept at p here in
     let law = c.each_key_after_receive.ensures s now pdu.leave_all pdu.events port.rows in
-    proper-retold c.each_port_is_told.ensures side proper at p here c.a_place_for_each_key.ensures.registered t (told_by_receipt now pdu s) (c.rows_stay_rows.ensures.receive s now pdu.leave_all pdu.events port.rows)
+    proper-retold c.each_port_is_told.ensures side proper at p here c.a_place_for_each_key.ensures.registered t (told_by_receipt now pdu s)
+    (c.rows_stay_rows.ensures.receive s now pdu.leave_all pdu.events port.rows)
     (own-received s t (after now s.leave_time) pdu.leave_all pdu.events port.contents belong law)
     (range_from t (each-received IsWithin s t (after now s.leave_time) pdu.leave_all pdu.events (range_row s (ranges_at side proper at p here)) fits law))
     (c.declarations_stay.ensures.receive s now pdu.leave_all pdu.events port.rows)

@@ -10,5 +10,7 @@ pub loop-port-preserved : goal.loop-port-preserved
 loop-port-preserved c =
     one_more (λ ps. flat_map (λ (p : PortState). registered_keys p.part) (ports_in ps)) (λ (p : PortHolding). registered_keys p.state.part) c.args.ports.now c.loop-port.port-index c.port-item.result
     c.loop-port.out.items c.push_registered.new.out.items _ (λ p ps. refl) c.loop-port-test.true
-    (c.in_ok-push_registered.ensures ∙ (ap (λ (s : Part). c.loop-port.out.items ++ registered_keys s) c.part.ensures ∙ ap (λ (p : PortHolding). c.loop-port.out.items ++ registered_keys p.state.part) c.port-item.is))
+    (c.in_ok-push_registered.ensures
+    ∙ (ap (λ (s : Part). c.loop-port.out.items ++ registered_keys s) c.part.ensures
+    ∙ ap (λ (p : PortHolding). c.loop-port.out.items ++ registered_keys p.state.part) c.port-item.is))
     c.loop-port.invariant

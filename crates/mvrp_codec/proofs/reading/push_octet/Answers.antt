@@ -4,7 +4,8 @@ use Rattle.mvrp_codec.proofs.reading.push_octet.Goals as goal
 
 pub loop-event-preserved : goal.loop-event-preserved
 loop-event-preserved c = (
-  event_more (take c.min.result c.events_in-events.result) c.loop-event.number c.loop-event.event-index _ c.loop-event.out.items c.push_event.new.out.items _ c.loop-event-test.true c.loop-event.invariant.0 c.in_ok-push_event.ensures,
+  event_more (take c.min.result c.events_in-events.result) c.loop-event.number c.loop-event.event-index _ c.loop-event.out.items c.push_event.new.out.items _
+      c.loop-event-test.true c.loop-event.invariant.0 c.in_ok-push_event.ensures,
   omega (arith, c.loop-event.invariant.1),
 )
 

@@ -28,13 +28,15 @@ more-preserved c =
     )
 
 pub returns-in_ok-put_streak-2-clause-vectors : goal.returns-in_ok-put_streak-2-clause-vectors
-returns-in_ok-put_streak-2-clause-vectors c = octets_alone c.more.out.items c.put_streak-then-leave.new.out.items _ c.more.leave c.more.rest.now (eqb-true (length c.more.rest.now) 0 (sym c.is_empty.ensures ∙ c.more-test.false)) c.if-leave.true c.in_ok-put_streak-2.ensures c.more.invariant.0
+returns-in_ok-put_streak-2-clause-vectors c = octets_alone c.more.out.items c.put_streak-then-leave.new.out.items _ c.more.leave c.more.rest.now
+    (eqb-true (length c.more.rest.now) 0 (sym c.is_empty.ensures ∙ c.more-test.false)) c.if-leave.true c.in_ok-put_streak-2.ensures c.more.invariant.0
 
 pub returns-in_ok-put_streak-2-clause-vids : goal.returns-in_ok-put_streak-2-clause-vids
 returns-in_ok-put_streak-2-clause-vids c = vids_none c.more.rest.now c.args.events.now (eqb-true (length c.more.rest.now) 0 (sym c.is_empty.ensures ∙ c.more-test.false)) c.more.invariant.1
 
 pub returns-else-leave-clause-vectors : goal.returns-else-leave-clause-vectors
-returns-else-leave-clause-vectors c = octets_end c.more.out.items _ c.more.leave c.more.rest.now (eqb-true (length c.more.rest.now) 0 (sym c.is_empty.ensures ∙ c.more-test.false)) c.if-leave.false c.more.invariant.0
+returns-else-leave-clause-vectors c = octets_end c.more.out.items _ c.more.leave c.more.rest.now
+    (eqb-true (length c.more.rest.now) 0 (sym c.is_empty.ensures ∙ c.more-test.false)) c.if-leave.false c.more.invariant.0
 
 pub returns-else-leave-clause-vids : goal.returns-else-leave-clause-vids
 returns-else-leave-clause-vids c = vids_none c.more.rest.now c.args.events.now (eqb-true (length c.more.rest.now) 0 (sym c.is_empty.ensures ∙ c.more-test.false)) c.more.invariant.1

@@ -18,7 +18,8 @@ pass-lost-requires-clause-same c =
 pub rank_where-requires : goal.rank_where-requires
 rank_where-requires c = λ none.
     let moved : List Entry = importance_order c.args.now.0 c.args.behind.now in
-    let is : c.pass-lost.new.order ≡ entries_passed c.args.now.0 c.args.caps.now c.args.taken moved = c.pass-lost.ensures.order ∙ ap (entries_passed c.args.now.0 c.args.caps.now c.args.taken) c.rank.ensures in
+    let is : c.pass-lost.new.order ≡ entries_passed c.args.now.0 c.args.caps.now c.args.taken moved
+    = c.pass-lost.ensures.order ∙ ap (entries_passed c.args.now.0 c.args.caps.now c.args.taken) c.rank.ensures in
     is
     ∙ (stays_ranked c.args.now.0 c.args.caps.now c.args.taken moved
     (ranked_is_ranked c.args.now.0 (c.importance_is_an_order.ensures c.args.now.0) c.args.behind.now c.requires.different)

@@ -17,13 +17,17 @@ loop-x-preserved c =
           (pass_more _ _ _ _ _ _ _ _ _ blank _ _ within
           (c.since_after-since.ensures ∙ ap (since_after c.args.now.0 x.since) c.has_room-let_in.ensures)
           next c.loop-x.invariant.0),
-      noted-more gains c.args.caps.now c.loop-x.sum c.sum_with-sum.result c.loop-x.x-index (vec_capacity c.loop-x.notes.booked) (vec_capacity c.pass.new.self.booked) c.loop-x.order blank _ _ c.loop-x.notes.booked.items c.pass.new.self.booked.items within next c.pass.ensures.booked_room
+      noted-more gains c.args.caps.now c.loop-x.sum c.sum_with-sum.result c.loop-x.x-index (vec_capacity c.loop-x.notes.booked)
+          (vec_capacity c.pass.new.self.booked) c.loop-x.order blank _ _ c.loop-x.notes.booked.items c.pass.new.self.booked.items within next c.pass.ensures.booked_room
           (c.pass.ensures.booked ∙ ap (λ v. noted (vec_capacity c.loop-x.notes.booked) c.loop-x.notes.booked.items (stream_where (gains x v) x)) c.has_room-let_in.ensures)
           c.loop-x.invariant.1,
-      noted-more loses c.args.caps.now c.loop-x.sum c.sum_with-sum.result c.loop-x.x-index (vec_capacity c.loop-x.notes.dropped) (vec_capacity c.pass.new.self.dropped) c.loop-x.order blank _ _ c.loop-x.notes.dropped.items c.pass.new.self.dropped.items within next c.pass.ensures.dropped_room
+      noted-more loses c.args.caps.now c.loop-x.sum c.sum_with-sum.result c.loop-x.x-index (vec_capacity c.loop-x.notes.dropped)
+          (vec_capacity c.pass.new.self.dropped) c.loop-x.order blank _ _ c.loop-x.notes.dropped.items c.pass.new.self.dropped.items within next
+          c.pass.ensures.dropped_room
           (c.pass.ensures.dropped ∙ ap (λ v. noted (vec_capacity c.loop-x.notes.dropped) c.loop-x.notes.dropped.items (stream_where (loses x v) x)) c.has_room-let_in.ensures)
           c.loop-x.invariant.2,
-      passed-more loses c.args.caps.now c.loop-x.sum c.sum_with-sum.result c.loop-x.x-index c.loop-x.order blank _ _ c.loop-x.lost _ within next (c.or_loses-lost.ensures ∙ ap (λ v. c.loop-x.lost || loses x v) c.has_room-let_in.ensures) c.loop-x.invariant.3,
+      passed-more loses c.args.caps.now c.loop-x.sum c.sum_with-sum.result c.loop-x.x-index c.loop-x.order blank _ _ c.loop-x.lost _ within next
+          (c.or_loses-lost.ensures ∙ ap (λ v. c.loop-x.lost || loses x v) c.has_room-let_in.ensures) c.loop-x.invariant.3,
       passed-more moves c.args.caps.now c.loop-x.sum c.sum_with-sum.result c.loop-x.x-index c.loop-x.order blank _ _ c.loop-x.notes.any _ within next
           (c.pass.ensures.any ∙ ap (λ v. c.loop-x.notes.any || moves x v) c.has_room-let_in.ensures) c.loop-x.invariant.4,
     )
@@ -33,7 +37,8 @@ loop-x-preserved-then-is_none c =
     let within : c.loop-x.x-index < length c.loop-x.order = omega (arith, c.loop-x-test.true, c.loop-x.auto.order) in
     let full = sym c.has_room-let_in.ensures ∙ c.if-not-let_in.true in
     let unbooked = c.is_none.ensures ∙ ap not c.if-is_none.true in (
-      pass_skip c.args.now.0 c.args.caps.now c.args.taken c.args.order.now c.args.entries.now c.loop-x.sum c.loop-x.x-index c.loop-x.order c.loop-x.entries blank within full unbooked c.loop-x.invariant.0,
+      pass_skip c.args.now.0 c.args.caps.now c.args.taken c.args.order.now c.args.entries.now c.loop-x.sum c.loop-x.x-index c.loop-x.order c.loop-x.entries blank within
+          full unbooked c.loop-x.invariant.0,
       skipped_gains c.args.caps.now c.loop-x.sum c.loop-x.x-index (vec_capacity c.loop-x.notes.booked) c.loop-x.order blank _ _ c.loop-x.notes.booked.items within full c.loop-x.invariant.1,
       skipped_loses c.args.caps.now c.loop-x.sum c.loop-x.x-index (vec_capacity c.loop-x.notes.dropped) c.loop-x.order blank _ _ c.loop-x.notes.dropped.items within full unbooked c.loop-x.invariant.2,
       skipped_passed loses c.args.caps.now c.loop-x.sum c.loop-x.x-index c.loop-x.order blank _ _ c.loop-x.lost within full unbooked c.loop-x.invariant.3,

@@ -10,13 +10,18 @@ use Rattle.port_ledger.proofs.decide.wanted.Goals as goal
 was : (c : goal.After-changed) → AreBehind (take c.cut_for-front.result.place c.args.order.now.items) (drop c.cut_for-front.result.place c.args.order.now.items) c.args.entries.now.items
 was c =
     subst (λ (xs : List Entry). AreBehind (take c.cut_for-front.result.place xs) (drop c.cut_for-front.result.place xs) c.args.entries.now.items) c.deref-3.ensures.value
-    (subst (λ (es : List Entry). AreBehind (take c.cut_for-front.result.place c.deref-3.result.now) (drop c.cut_for-front.result.place c.deref-3.result.now) es) c.deref-2.ensures.value c.cut_for-front.ensures.behind)
+    (subst (λ (es : List Entry). AreBehind (take c.cut_for-front.result.place c.deref-3.result.now) (drop c.cut_for-front.result.place c.deref-3.result.now) es)
+    c.deref-2.ensures.value c.cut_for-front.ensures.behind)
 
 whole : (c : goal.After-changed) → IsFront c.args.now.0 c.args.caps.now c.cut_for-front.result.place c.cut_for-front.result.totals (with_want c.args.entries.now.items c.args.want)
     (take c.cut_for-front.result.place c.args.order.now.items ++ exchanged (drop c.cut_for-front.result.place c.args.order.now.items) c.args.want)
 whole c =
-    subst (λ (xs : List Entry). IsFront c.args.now.0 c.args.caps.now c.cut_for-front.result.place c.cut_for-front.result.totals (with_want c.args.entries.now.items c.args.want) (take c.cut_for-front.result.place xs ++ exchanged (drop c.cut_for-front.result.place xs) c.args.want)) c.deref-3.ensures.value
-    (subst (λ (es : List Entry). IsFront c.args.now.0 c.args.caps.now c.cut_for-front.result.place c.cut_for-front.result.totals (with_want es c.args.want) (take c.cut_for-front.result.place c.deref-3.result.now ++ exchanged (drop c.cut_for-front.result.place c.deref-3.result.now) c.args.want)) c.deref-2.ensures.value c.cut_for-front.ensures.front)
+    subst (λ (xs : List Entry). IsFront c.args.now.0 c.args.caps.now c.cut_for-front.result.place c.cut_for-front.result.totals
+    (with_want c.args.entries.now.items c.args.want) (take c.cut_for-front.result.place xs ++ exchanged (drop c.cut_for-front.result.place xs) c.args.want))
+    c.deref-3.ensures.value
+    (subst (λ (es : List Entry). IsFront c.args.now.0 c.args.caps.now c.cut_for-front.result.place c.cut_for-front.result.totals (with_want es c.args.want)
+    (take c.cut_for-front.result.place c.deref-3.result.now ++ exchanged (drop c.cut_for-front.result.place c.deref-3.result.now) c.args.want))
+    c.deref-2.ensures.value c.cut_for-front.ensures.front)
 
 within : (c : goal.After-changed) → c.cut_for-front.result.place ≤ length c.args.order.now.items
 within c = subst (λ (xs : List Entry). c.cut_for-front.result.place ≤ length xs) c.deref-3.ensures.value c.cut_for-front.ensures.place
@@ -41,19 +46,27 @@ room c = omega (arith, within c, length-drop c.cut_for-front.result.place c.args
 pub returns-clause-booked : goal.returns-clause-booked
 returns-clause-booked c =
     c.changed.ensures.booked (booked_only_in c.entered-next.new.entries.items c.args.entries.now.items) (rising_only c.entered-next.new.entries.items c.args.entries.now.items (up c))
-    (all_gained c.args.now.0 (c.importance_is_an_order.ensures c.args.now.0) c.args.caps.now c.cut_for-front.result.place c.cut_for-front.result.totals c.args.entries.now.items c.entered-next.new.entries.items c.args.order.now.items c.args.want c.find_entry-goes.result
+    (all_gained c.args.now.0
+    (c.importance_is_an_order.ensures c.args.now.0) c.args.caps.now c.cut_for-front.result.place c.cut_for-front.result.totals c.args.entries.now.items
+    c.entered-next.new.entries.items c.args.order.now.items c.args.want c.find_entry-goes.result
     (within c) (was c) (whole c) (decided c) (found c) c.requires.other (off c)
     (vec_capacity c.in_ok-notes.notes.booked) c.in_ok-notes.notes.booked.items c.entered-next.new.notes.booked.items c.in_ok-notes.ensures.booked
     (let r = room c in omega (arith, r, c.in_ok-notes.ensures.booked_room))
     (c.entered-next.ensures.booked
-    ∙ ap (λ xs. noted (vec_capacity c.in_ok-notes.notes.booked) c.in_ok-notes.notes.booked.items (streams_passed gains c.args.caps.now (both_of c.cut_for-front.result.totals) (importance_order c.args.now.0 (exchanged (drop c.cut_for-front.result.place xs) c.args.want)))) c.reserve-2.ensures.items))
+    ∙ ap (λ xs. noted (vec_capacity c.in_ok-notes.notes.booked) c.in_ok-notes.notes.booked.items
+    (streams_passed gains c.args.caps.now (both_of c.cut_for-front.result.totals)
+    (importance_order c.args.now.0 (exchanged (drop c.cut_for-front.result.place xs) c.args.want)))) c.reserve-2.ensures.items))
 
 pub returns-clause-dropped : goal.returns-clause-dropped
 returns-clause-dropped c =
-    c.changed.ensures.dropped (booked_only_in c.args.entries.now.items c.entered-next.new.entries.items) (rising_only c.args.entries.now.items c.entered-next.new.entries.items c.requires.book.kept.ascending)
-    (all_lost c.args.now.0 (c.importance_is_an_order.ensures c.args.now.0) c.args.caps.now c.cut_for-front.result.place c.cut_for-front.result.totals c.args.entries.now.items c.entered-next.new.entries.items c.args.order.now.items c.args.want c.find_entry-goes.result
+    c.changed.ensures.dropped (booked_only_in c.args.entries.now.items c.entered-next.new.entries.items)
+    (rising_only c.args.entries.now.items c.entered-next.new.entries.items c.requires.book.kept.ascending)
+    (all_lost c.args.now.0 (c.importance_is_an_order.ensures c.args.now.0) c.args.caps.now c.cut_for-front.result.place c.cut_for-front.result.totals
+    c.args.entries.now.items c.entered-next.new.entries.items c.args.order.now.items c.args.want c.find_entry-goes.result
     (within c) (was c) (whole c) (decided c) (found c) c.requires.other (off c)
     (vec_capacity c.in_ok-notes.notes.dropped) c.in_ok-notes.notes.dropped.items c.entered-next.new.notes.dropped.items c.in_ok-notes.ensures.dropped
     (let r = room c in omega (arith, r, c.in_ok-notes.ensures.dropped_room))
     (c.entered-next.ensures.dropped
-    ∙ ap (λ xs. noted (vec_capacity c.in_ok-notes.notes.dropped) c.in_ok-notes.notes.dropped.items (booking_of c.find_entry-goes.result ++ streams_passed loses c.args.caps.now (both_of c.cut_for-front.result.totals) (importance_order c.args.now.0 (exchanged (drop c.cut_for-front.result.place xs) c.args.want)))) c.reserve-2.ensures.items))
+    ∙ ap (λ xs. noted (vec_capacity c.in_ok-notes.notes.dropped) c.in_ok-notes.notes.dropped.items
+    (booking_of c.find_entry-goes.result ++ streams_passed loses c.args.caps.now (both_of c.cut_for-front.result.totals)
+    (importance_order c.args.now.0 (exchanged (drop c.cut_for-front.result.place xs) c.args.want)))) c.reserve-2.ensures.items))

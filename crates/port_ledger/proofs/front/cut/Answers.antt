@@ -16,17 +16,24 @@ pub totals_of-rest-requires : goal.totals_of-rest-requires
 totals_of-rest-requires c = rest-fits c.prior_to_both-place.result c.args.order.now _ c.behind.ensures c.requires.range
 
 pub less-requires-clause-class_a : goal.less-requires-clause-class_a
-less-requires-clause-class_a c = (part-within c.args.now.0 c.prior_to_both-place.result c.args.order.now _ c.args.standing.now.totals c.totals_of-rest.result c.requires.totals c.totals_of-rest.ensures c.behind.ensures).class_a
+less-requires-clause-class_a c =
+    (part-within c.args.now.0 c.prior_to_both-place.result c.args.order.now _ c.args.standing.now.totals c.totals_of-rest.result c.requires.totals
+    c.totals_of-rest.ensures c.behind.ensures).class_a
 
 pub less-requires-clause-class_b : goal.less-requires-clause-class_b
-less-requires-clause-class_b c = (part-within c.args.now.0 c.prior_to_both-place.result c.args.order.now _ c.args.standing.now.totals c.totals_of-rest.result c.requires.totals c.totals_of-rest.ensures c.behind.ensures).class_b
+less-requires-clause-class_b c =
+    (part-within c.args.now.0 c.prior_to_both-place.result c.args.order.now _ c.args.standing.now.totals c.totals_of-rest.result c.requires.totals
+    c.totals_of-rest.ensures c.behind.ensures).class_b
 
 pub less-requires-clause-new_count : goal.less-requires-clause-new_count
-less-requires-clause-new_count c = (part-within c.args.now.0 c.prior_to_both-place.result c.args.order.now _ c.args.standing.now.totals c.totals_of-rest.result c.requires.totals c.totals_of-rest.ensures c.behind.ensures).new_count
+less-requires-clause-new_count c =
+    (part-within c.args.now.0 c.prior_to_both-place.result c.args.order.now _ c.args.standing.now.totals c.totals_of-rest.result c.requires.totals
+    c.totals_of-rest.ensures c.behind.ensures).new_count
 
 pub returns-clause-totals : goal.returns-clause-totals
 returns-clause-totals c =
-    front-is c.args.now.0 c.prior_to_both-place.result c.args.order.now _ c.args.standing.now.totals c.less.result c.totals_of-rest.result c.requires.totals c.totals_of-rest.ensures c.behind.ensures c.less.ensures
+    front-is c.args.now.0 c.prior_to_both-place.result c.args.order.now _ c.args.standing.now.totals c.less.result c.totals_of-rest.result c.requires.totals
+    c.totals_of-rest.ensures c.behind.ensures c.less.ensures
 
 -- the place lies within what is settled
 place_within : (c : goal.After-less) → c.prior_to_both-place.result ≤ c.args.standing.now.settled
@@ -55,5 +62,7 @@ returns-clause-settled c =
     subst (λ (xs : List Entry). IsSettled c.args.now.0 c.prior_to_both-place.result xs) (take-append-drop c.args.standing.now.settled c.args.order.now)
     (cut_settled c.args.now.0 c.prior_to_both-place.result c.args.goes c.args.comes f r c.requires.settled.ahead
     (let within = place_within c in omega (arith, long, within))
-    (subst (λ (xs : List Entry). AllByRecursion (λ y. is_prior_to_both c.args.now.0 c.args.goes c.args.comes y ≡ true) (take c.prior_to_both-place.result xs)) c.ahead.ensures c.prior_to_both-place.ensures.prior)
-    (subst (λ (xs : List Entry). AllByRecursion (λ y. is_prior_to_both c.args.now.0 c.args.goes c.args.comes y ≡ false) (drop c.prior_to_both-place.result xs)) c.ahead.ensures c.prior_to_both-place.ensures.rest))
+    (subst (λ (xs : List Entry). AllByRecursion (λ y. is_prior_to_both c.args.now.0 c.args.goes c.args.comes y ≡ true) (take c.prior_to_both-place.result xs))
+    c.ahead.ensures c.prior_to_both-place.ensures.prior)
+    (subst (λ (xs : List Entry). AllByRecursion (λ y. is_prior_to_both c.args.now.0 c.args.goes c.args.comes y ≡ false) (drop c.prior_to_both-place.result xs))
+    c.ahead.ensures c.prior_to_both-place.ensures.rest))

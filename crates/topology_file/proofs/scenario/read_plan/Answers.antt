@@ -26,7 +26,8 @@ returns-in_err-traffic c =
     let events = map (λ t. table_view t.now) c.args.event_tables.now in
     let frames = map (λ t. table_view t.now) c.args.frame_tables.now in
     let p = err_from_is_err_and c.from_residual-in_err-traffic.result c.from_residual-in_err-traffic.ensures.1 in
-    rw (p.1, p.2) (traffic-breaks times.ticks times.leave_time times.periodic c.args.domains nodes links streams events frames c.in_ok-network.network (broken_rule c.in_err-traffic.field-0.0) c.in_ok-network.ensures.reads c.in_err-traffic.ensures)
+    rw (p.1, p.2) (traffic-breaks times.ticks times.leave_time times.periodic c.args.domains nodes links streams events frames c.in_ok-network.network
+    (broken_rule c.in_err-traffic.field-0.0) c.in_ok-network.ensures.reads c.in_err-traffic.ensures)
 
 pub invariant_of-result : goal.invariant_of-result
 invariant_of-result c =
@@ -36,7 +37,9 @@ invariant_of-result c =
     let streams = map (λ t. table_view t.now) c.args.stream_tables.now in
     let events = map (λ t. table_view t.now) c.args.event_tables.now in
     let frames = map (λ t. table_view t.now) c.args.frame_tables.now in
-    ok-says KeepsRules (plan_of times.ticks times.leave_time times.periodic c.args.domains nodes links streams events frames) _ (parts-make times.ticks times.leave_time times.periodic c.args.domains nodes links streams events frames c.in_ok-network.network c.in_ok-traffic.traffic c.in_ok-network.ensures.reads c.in_ok-traffic.ensures)
+    ok-says KeepsRules (plan_of times.ticks times.leave_time times.periodic c.args.domains nodes links streams events frames) _
+    (parts-make times.ticks times.leave_time times.periodic c.args.domains nodes links streams events frames c.in_ok-network.network c.in_ok-traffic.traffic
+    c.in_ok-network.ensures.reads c.in_ok-traffic.ensures)
     (plan_of-keeps c.refusals.ensures.accepted times.ticks times.leave_time times.periodic c.args.domains nodes links streams events frames
     (c.requires.some_ticks, c.requires.ticks) (c.requires.least_leave, c.requires.leave))
 
@@ -48,4 +51,5 @@ returns c =
     let streams = map (λ t. table_view t.now) c.args.stream_tables.now in
     let events = map (λ t. table_view t.now) c.args.event_tables.now in
     let frames = map (λ t. table_view t.now) c.args.frame_tables.now in
-    parts-make times.ticks times.leave_time times.periodic c.args.domains nodes links streams events frames c.in_ok-network.network c.in_ok-traffic.traffic c.in_ok-network.ensures.reads c.in_ok-traffic.ensures
+    parts-make times.ticks times.leave_time times.periodic c.args.domains nodes links streams events frames c.in_ok-network.network c.in_ok-traffic.traffic
+    c.in_ok-network.ensures.reads c.in_ok-traffic.ensures

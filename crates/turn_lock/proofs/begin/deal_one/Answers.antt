@@ -13,7 +13,8 @@ split_seat-next-requires g c =
     let known : Known g.row.S.Denot g.row.S-Ask.Denot g.row.S-Answer.Denot = dealt_known terms.start.value terms.passes c.args.number in (
       from.2,
       omega arith,
-      subst (λ (v : View g.row.S.Denot g.row.S-Ask.Denot g.row.S-Answer.Denot). Splits (IsInTurn g.S.Sequential.does key.start.value key.passes) c.args.seat.id v (dealer v) (next_view v)) (sym (ap (λ m. m.0) from.3))
+      subst (λ (v : View g.row.S.Denot g.row.S-Ask.Denot g.row.S-Answer.Denot). Splits (IsInTurn g.S.Sequential.does key.start.value key.passes) c.args.seat.id v
+          (dealer v) (next_view v)) (sym (ap (λ m. m.0) from.3))
           (deals_on g.S.Sequential.does key.start.value key.passes c.args.seat.id known refl refl c.requires.1),
     )
 
@@ -22,7 +23,8 @@ returns-clause-left g c =
     let from = c.requires.0 in
     let terms = c.args.terms.now in
     let split = c.split_seat-next.ensures in
-    let known : Known g.row.S.Denot g.row.S-Ask.Denot g.row.S-Answer.Denot = record { start = terms.start.value; passes = terms.passes; number = c.args.number; dealt = true; stage = Idle; seen = []; ended = [] } in
+    let known : Known g.row.S.Denot g.row.S-Ask.Denot g.row.S-Answer.Denot
+    = record { start = terms.start.value; passes = terms.passes; number = c.args.number; dealt = true; stage = Idle; seen = []; ended = [] } in
     let now : c.split_seat-next.new.seat.me ≡ (Living known, []) = split.2 ∙ ap (λ (m : Seated g.row.S.Denot g.row.S-Ask.Denot g.row.S-Answer.Denot). (dealer m.0, m.1)) from.3 in (
       record { known = known; me_is = now; at_rest = refl; start_is = refl; passes_are = refl; number_is = refl; none_ended = refl; in_range = (from.4, from.5) },
       split.0,

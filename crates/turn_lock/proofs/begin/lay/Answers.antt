@@ -13,5 +13,6 @@ new-requires g c =
     let some_passes : 0 < terms.passes = search rules in
     let state : c.args.state ≡ terms.start.value = search rules in
     let empty : c.new-history.result.items ≡ [] = search rules in
-    subst (λ (xs : List (Kept g.row.S.Denot g.row.S-Ask.Denot g.row.S-Answer.Denot)). IsInTurn g.S.Sequential.does terms.start.value terms.passes (opening (0 ∷ 0 ∷ []) xs (first_view terms.start.value terms.passes))) (sym items)
+    subst (λ (xs : List (Kept g.row.S.Denot g.row.S-Ask.Denot g.row.S-Answer.Denot)). IsInTurn g.S.Sequential.does terms.start.value terms.passes
+    (opening (0 ∷ 0 ∷ []) xs (first_view terms.start.value terms.passes))) (sym items)
     (opens g.S.Sequential.does terms.start.value terms.passes kept state empty some_passes few)

@@ -19,7 +19,9 @@ loop-other-preserved g c =
           let taken = c.loop-other.invariant.1 known is in (
             ended_of other ∷ taken.0,
             c.take_in.ensures.takes (having_ended known taken.0) taken.1,
-            took_one c.args.others.items left other taken.0 (subst (λ (l : List (PassOf g.row.S.Denot g.row.S-Ask.Denot g.row.S-Answer.Denot)). map ended_of l ++ taken.0 ≡ map ended_of c.args.others.items) popped taken.2),
+            took_one c.args.others.items left other taken.0
+                (subst (λ (l : List (PassOf g.row.S.Denot g.row.S-Ask.Denot g.row.S-Answer.Denot)). map ended_of l ++ taken.0 ≡ map ended_of c.args.others.items) popped
+                taken.2),
           )),
       all_front (λ (p : PassOf g.row.S.Denot g.row.S-Ask.Denot g.row.S-Answer.Denot). p.lock.table ≡ c.args.board.now.table_id) left other
           (subst (All (λ (p : PassOf g.row.S.Denot g.row.S-Ask.Denot g.row.S-Answer.Denot). p.lock.table ≡ c.args.board.now.table_id)) popped c.loop-other.invariant.2),

@@ -7,8 +7,12 @@ pub load-served-requires : goal.load-served-requires
 load-served-requires g c =
     let waits = c.requires.seat.1 in
     let words = c.requires.board.0 in
-    let board = c.args.board.now in
-    (c.loop.invariant.2 ∙ c.requires.seat.0, omega arith, looks g.S.Sequential.does board.key.start.value board.key.passes board.table_id.slots c.loop.seat.id c.loop.seat.me waits.0 waits.1 (c.loop.invariant.3 ∙ waits.2) waits.3)
+    let board = c.args.board.now in (
+      c.loop.invariant.2 ∙ c.requires.seat.0,
+      omega arith,
+      looks g.S.Sequential.does board.key.start.value board.key.passes board.table_id.slots c.loop.seat.id
+          c.loop.seat.me waits.0 waits.1 (c.loop.invariant.3 ∙ waits.2) waits.3,
+    )
 
 pub returns-then-served-ticket-clause-takes : goal.returns-then-served-ticket-clause-takes
 returns-then-served-ticket-clause-takes g c =

@@ -19,11 +19,13 @@ make_in_slot-answer-requires g c =
 pub advance-requires-clause-seat : goal.advance-requires-clause-seat
 advance-requires-clause-seat g c = (
   c.make_in_slot-answer.ensures.seat.0 ∙ (c.await_turn.ensures.seat ∙ (c.draw-ticket.ensures.seat ∙ c.requires.seat.0)),
-  is_ready g.S.Sequential.does c.args.number c.draw-ticket.result c.args.ask c.args.seat.now.me c.draw-ticket.new.seat.me c.await_turn.new.seat.me c.make_in_slot-answer.new.seat.me c.make_in_slot-answer.result
+  is_ready g.S.Sequential.does c.args.number c.draw-ticket.result c.args.ask c.args.seat.now.me c.draw-ticket.new.seat.me c.await_turn.new.seat.me
+      c.make_in_slot-answer.new.seat.me c.make_in_slot-answer.result
       c.requires.seat.1 c.requires.number c.draw-ticket.ensures.draws c.await_turn.ensures.takes c.make_in_slot-answer.ensures.seat.1 c.make_in_slot-answer.ensures.makes,
 )
 
 pub returns-clause-turns : goal.returns-clause-turns
 returns-clause-turns g c =
-    turns g.S.Sequential.does c.args.number c.draw-ticket.result c.args.ask c.args.seat.now.me c.draw-ticket.new.seat.me c.await_turn.new.seat.me c.make_in_slot-answer.new.seat.me c.advance.new.seat.me c.make_in_slot-answer.result
+    turns g.S.Sequential.does c.args.number c.draw-ticket.result c.args.ask c.args.seat.now.me c.draw-ticket.new.seat.me c.await_turn.new.seat.me
+    c.make_in_slot-answer.new.seat.me c.advance.new.seat.me c.make_in_slot-answer.result
     c.draw-ticket.ensures.draws c.await_turn.ensures.takes c.make_in_slot-answer.ensures.seat.1 c.make_in_slot-answer.ensures.makes c.advance.ensures.gives_on

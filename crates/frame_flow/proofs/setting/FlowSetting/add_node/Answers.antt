@@ -30,7 +30,8 @@ loop-k-preserved c =
           record { at = both.0; done = both.1; kept = subst (λ (t : NodeCopies). Kept c.if-is_of.flows.items t) (sym w.kept-is) kept })
       | else-is_of w ↦ (
           let same = sym (ap to w.flows-is) in
-          let skipped = step-skip s places c.args.levels.now c.loop-k.flows.items c.args.level c.args.node c.loop-k.k _ c.requires.levels c.loop-k-test.true (c.is_of.ensures.other w.if-is_of.false) c.loop-k.invariant.done in
+          let skipped = step-skip s places c.args.levels.now c.loop-k.flows.items c.args.level c.args.node c.loop-k.k _ c.requires.levels c.loop-k-test.true
+          (c.is_of.ensures.other w.if-is_of.false) c.loop-k.invariant.done in
           record {
             at = subst (λ (t : List PortFlow). AreAt places t) same c.loop-k.invariant.at;
             done = subst (λ (t : List PortFlow). AreDoneBefore s c.args.level c.args.node (c.loop-k.k + 1) places t) same skipped;

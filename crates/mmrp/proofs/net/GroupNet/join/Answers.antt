@@ -20,4 +20,5 @@ invariant_of-self c =
 
 pub returns-clause-ok : goal.returns-clause-ok
 returns-clause-ok c =
-    if_ok c.ask.result _ _ (λ reply h. ap (group_step (Join c.args.node c.args.mac)) (sym c.self.view_is) ∙ h) (if_ok c.ask.result _ _ (λ reply h. h c.self.inside.tree c.self.inside.clock) c.ask.ensures.ok)
+    if_ok c.ask.result _ _ (λ reply h. ap (group_step (Join c.args.node c.args.mac)) (sym c.self.view_is) ∙ h)
+    (if_ok c.ask.result _ _ (λ reply h. h c.self.inside.tree c.self.inside.clock) c.ask.ensures.ok)

@@ -20,4 +20,5 @@ invariant_of-self c =
 
 pub returns-clause-ok : goal.returns-clause-ok
 returns-clause-ok c =
-    if_ok c.make_step.result _ _ (λ reply h. ap (group_step (Port c.args.at c.args.step)) (sym c.self.view_is) ∙ h) (if_ok c.make_step.result _ _ (λ reply h. h c.self.inside.tree) c.make_step.ensures.ok)
+    if_ok c.make_step.result _ _ (λ reply h. ap (group_step (Port c.args.at c.args.step)) (sym c.self.view_is) ∙ h)
+    (if_ok c.make_step.result _ _ (λ reply h. h c.self.inside.tree) c.make_step.ensures.ok)

@@ -20,4 +20,5 @@ invariant_of-self c =
 
 pub returns-clause-ok : goal.returns-clause-ok
 returns-clause-ok c =
-    if_ok c.repeat.result _ _ (λ reply h. ap (group_step (Repeat c.args.at c.args.index)) (sym c.self.view_is) ∙ h) (if_ok c.repeat.result _ _ (λ reply h. h c.self.inside.tree c.self.inside.clock) c.repeat.ensures.ok)
+    if_ok c.repeat.result _ _ (λ reply h. ap (group_step (Repeat c.args.at c.args.index)) (sym c.self.view_is) ∙ h)
+    (if_ok c.repeat.result _ _ (λ reply h. h c.self.inside.tree c.self.inside.clock) c.repeat.ensures.ok)

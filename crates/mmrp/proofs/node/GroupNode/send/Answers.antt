@@ -39,7 +39,8 @@ here c =
     (slice_get_read (before c).outboxes (length (before c).outboxes) (at c) c.index_mut.result.now refl (below c) c.index_mut.ensures.value)
     ∙ (sym c.replace.ensures.value ∙ sym c.into_vec-outbox.ensures))
 
-put : (c : After-drop-index_mut) → HasSaid c.args.now (place_of c.args.port) (before c).side (box_at (place_of c.args.port) (before c).outboxes) c.say-reply.result c.say-reply.new.side.state c.say-reply.new.outbox.items
+put : (c : After-drop-index_mut)
+    → HasSaid c.args.now (place_of c.args.port) (before c).side (box_at (place_of c.args.port) (before c).outboxes) c.say-reply.result c.say-reply.new.side.state c.say-reply.new.outbox.items
 put c =
     let P : Waiting → Type 0 = λ b. HasSaid c.args.now (place_of c.args.port) (before c).side b c.say-reply.result c.say-reply.new.side.state c.say-reply.new.outbox.items in
     subst P (sym (here c)) c.say-reply.ensures.put

@@ -23,4 +23,7 @@ returns-clause-after c =
     let ok : OnOk c.leave_at.result ((moment : ℕ) → streams_of c.leave_at.new.ports.items c.leave_at.new.sets.items c.self.inside.talks.items c.self.inside.listens.items moment
     ≡ left_streams (c.from.result - 1) c.args.key (streams_of c.self.inside.ports.items c.self.inside.awaiting.items c.self.inside.talks.items c.self.inside.listens.items moment)) =
     rw (c.as_slice.ensures.value, c.as_slice-2.ensures.value) at c.leave_at.ensures.ok in
-    on_ok c.leave_at.result ok (λ all. all c.self.inside.moment.0 ∙ (ap (λ (v : SideHolding). left_streams (c.from.result - 1) c.args.key v.state) c.self.view_is ∙ ap (λ (n : ℕ). left_streams (n - 1) c.args.key c.args.self.now.state) c.from.ensures))
+    on_ok c.leave_at.result ok
+    (λ all. all c.self.inside.moment.0
+    ∙ (ap (λ (v : SideHolding). left_streams (c.from.result - 1) c.args.key v.state) c.self.view_is
+    ∙ ap (λ (n : ℕ). left_streams (n - 1) c.args.key c.args.self.now.state) c.from.ensures))

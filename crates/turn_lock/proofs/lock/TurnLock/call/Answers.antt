@@ -20,7 +20,8 @@ returns-clause-called g c =
     let start = ap (λ q. q.lock.start) c.pass.view_is ∙ ap (λ l. l.start) c.requires.pass in
     let number = ap (λ q. q.number) c.pass.view_is in
     let seen = ap (λ q. q.seen) c.pass.view_is in
-    subst (λ (x : g.row.S.Denot × ℕ × Log g.row.S-Ask.Denot g.row.S-Answer.Denot). IfOk c.turn.result (λ answer. HasCalled g.S.Sequential.does x.0 x.1 x.2 c.args.ask answer (seen_by c.turn.new.seat.me.0)))
+    subst (λ (x : g.row.S.Denot × ℕ × Log g.row.S-Ask.Denot g.row.S-Answer.Denot). IfOk c.turn.result
+    (λ answer. HasCalled g.S.Sequential.does x.0 x.1 x.2 c.args.ask answer (seen_by c.turn.new.seat.me.0)))
     (λ i. (start i, number i, seen i)) all.1
 
 pub returns-clause-no_memory : goal.returns-clause-no_memory

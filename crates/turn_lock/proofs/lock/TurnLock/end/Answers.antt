@@ -42,7 +42,8 @@ shut-requires-clause-seat g c =
         is.at_rest,
         (λ number one low.
             ⊎_elim (λ same. inl (is.number_is ∙ same))
-            (λ there. inr (subst (λ (l : List (ℕ × Log g.row.S-Ask.Denot g.row.S-Answer.Denot)). list_any (λ (p : ℕ × Log g.row.S-Ask.Denot g.row.S-Answer.Denot). p.0 == number) l ≡ true) (sym ended) there))
+            (λ there. inr (subst (λ (l : List (ℕ × Log g.row.S-Ask.Denot g.row.S-Answer.Denot)). list_any
+            (λ (p : ℕ × Log g.row.S-Ask.Denot g.row.S-Answer.Denot). p.0 == number) l ≡ true) (sym ended) there))
             (given_split left last number (subst (λ (l : List (PassOf g.row.S.Denot g.row.S-Ask.Denot g.row.S-Answer.Denot)). is_given l number ≡ true) popped
             (c.requires.given number one (subst (λ (n : ℕ). number ≤ n) count low))))),
       ),
