@@ -7,7 +7,7 @@ use Rattle.registrar.specs.declared.Registrar.{Registrar}
 use Rattle.registrar.specs.declared.Registrar.TheVariants.{Held, Leaving, Empty}
 use Rattle.srp_base.specs.declared.{numbers.Cs.Cs, mrp.MrpEvent.MrpEvent}
 use Rattle.mrp_participant.specs.declared.row.Row.{Row}
-use Rattle.mrp_participant.specs.{Ascends, key_of, same, find, is_live, registered_in, row_hearing, row_after_receive, after_hear, leave_all_row, leave_is_due, after_leave_due, left_row, periodic_row, AreRows, changed_keys, rows_after_receive, left_keys, leave_timers_state, periodic_fired_state, due_leave_all_state, due_state, is_leave_all_due, is_periodic_due}
+use Rattle.mrp_participant.specs.{Ascends, key_of, same, find, registered_in, row_hearing, row_after_receive, after_hear, leave_all_row, leave_is_due, after_leave_due, left_row, periodic_row, AreRows, changed_keys, rows_after_receive, left_keys, periodic_fired_state, due_state}
 use Rattle.registrar.specs.Table.{is_leaving}
 use Rattle.mrp_participant.specs.State.{State}
 use Rattle.mrp_participant.proofs.{Lookups.same_is, Lookups.Each-mapped, SendingLimitLemmas.In, SendingLimitLemmas.In-filter, SendingLimitLemmas.In-filtered, SendingLimitLemmas.find-in, EachKey.each-receive, EachKey.each-mapped, EachKey.each-kept, Transitions.due-keeps, Transitions.leave_all_due-rows}
@@ -152,11 +152,7 @@ module _ {K C : Type 0} where
       → registered_in (left_row (record r { registrar = g })) ≡ None
   left-unregistered_by now r Held h = cc
   left-unregistered_by now r Empty h = cc
-  left-unregistered_by now r Leaving h = kept_none (is_live (record r { registrar = Empty }))
-    where
-      kept_none : (b : Bool) → registered_in (if b then Some (record r { registrar = Empty }) else None) ≡ None
-      kept_none true = refl
-      kept_none false = refl
+  left-unregistered_by now r Leaving h = grind arith
 
   leaving-registered_by : (now : ℕ) (r : Row K C) (g : Registrar) → (is_leaving g && nat_le r.leave.0 now) ≡ true
       → IsSome (registered_in (Some (record r { registrar = g })))
@@ -175,12 +171,7 @@ module _ {K C : Type 0} {cmp : K → K → Ordering} (o : IsTotalOrder cmp) wher
   due-registered : (now : Cs) (s : State K C) → Ascends cmp key_of s.rows → (k : K)
       → registered_in (find cmp k (due_state now s).rows)
       ≡ registered_in (option_and_then (after_leave_due now.0) (find cmp k s.rows))
-  due-registered now s up k =
-      let first : State K C = leave_timers_state now s in
-      let second : State K C = due_leave_all_state now first in
-      periodic_rows_by now second k (is_periodic_due now second)
-      ∙ (ap (λ rows. registered_in (find cmp k rows)) (leave_all_due-rows now first (is_leave_all_due now first))
-      ∙ ap registered_in (each-kept o (after_leave_due now.0) (due-keeps now.0) s.rows up k))
+  due-registered now s up k = grind (arith, periodic_rows_by, leave_all_due-rows, each-kept, due-keeps)
 
   due_told_by : (now : Cs) (s : State K C) (k : K) (r : Row K C) (b : Bool) → leave_is_due now.0 r ≡ b → In r s.rows
       → r.key ≡ k → Contains (left_keys now s) k

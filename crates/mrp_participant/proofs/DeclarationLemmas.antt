@@ -1,6 +1,6 @@
 -- What a call that says nothing of a key's declaration or registration leaves of it, and what a request makes of
 -- it.
-use Rattle.std.proofs.Common.{◌≡◌, ℕ, Bool, true, false, not, ◌&&◌, ◌||◌, if◌then◌else◌, List, [], ◌∷◌, fold, refl, ap, ◌∙◌, option_map, option_and_then}
+use Rattle.std.proofs.Common.{◌≡◌, ℕ, Bool, true, false, not, ◌&&◌, ◌||◌, if◌then◌else◌, List, [], ◌∷◌, fold, refl, ap, ◌∙◌, option_map, option_and_then, arith}
 use Rattle.std.specs.{declared.option.Option.Option, declared.option.Option.TheVariants.None, declared.option.Option.TheVariants.Some, declared.cmp.Ordering.Ordering, Cmp.IsTotalOrder}
 use Rattle.srp_base.specs.declared.{numbers.Cs.Cs, mrp.MrpEvent.MrpEvent}
 use Rattle.srp_base.specs.declared.mrp.MrpEvent.TheVariants.{New, JoinIn, OnlyIn, JoinMt, OnlyMt, Lv}
@@ -10,10 +10,10 @@ use Rattle.applicant.specs.declared.AppEvent.TheVariants.{RxIn, RxMt, RxLv as Ap
 use Rattle.applicant.specs.Table as applicant
 use Rattle.registrar.specs.declared.Registrar.{Registrar}
 use Rattle.registrar.specs.declared.Registrar.TheVariants.{Held, Leaving, Empty}
-use Rattle.registrar.specs.declared.RegEvent.TheVariants.{RxJoin, RxLv as RegRxLv, RxLeaveAll as RegRxLeaveAll, TxLeaveAll as RegTxLeaveAll, LeaveTimer}
+use Rattle.registrar.specs.declared.RegEvent.TheVariants.{RxJoin, RxLv as RegRxLv, RxLeaveAll as RegRxLeaveAll, LeaveTimer}
 use Rattle.registrar.specs.Table as registrar
 use Rattle.mrp_participant.specs.declared.row.Row.{Row}
-use Rattle.mrp_participant.specs.{same, find, kept_row, with_applicant, with_heard, applicant_takes, registrar_takes, after_declare, after_withdraw, left_row, after_leave, is_leaving_in, leave_all_row, heard_row, after_hear, row_hearing, row_after_receive, registered_in, declared_in, leave_is_due, after_leave_due, periodic_row, is_tried, sent_row}
+use Rattle.mrp_participant.specs.{same, find, kept_row, with_applicant, with_heard, applicant_takes, registrar_takes, after_declare, after_withdraw, left_row, after_leave, is_leaving_in, leave_all_row, heard_row, after_hear, row_hearing, row_after_receive, registered_in, declared_in, leave_is_due, after_leave_due, periodic_row, sent_row}
 use Rattle.registrar.specs.Table.{is_in, is_leaving}
 use Rattle.registrar.proofs.RegistrarLemmas.{leave_all_sent-registered}
 use Rattle.applicant.specs.Table.{is_observer}
@@ -142,9 +142,7 @@ module _ {K C : Type 0} where
 
   sent-declared_by : (keep : KeepDeclarations) (leave_all taken : Bool) (leave : Cs) (r : Row K C)
       → declared_in (sent_row leave_all taken leave r) ≡ declared_in (Some r)
-  sent-declared_by keep true taken leave r =
-      opportunity-declared keep (if is_tried true r && not taken then TxLeaveAllFull else TxLeaveAll)
-      (full_or (is_tried true r && not taken)) (registrar_takes RegTxLeaveAll leave r)
+  sent-declared_by keep true taken leave r = grind (arith, opportunity-declared, full_or)
   sent-declared_by keep false true leave r = opportunity-declared keep Tx refl r
   sent-declared_by keep false false leave r = refl
 
@@ -155,9 +153,7 @@ module _ {K C : Type 0} where
   sent-declared keep leave_all taken leave (Some r) = sent-declared_by keep leave_all (taken r) leave r
 
   sent-registered_by : (leave_all taken : Bool) (leave : Cs) (r : Row K C) → registered_in (sent_row leave_all taken leave r) ≡ registered_in (Some r)
-  sent-registered_by true taken leave r =
-      kept-registered (applicant_takes (if is_tried true r && not taken then TxLeaveAllFull else TxLeaveAll) (registrar_takes RegTxLeaveAll leave r))
-      ∙ ap (λ b. if b then Some r.heard else None) (leave_all_sent-registered r.registrar)
+  sent-registered_by true taken leave r = grind (arith, kept-registered, leave_all_sent-registered)
   sent-registered_by false true leave r = kept-registered (applicant_takes Tx r)
   sent-registered_by false false leave r = refl
 
@@ -199,18 +195,15 @@ module _ {K C : Type 0} where
         content = c;
       }) else record r { applicant = applicant.declare_of r.applicant; content = c })) ≡ Some c
   declare-declared_by eq one declares redeclares c r true true a b = content_if r.content (applicant.is_declared_in r.applicant) a ∙ ap Some (one r.content c b)
-  declare-declared_by eq one declares redeclares c r true false a b = content_if c
-      (applicant.is_declared_in (applicant.redeclare_of r.applicant)) (redeclares r.applicant)
-  declare-declared_by eq one declares redeclares c r false b a b' = content_if c
-      (applicant.is_declared_in (applicant.declare_of r.applicant)) (declares r.applicant)
+  declare-declared_by eq one declares redeclares c r true false a b = grind (arith, content_if)
+  declare-declared_by eq one declares redeclares c r false b a b' = grind (arith, content_if)
 
   pub declare-declared : (eq : C → C → Bool) (one : (a b : C) → eq a b ≡ true → a ≡ b) (declares : (s : Applicant)
       → applicant.is_declared_in (applicant.declare_of s) ≡ true) (redeclares : (s : Applicant)
       → applicant.is_declared_in (applicant.redeclare_of s) ≡ true) (k : K) (c : C) (r : Option (Row K C))
       → declared_in (after_declare eq k c r) ≡ Some c
   declare-declared eq one declares redeclares k c None = refl
-  declare-declared eq one declares redeclares k c (Some r) = declare-declared_by eq one declares redeclares c r
-      (applicant.is_declared_in r.applicant) (eq r.content c) refl refl
+  declare-declared eq one declares redeclares k c (Some r) = grind (arith, declare-declared_by)
 
   pub withdraw-declared : (withdraws : (s : Applicant)
       → applicant.is_declared_in (applicant.withdraw_of s) ≡ false) (r : Option (Row K C))

@@ -1,11 +1,11 @@
 -- Each call keeps the duty of the participant that takes it, and its neighbour's.
-use Rattle.std.proofs.Common.{◌≡◌, ℕ, Bool, true, false, ◌||◌, if◌then◌else◌, List, [], ◌∷◌, ◌++◌, refl, sym, ap, ◌∙◌, subst, option_and_then}
+use Rattle.std.proofs.Common.{◌≡◌, ℕ, Bool, true, false, ◌||◌, if◌then◌else◌, List, [], ◌∷◌, ◌++◌, refl, sym, ap, ◌∙◌, subst, option_and_then, arith}
 use Rattle.std.specs.Prelude.{option_to_list}
 use Rattle.std.specs.{declared.option.Option.Option, declared.option.Option.TheVariants.None, declared.cmp.Ordering.Ordering, Cmp.IsTotalOrder}
 use Rattle.srp_base.specs.declared.numbers.Cs.{Cs}
 use Rattle.leaveall.specs.declared.{LeaveAll.LeaveAll, LeaveAll.TheVariants.Active, LeaveAll.TheVariants.Passive}
 use Rattle.mrp_participant.specs.declared.row.Row.{Row}
-use Rattle.mrp_participant.specs.{same, find, registered_in, declared_in, periodic_row, after_declare, after_withdraw, after_leave, after_leave_due, sent_row, sent_event, held_in, held_after, hears, has_leave_all, OwesOf, IsDutyMet, Messages, AreRows, after, is_active, takes, leave_timers_state, leave_all_state, periodic_fired_state, due_leave_all_state, due_state, is_leave_all_due, is_periodic_due, declared_state, withdrawn_state, left_state, received_state, periodic_state, sent_state, sent_messages, is_still}
+use Rattle.mrp_participant.specs.{same, find, registered_in, declared_in, after_declare, after_withdraw, after_leave, sent_row, sent_event, held_in, held_after, hears, has_leave_all, OwesOf, IsDutyMet, Messages, AreRows, after, is_active, takes, leave_all_state, periodic_fired_state, due_state, declared_state, withdrawn_state, left_state, received_state, periodic_state, sent_state, sent_messages, is_still}
 use Rattle.mrp_participant.specs.State.{State}
 use Rattle.mrp_participant.proofs.{Lookups.find-same, Lookups.same_is, EachKey.each-declare, EachKey.each-withdraw, EachKey.each-leave, EachKey.each-mapped, EachKey.each-receive, EachKey.each-kept, Sendings.sent-keeps, StateLemmas.each-due, StateLemmas.one-sent, StateLemmas.still-rows, StateLemmas.settled-at, DutyRows.owes-same, DutyRows.owes-asked, DutyRows.declare-owes, DutyRows.withdraw-owes, DutyRows.leave-owes, DutyRows.leave_due-owes, DutyRows.periodic-owes, DutyRows.periodic_if-owes, DutyRows.receive-owes, DutyRows.declare-held, DutyRows.withdraw-held, DutyRows.leave-held, DutyRows.leave_due-held, DutyRows.periodic-held, DutyRows.periodic_if-held, DutyRows.receive-held, DutyRows.held_after_all, DutyRows.events-alone, DutyRows.sent-owes, DutyRows.sent-held, DutyRows.not_leaving-held, DutyRows.quiet-held, Flying.nothing-stays, Flying.hears-append, Flying.hears-twice, Flying.hears-nothing, Flying.leave_all-stays, Flying.leave_all-added, Flying.leave_all-twice, Flying.leave_all-nothing}
 
@@ -18,22 +18,19 @@ module _ {K C : Type 0} (cmp : K → K → Ordering) where
       → ((k : K) (held : Option C) → OwesOf (find cmp k near.rows) held (has_leave_all coming)
       → OwesOf (find cmp k near'.rows) held (has_leave_all coming')) → IsDutyMet cmp near far sent coming
       → IsDutyMet cmp near' far sent coming'
-  own-kept near near' far sent coming coming' sound step met =
-      record { of_key = λ is k. step k (hears cmp k (held_in (find cmp k far.rows)) sent) (met.of_key (sound is) k) }
+  own-kept near near' far sent coming coming' sound step met = grind arith
 
   -- a call that leaves what each registrar holds leaves the neighbour's duty met
   pub far-kept : (near near' far : State K C) (sent coming : List (Messages K C))
       → ((k : K) → held_in (find cmp k near'.rows) ≡ held_in (find cmp k near.rows))
       → IsDutyMet cmp far near coming sent → IsDutyMet cmp far near' coming sent
-  far-kept near near' far sent coming step met =
-      record { of_key = λ is k. owes-same (find cmp k far.rows) _ _ _ _ (ap (λ held. hears cmp k held coming) (sym (step k))) (λ h. h) (met.of_key is k) }
+  far-kept near near' far sent coming step met = grind (arith, owes-same)
 
   -- the same rows
   pub own-same : (near near' far : State K C) (sent coming : List (Messages K C))
       → (near'.sound ≡ true → near.sound ≡ true) → near'.rows ≡ near.rows → IsDutyMet cmp near far sent coming
       → IsDutyMet cmp near' far sent coming
-  own-same near near' far sent coming sound is met =
-      own-kept near near' far sent coming coming sound (λ k held h. subst (λ rows. OwesOf (find cmp k rows) held (has_leave_all coming)) (sym is) h) met
+  own-same near near' far sent coming sound is met = grind (arith, own-kept)
 
 module _ {K C : Type 0} {cmp : K → K → Ordering} (o : IsTotalOrder cmp) where
   one-owes_by : (key k : K) (rows : List (Row K C)) (new : Option (Row K C)) (held : Option C) (asked b : Bool)
@@ -64,18 +61,14 @@ module _ {K C : Type 0} {cmp : K → K → Ordering} (o : IsTotalOrder cmp) wher
       → ((k : K) → find cmp k near'.rows ≡ (if same cmp key k then new else find cmp k near.rows))
       → held_in new ≡ held_in (find cmp key near.rows) → IsDutyMet cmp far near coming sent
       → IsDutyMet cmp far near' coming sent
-  far-one near near' far sent coming key new each step met =
-      far-kept cmp near near' far sent coming (λ k. ap held_in (each k) ∙ one-held_by key k near.rows new (same cmp key k) refl step) met
+  far-one near near' far sent coming key new each step met = grind (arith, far-kept, one-held_by)
 
   -- ---- requests and leave timers
 
   pub own-declare : (eq : C → C → Bool) (near far : State K C) (sent coming : List (Messages K C)) (key : K) (c : C)
       → AreRows cmp near.rows → IsDutyMet cmp near far sent coming
       → IsDutyMet cmp (declared_state cmp eq key c near) far sent coming
-  own-declare eq near far sent coming key c are met =
-      own-one near (declared_state cmp eq key c near) far sent coming key
-      (after_declare eq key c (find cmp key near.rows)) (λ h. h) (each-declare o eq key c near.rows are)
-      (λ held h. declare-owes held (has_leave_all coming) eq key c (find cmp key near.rows) h) met
+  own-declare eq near far sent coming key c are met = grind (arith, own-one, each-declare, declare-owes)
 
   pub far-declare : (eq : C → C → Bool) (near far : State K C) (sent coming : List (Messages K C)) (key : K) (c : C)
       → AreRows cmp near.rows → IsDutyMet cmp far near coming sent
@@ -87,9 +80,7 @@ module _ {K C : Type 0} {cmp : K → K → Ordering} (o : IsTotalOrder cmp) wher
 
   pub own-withdraw : (near far : State K C) (sent coming : List (Messages K C)) (key : K) → AreRows cmp near.rows
       → IsDutyMet cmp near far sent coming → IsDutyMet cmp (withdrawn_state cmp key near) far sent coming
-  own-withdraw near far sent coming key are met =
-      own-one near (withdrawn_state cmp key near) far sent coming key (after_withdraw (find cmp key near.rows)) (λ h. h) (each-withdraw o key near.rows are)
-      (λ held h. withdraw-owes held (has_leave_all coming) (find cmp key near.rows) h) met
+  own-withdraw near far sent coming key are met = grind (arith, own-one, each-withdraw, withdraw-owes)
 
   pub far-withdraw : (near far : State K C) (sent coming : List (Messages K C)) (key : K) → AreRows cmp near.rows
       → IsDutyMet cmp far near coming sent → IsDutyMet cmp far (withdrawn_state cmp key near) coming sent
@@ -99,9 +90,7 @@ module _ {K C : Type 0} {cmp : K → K → Ordering} (o : IsTotalOrder cmp) wher
 
   pub own-leave : (near far : State K C) (sent coming : List (Messages K C)) (key : K) → AreRows cmp near.rows
       → IsDutyMet cmp near far sent coming → IsDutyMet cmp (left_state cmp key near) far sent coming
-  own-leave near far sent coming key are met =
-      own-one near (left_state cmp key near) far sent coming key (after_leave (find cmp key near.rows)) (λ h. h) (each-leave o key near.rows are)
-      (λ held h. leave-owes held (has_leave_all coming) (find cmp key near.rows) h) met
+  own-leave near far sent coming key are met = grind (arith, own-one, each-leave, leave-owes)
 
   pub far-leave : (near far : State K C) (sent coming : List (Messages K C)) (key : K) → AreRows cmp near.rows
       → IsDutyMet cmp far near coming sent → IsDutyMet cmp far (left_state cmp key near) coming sent
@@ -113,17 +102,11 @@ module _ {K C : Type 0} {cmp : K → K → Ordering} (o : IsTotalOrder cmp) wher
 
   pub own-periodic : (near far : State K C) (sent coming : List (Messages K C)) → IsDutyMet cmp near far sent coming
       → IsDutyMet cmp (periodic_state near) far sent coming
-  own-periodic near far sent coming met =
-      own-kept cmp near (periodic_state near) far sent coming coming (λ h. h)
-      (λ k held h. subst (λ r. OwesOf r held (has_leave_all coming))
-      (sym (each-mapped o periodic_row (λ r. refl) near.rows k))
-      (periodic-owes held (has_leave_all coming) (find cmp k near.rows) h)) met
+  own-periodic near far sent coming met = grind (arith, own-kept, each-mapped, periodic-owes)
 
   pub far-periodic : (near far : State K C) (sent coming : List (Messages K C)) → IsDutyMet cmp far near coming sent
       → IsDutyMet cmp far (periodic_state near) coming sent
-  far-periodic near far sent coming met =
-      far-kept cmp near (periodic_state near) far sent coming
-      (λ k. ap held_in (each-mapped o periodic_row (λ r. refl) near.rows k) ∙ periodic-held (find cmp k near.rows)) met
+  far-periodic near far sent coming met = grind (arith, far-kept, each-mapped, periodic-held)
 
   leave_all-sound : (now : Cs) (s : State K C) (b : Bool) → (if b then leave_all_state now s else s).sound ≡ s.sound
   leave_all-sound now s true = refl
@@ -134,52 +117,27 @@ module _ {K C : Type 0} {cmp : K → K → Ordering} (o : IsTotalOrder cmp) wher
   periodic-sound now s false = refl
 
   pub due-sound : (now : Cs) (s : State K C) → (due_state now s).sound ≡ s.sound
-  due-sound now s =
-      let first : State K C = leave_timers_state now s in
-      let second : State K C = due_leave_all_state now first in
-      periodic-sound now second (is_periodic_due now second) ∙ leave_all-sound now first (is_leave_all_due now first)
+  due-sound now s = grind (arith, periodic-sound, leave_all-sound)
 
   pub own-due : (near far : State K C) (sent coming : List (Messages K C)) (now : Cs) → AreRows cmp near.rows
       → IsDutyMet cmp near far sent coming → IsDutyMet cmp (due_state now near) far sent coming
-  own-due near far sent coming now are met =
-      own-kept cmp near (due_state now near) far sent coming coming (λ h. sym (due-sound now near) ∙ h)
-      (λ k held h.
-      subst (λ r. OwesOf r held (has_leave_all coming)) (sym (each-due o now near are.0 k))
-      (periodic_if-owes held (has_leave_all coming) (is_periodic_due now near)
-      (option_and_then (after_leave_due now.0) (find cmp k near.rows))
-      (leave_due-owes held (has_leave_all coming) now.0 (find cmp k near.rows) h))) met
+  own-due near far sent coming now are met = grind (arith, own-kept, due-sound, each-due, periodic_if-owes, option_and_then, leave_due-owes)
 
   pub far-due : (near far : State K C) (sent coming : List (Messages K C)) (now : Cs) → AreRows cmp near.rows
       → IsDutyMet cmp far near coming sent → IsDutyMet cmp far (due_state now near) coming sent
-  far-due near far sent coming now are met =
-      far-kept cmp near (due_state now near) far sent coming
-      (λ k. ap held_in (each-due o now near are.0 k)
-      ∙ (periodic_if-held (is_periodic_due now near) (option_and_then (after_leave_due now.0) (find cmp k near.rows))
-      ∙ leave_due-held now.0 (find cmp k near.rows))) met
+  far-due near far sent coming now are met = grind (arith, far-kept, each-due, periodic_if-held, option_and_then, leave_due-held)
 
   -- ---- receiving
 
   pub own-receive : (near far : State K C) (sent coming : List (Messages K C)) (now : Cs) (m : Messages K C)
       → AreRows cmp near.rows → IsDutyMet cmp near far sent (m ∷ coming)
       → IsDutyMet cmp (received_state cmp now m.leave_all m.events near) far sent coming
-  own-receive near far sent coming now m are met =
-      own-kept cmp near (received_state cmp now m.leave_all m.events near) far sent (m ∷ coming) coming (λ h. h)
-      (λ k held h.
-      subst (λ r. OwesOf r held (has_leave_all coming)) (sym (each-receive o (after now near.leave_time) m.leave_all m.events near.rows are k))
-      (receive-owes held (has_leave_all coming) cmp (after now near.leave_time) m.leave_all m.events k (find cmp k near.rows) h)) met
+  own-receive near far sent coming now m are met = grind (arith, own-kept, each-receive, receive-owes)
 
   pub far-receive : (near far : State K C) (sent coming : List (Messages K C)) (now : Cs) (m : Messages K C)
       → AreRows cmp near.rows → IsDutyMet cmp far near (m ∷ coming) sent
       → IsDutyMet cmp far (received_state cmp now m.leave_all m.events near) coming sent
-  far-receive near far sent coming now m are met =
-      record {
-        of_key = λ is k.
-            owes-same (find cmp k far.rows) _ _ _ _
-            (ap (λ held. hears cmp k held coming)
-            (sym (ap held_in (each-receive o (after now near.leave_time) m.leave_all m.events near.rows are k)
-            ∙ receive-held cmp (after now near.leave_time) m.leave_all m.events k (find cmp k near.rows))))
-            (λ h. h) (met.of_key is k);
-      }
+  far-receive near far sent coming now m are met = grind (arith, owes-same, each-receive, receive-held)
 
   -- ---- sending
 
@@ -234,15 +192,13 @@ module _ {K C : Type 0} {cmp : K → K → Ordering} (o : IsTotalOrder cmp) wher
     pub own-send : (near far : State K C) (sent coming : List (Messages K C)) → AreRows cmp near.rows
         → IsDutyMet cmp near far sent coming → IsDutyMet cmp (sent_state base octets cmp now near) far
         (sent ++ (sent_messages base octets cmp now near ∷ [])) coming
-    own-send near far sent coming are met =
-        own-send_from near far sent coming are (λ k is off. met.of_key (sound_before near.leave_all near.sound is off) k)
+    own-send near far sent coming are met = grind (arith, own-send_from, sound_before)
 
     -- a LeaveAll needs no duty before
     pub own-send_leave_all : (near far : State K C) (sent coming : List (Messages K C)) → AreRows cmp near.rows
         → is_active near.leave_all ≡ true → IsDutyMet cmp (sent_state base octets cmp now near) far
         (sent ++ (sent_messages base octets cmp now near ∷ [])) coming
-    own-send_leave_all near far sent coming are on =
-        own-send_from near far sent coming are (λ k is off. let never : true ≡ false = sym on ∙ off in cc)
+    own-send_leave_all near far sent coming are on = grind (arith, own-send_from)
 
     far-send_by : (near far : State K C) (sent coming : List (Messages K C)) (k : K) (b : Bool)
         → is_active near.leave_all ≡ b → held_in (find cmp k (sent_state base octets cmp now near).rows)
@@ -276,56 +232,31 @@ module _ {K C : Type 0} (cmp : K → K → Ordering) where
   pub twice-sent : (near far : State K C) (front back coming : List (Messages K C)) (m : Messages K C)
       → IsDutyMet cmp near far (front ++ (m ∷ back)) coming
       → IsDutyMet cmp near far (front ++ (m ∷ (m ∷ back))) coming
-  twice-sent near far front back coming m met =
-      record {
-        of_key = λ is k. subst (λ x. OwesOf (find cmp k near.rows) x (has_leave_all coming))
-            (hears-twice cmp k (held_in (find cmp k far.rows)) front back m) (met.of_key is k);
-      }
+  twice-sent near far front back coming m met = grind (arith, hears-twice)
 
   pub twice-coming : (near far : State K C) (sent front back : List (Messages K C)) (m : Messages K C)
       → IsDutyMet cmp near far sent (front ++ (m ∷ back)) → IsDutyMet cmp near far sent (front ++ (m ∷ (m ∷ back)))
-  twice-coming near far sent front back m met =
-      record {
-        of_key = λ is k. subst (λ b. OwesOf (find cmp k near.rows)
-            (hears cmp k (held_in (find cmp k far.rows)) sent) b) (leave_all-twice front back m) (met.of_key is k);
-      }
+  twice-coming near far sent front back m met = grind (arith, leave_all-twice)
 
   pub nothing-sent : (near far : State K C) (front back coming : List (Messages K C))
       → IsDutyMet cmp near far (front ++ (record { leave_all = false; events = [] } ∷ back)) coming
       → IsDutyMet cmp near far (front ++ back) coming
-  nothing-sent near far front back coming met =
-      record {
-        of_key = λ is k. subst (λ x. OwesOf (find cmp k near.rows) x (has_leave_all coming))
-            (hears-nothing cmp k (held_in (find cmp k far.rows)) front back) (met.of_key is k);
-      }
+  nothing-sent near far front back coming met = grind (arith, hears-nothing)
 
   pub sent-nothing : (near far : State K C) (front back coming : List (Messages K C))
       → IsDutyMet cmp near far (front ++ back) coming
       → IsDutyMet cmp near far (front ++ (record { leave_all = false; events = [] } ∷ back)) coming
-  sent-nothing near far front back coming met =
-      record {
-        of_key = λ is k. subst (λ x. OwesOf (find cmp k near.rows) x (has_leave_all coming))
-            (sym (hears-nothing cmp k (held_in (find cmp k far.rows)) front back)) (met.of_key is k);
-      }
+  sent-nothing near far front back coming met = grind (arith, hears-nothing)
 
   pub nothing-coming : (near far : State K C) (sent front back : List (Messages K C))
       → IsDutyMet cmp near far sent (front ++ (record { leave_all = false; events = [] } ∷ back))
       → IsDutyMet cmp near far sent (front ++ back)
-  nothing-coming near far sent front back met =
-      record {
-        of_key = λ is k. subst (λ b. OwesOf (find cmp k near.rows)
-            (hears cmp k (held_in (find cmp k far.rows)) sent) b) (leave_all-nothing front back) (met.of_key is k);
-      }
+  nothing-coming near far sent front back met = grind (arith, leave_all-nothing)
 
   pub coming-nothing : (near far : State K C) (sent front back : List (Messages K C))
       → IsDutyMet cmp near far sent (front ++ back)
       → IsDutyMet cmp near far sent (front ++ (record { leave_all = false; events = [] } ∷ back))
-  coming-nothing near far sent front back met =
-      record {
-        of_key = λ is k. subst (λ b. OwesOf (find cmp k near.rows)
-            (hears cmp k (held_in (find cmp k far.rows)) sent) b) (sym (leave_all-nothing front back))
-            (met.of_key is k);
-      }
+  coming-nothing near far sent front back met = grind (arith, leave_all-nothing)
 
   pub unsound-met : (near far : State K C) (sent coming : List (Messages K C)) → near.sound ≡ false → IsDutyMet cmp near far sent coming
   unsound-met near far sent coming off = record { of_key = λ is k. let never : true ≡ false = sym is ∙ off in cc }

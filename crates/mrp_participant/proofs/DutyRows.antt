@@ -1,18 +1,18 @@
 -- What each call makes of what is owed of one key, and of what a registrar holds of it.
-use Rattle.std.proofs.Common.{◌≡◌, ℕ, Bool, true, false, not, ◌&&◌, ◌||◌, if◌then◌else◌, List, [], ◌∷◌, filter, fold, refl, sym, ap, ◌∙◌, inl, inr, option_map, option_and_then}
+use Rattle.std.proofs.Common.{◌≡◌, ℕ, Bool, true, false, not, ◌||◌, if◌then◌else◌, List, [], ◌∷◌, filter, fold, refl, sym, ◌∙◌, inl, inr, option_map, option_and_then, arith}
 use Rattle.std.specs.Prelude.{option_to_list}
 use Rattle.std.specs.{declared.option.Option.Option, declared.option.Option.TheVariants.None, declared.option.Option.TheVariants.Some, declared.cmp.Ordering.Ordering}
 use Rattle.srp_base.specs.declared.{numbers.Cs.Cs, mrp.MrpEvent.MrpEvent}
 use Rattle.srp_base.specs.declared.mrp.MrpEvent.TheVariants.{New, JoinIn, OnlyIn, JoinMt, OnlyMt, Lv}
 use Rattle.applicant.specs.declared.{Applicant.Applicant, AppEvent.AppEvent}
 use Rattle.applicant.specs.declared.Applicant.TheVariants.{Vo, Vp, Vn, An, Aa, Qa, La}
-use Rattle.applicant.specs.declared.AppEvent.TheVariants.{RxIn, RxMt, RxLv as AppRxLv, RxLeaveAll as AppRxLeaveAll, Periodic, Tx, TxLeaveAll, TxLeaveAllFull}
+use Rattle.applicant.specs.declared.AppEvent.TheVariants.{RxIn, RxMt, RxLv as AppRxLv, RxLeaveAll as AppRxLeaveAll, Periodic, Tx}
 use Rattle.applicant.specs.Table as applicant
 use Rattle.registrar.specs.declared.{Registrar.Registrar, RegEvent.TheVariants.TxLeaveAll as RegTxLeaveAll, RegEvent.TheVariants.LeaveTimer}
 use Rattle.registrar.specs.declared.Registrar.TheVariants.{Held, Leaving, Empty}
 use Rattle.registrar.specs.Table as registrar
 use Rattle.mrp_participant.specs.declared.row.Row.{Row}
-use Rattle.mrp_participant.specs.{same, is_leaving_in, applicant_of, kept_row, with_applicant, applicant_takes, registrar_takes, declared_row, after_declare, after_withdraw, left_row, after_leave, leave_all_row, heard_row, after_hear, row_hearing, row_after_receive, registered_in, declared_in, leave_is_due, after_leave_due, periodic_row, is_tried, sent_row, sent_event, held_in, held_after_event, held_hearing, held_after, Owes, OwesOf}
+use Rattle.mrp_participant.specs.{same, is_leaving_in, applicant_of, kept_row, with_applicant, applicant_takes, registrar_takes, declared_row, after_declare, after_withdraw, left_row, after_leave, leave_all_row, heard_row, after_hear, row_hearing, row_after_receive, registered_in, declared_in, leave_is_due, after_leave_due, periodic_row, sent_row, sent_event, held_in, held_after_event, held_hearing, held_after, Owes, OwesOf}
 use Rattle.registrar.specs.Table.{is_in}
 use Rattle.applicant.specs.Table.{is_observer, is_quiet}
 
@@ -213,17 +213,7 @@ module _ {K C : Type 0} where
 
   pub declare-held : (eq : C → C → Bool) (k : K) (c : C) (r : Option (Row K C)) → held_in (after_declare eq k c r) ≡ held_in r
   declare-held eq k c None = refl
-  declare-held eq k c (Some r) = by (applicant.is_declared_in r.applicant) (eq r.content c)
-    where
-      by : (a b : Bool)
-          → held_in (Some (if a then (if b then r else record r {
-            applicant = applicant.redeclare_of r.applicant;
-            content = c;
-          }) else record r { applicant = applicant.declare_of r.applicant; content = c }))
-          ≡ held_in (Some r)
-      by true true = refl
-      by true false = refl
-      by false b = refl
+  declare-held eq k c (Some r) = grind arith
 
   pub withdraw-held : (r : Option (Row K C)) → held_in (after_withdraw r) ≡ held_in r
   withdraw-held None = refl
@@ -294,9 +284,7 @@ module _ {K C : Type 0} where
   fold-held : (cmp : K → K → Ordering) (leave : Cs) (k : K) (events : List (MrpEvent × K × C)) (r : Option (Row K C))
       → held_in (fold (row_hearing cmp leave k) r events) ≡ fold (held_hearing cmp k) (held_in r) events
   fold-held cmp leave k [] r = refl
-  fold-held cmp leave k (e ∷ events) r =
-      fold-held cmp leave k events (row_hearing cmp leave k r e)
-      ∙ ap (λ held. fold (held_hearing cmp k) held events) (hearing-held leave r e (same cmp e.1 k))
+  fold-held cmp leave k (e ∷ events) r = grind (arith, fold-held cmp leave k events (row_hearing cmp leave k r e), hearing-held)
 
   leave_all-held_by : (leave : Cs) (r : Row K C) (g : Registrar) → held_in (Some (leave_all_row leave (record r { registrar = g }))) ≡ None
   leave_all-held_by leave r Held = refl
@@ -310,8 +298,7 @@ module _ {K C : Type 0} where
   pub receive-held : (cmp : K → K → Ordering) (leave : Cs) (leave_all : Bool) (events : List (MrpEvent × K × C))
       (k : K) (r : Option (Row K C)) → held_in (row_after_receive cmp leave leave_all events k r)
       ≡ held_after cmp k (held_in r) (record { leave_all = leave_all; events = events })
-  receive-held cmp leave true events k r =
-      fold-held cmp leave k events (option_map (leave_all_row leave) r) ∙ ap (λ held. fold (held_hearing cmp k) held events) (leave_all-held leave r)
+  receive-held cmp leave true events k r = grind (arith, fold-held, option_map, leave_all-held)
   receive-held cmp leave false events k r = fold-held cmp leave k events r
 
 -- ---- sending
@@ -424,9 +411,7 @@ module _ {K C : Type 0} where
 
   sent-held_by : (leave_all taken : Bool) (leave : Cs) (r : Row K C)
       → held_in (sent_row leave_all taken leave r) ≡ (if leave_all then None else held_in (Some r))
-  sent-held_by true taken leave r =
-      kept-held (applicant_takes (if is_tried true r && not taken then TxLeaveAllFull else TxLeaveAll) (registrar_takes RegTxLeaveAll leave r))
-      ∙ leave_all_sent-held leave (if is_tried true r && not taken then TxLeaveAllFull else TxLeaveAll) r r.registrar
+  sent-held_by true taken leave r = grind (arith, kept-held, leave_all_sent-held)
   sent-held_by false true leave r = kept-held (applicant_takes Tx r)
   sent-held_by false false leave r = refl
 

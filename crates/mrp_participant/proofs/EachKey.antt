@@ -1,5 +1,5 @@
 -- What each key has after each call.
-use Rattle.std.proofs.Common.{◌≡◌, Bool, true, false, if◌then◌else◌, List, [], ◌∷◌, map, fold, refl, sym, ap, ◌∙◌, option_map, option_and_then}
+use Rattle.std.proofs.Common.{◌≡◌, Bool, true, false, if◌then◌else◌, List, [], ◌∷◌, map, fold, refl, sym, ap, ◌∙◌, option_map, option_and_then, arith}
 use Rattle.std.specs.{declared.option.Option.Option, declared.option.Option.TheVariants.None, declared.option.Option.TheVariants.Some, declared.cmp.Ordering.Ordering, Cmp.IsTotalOrder, List.filter_map, List.cons_option}
 use Rattle.srp_base.specs.declared.{numbers.Cs.Cs, mrp.MrpEvent.MrpEvent}
 use Rattle.mrp_participant.specs.declared.row.Row.{Row}
@@ -38,8 +38,7 @@ module _ {K C : Type 0} {cmp : K → K → Ordering} (o : IsTotalOrder cmp) wher
   pub each-mapped : (f : Row K C → Row K C) → ((r : Row K C) → (f r).key ≡ r.key) → (rows : List (Row K C)) (q : K)
       → find cmp q (map f rows) ≡ option_map f (find cmp q rows)
   each-mapped f keeps [] q = refl
-  each-mapped f keeps (r ∷ rows) q =
-      ap (λ k. if same cmp k q then Some (f r) else find cmp q (map f rows)) (keeps r) ∙ mapped_by f r rows q (same cmp r.key q) (each-mapped f keeps rows q)
+  each-mapped f keeps (r ∷ rows) q = grind (arith, each-mapped f keeps rows q, mapped_by)
 
   kept_by : (f : Row K C → Option (Row K C)) (r : Row K C) (rows : List (Row K C)) (q : K) (new : Option (Row K C))
       (b : Bool) → f r ≡ new → same cmp r.key q ≡ b → ((s : Row K C) → new ≡ Some s → s.key ≡ r.key)
@@ -47,12 +46,8 @@ module _ {K C : Type 0} {cmp : K → K → Ordering} (o : IsTotalOrder cmp) wher
       → find cmp q (cons_option new (filter_map f rows)) ≡ option_and_then f (if b then Some r else find cmp q rows)
   kept_by f r rows q None true is at keeps none rest = rest ∙ ap (option_and_then f) (none refl) ∙ sym is
   kept_by f r rows q None false is at keeps none rest = rest
-  kept_by f r rows q (Some s) true is at keeps none rest =
-      ap (λ k. if same cmp k q then Some s else find cmp q (filter_map f rows)) (keeps s refl)
-      ∙ ap (λ b. if b then Some s else find cmp q (filter_map f rows)) at ∙ sym is
-  kept_by f r rows q (Some s) false is at keeps none rest =
-      ap (λ k. if same cmp k q then Some s else find cmp q (filter_map f rows)) (keeps s refl)
-      ∙ ap (λ b. if b then Some s else find cmp q (filter_map f rows)) at ∙ rest
+  kept_by f r rows q (Some s) true is at keeps none rest = grind arith
+  kept_by f r rows q (Some s) false is at keeps none rest = grind arith
 
   pub each-kept : (f : Row K C → Option (Row K C)) → Keeps f → (rows : List (Row K C)) → Ascends cmp key_of rows
       → (q : K) → find cmp q (filter_map f rows) ≡ option_and_then f (find cmp q rows)
@@ -85,6 +80,4 @@ module _ {K C : Type 0} {cmp : K → K → Ordering} (o : IsTotalOrder cmp) wher
   pub each-receive : (leave : Cs) (leave_all : Bool) (events : List (MrpEvent × K × C)) (rows : List (Row K C))
       → AreRows cmp rows → (q : K) → find cmp q (rows_after_receive cmp leave leave_all events rows)
       ≡ row_after_receive cmp leave leave_all events q (find cmp q rows)
-  each-receive leave leave_all events rows are q =
-      each-fold leave events (if leave_all then map (leave_all_row leave) rows else rows) (AreRows-leave_all cmp leave rows leave_all are) q
-      ∙ ap (λ x. fold (row_hearing cmp leave q) x events) (start_by leave leave_all rows q)
+  each-receive leave leave_all events rows are q = grind (arith, each-fold, AreRows-leave_all, start_by)

@@ -1,5 +1,5 @@
 -- Each key hears its own events alone, so events in the order of their keys make the same of the rows.
-use Rattle.std.proofs.Common.{◌≡◌, Bool, true, false, not, ◌&&◌, if◌then◌else◌, cond, List, [], ◌∷◌, length, filter, fold, refl, sym, ap, ◌∙◌, option_map}
+use Rattle.std.proofs.Common.{◌≡◌, Bool, true, false, not, ◌&&◌, if◌then◌else◌, List, [], ◌∷◌, length, filter, fold, refl, sym, ap, ◌∙◌, option_map, arith}
 use Rattle.std.specs.{declared.option.Option.Option, declared.cmp.Ordering.Ordering, declared.cmp.Ordering.TheVariants.Less, declared.cmp.Ordering.TheVariants.Equal, declared.cmp.Ordering.TheVariants.Greater, Ordering.is_eq, Ordering.is_lt, Ordering.ordering_reverse, Cmp.IsTotalOrder, List.Sorted.ties, List.Sorted.IsPermutation, List.Sorted.IsStableByKey}
 use Rattle.std.proofs.lemmas.List.Sorted.{length_permutation}
 use Rattle.srp_base.proofs.Lists.{no_more}
@@ -9,8 +9,7 @@ use Rattle.mrp_participant.specs.{same, leave_all_row, after_hear, row_hearing, 
 
 filter-along : {X : Type 0} (p q : X → Bool) → ((x : X) → p x ≡ q x) → (xs : List X) → filter p xs ≡ filter q xs
 filter-along p q each [] = refl
-filter-along {X} p q each (x ∷ xs) =
-    ap (λ (b : Bool). cond b (x ∷ filter p xs) (filter p xs)) (each x) ∙ ap (λ (t : List X). cond (q x) (x ∷ t) t) (filter-along p q each xs)
+filter-along {X} p q each (x ∷ xs) = grind (arith, filter-along p q each xs)
 
 tied_by : (c d : Ordering) → d ≡ ordering_reverse c → (not (is_lt d) && not (is_lt c)) ≡ is_eq c
 tied_by Less d e = rw e refl
@@ -26,9 +25,7 @@ module _ {K C : Type 0} {cmp : K → K → Ordering} (o : IsTotalOrder cmp) wher
       → ((x : Option (Row K C)) → fold (row_hearing cmp leave q) x events ≡ fold (row_hearing cmp leave q) x (filter (own q) events))
       → fold (row_hearing cmp leave q) (if b then after_hear e.0 e.1 e.2 leave r else r) events
       ≡ fold (row_hearing cmp leave q) r (if b then e ∷ filter (own q) events else filter (own q) events)
-  own_by leave q r e events true at later =
-      later (after_hear e.0 e.1 e.2 leave r)
-      ∙ ap (λ (b : Bool). fold (row_hearing cmp leave q) (if b then after_hear e.0 e.1 e.2 leave r else r) (filter (own q) events)) (sym at)
+  own_by leave q r e events true at later = grind arith
   own_by leave q r e events false at later = later r
 
   hears_own : (leave : Cs) (q : K) (events : List (MrpEvent × K × C)) (r : Option (Row K C))

@@ -1,5 +1,5 @@
 -- What receiving and the timers tell is no more than what happens: each key that is told had an event, and no two are one.
-use Rattle.std.proofs.Common.{◌≡◌, ◌≤◌, suc, Bool, true, false, ◌||◌, if◌then◌else◌, List, [], ◌∷◌, map, filter, fold, length, refl, sym, ap, ◌∙◌, arith, option_map}
+use Rattle.std.proofs.Common.{◌≡◌, ◌≤◌, suc, Bool, true, false, if◌then◌else◌, List, [], ◌∷◌, map, filter, fold, length, refl, ap, ◌∙◌, arith, option_map}
 use Rattle.std.specs.Prelude.{Contains}
 use Rattle.std.specs.{declared.option.Option.Option, declared.option.Option.TheVariants.None, declared.option.Option.TheVariants.Some, declared.cmp.Ordering.Ordering, declared.cmp.Ordering.TheVariants.Less, declared.cmp.Ordering.TheVariants.Equal, Ordering.is_eq, Cmp.IsTotalOrder, Cmp.IsEquivalence, List.AllByRecursion, List.list_any}
 use Rattle.srp_base.proofs.Lists.{each-contained}
@@ -7,18 +7,14 @@ use Rattle.registrar.specs.declared.Registrar.{Registrar}
 use Rattle.registrar.specs.declared.Registrar.TheVariants.{Held, Leaving, Empty}
 use Rattle.srp_base.specs.declared.{numbers.Cs.Cs, mrp.MrpEvent.MrpEvent}
 use Rattle.mrp_participant.specs.declared.row.Row.{Row}
-use Rattle.mrp_participant.specs.{Ascends, key_of, same, find, after_hear, leave_all_row, registered_in, row_hearing, AreRows, changed_keys, rows_after_receive}
+use Rattle.mrp_participant.specs.{Ascends, key_of, same, find, leave_all_row, registered_in, row_hearing, AreRows, changed_keys, rows_after_receive}
 use Rattle.mrp_participant.proofs.{Changes.told-are_changes, Changes.told-ascend, EachKey.each-receive, Lookups.same_is, Transitions.AreRows-receive}
 
 -- ---- lists
 
 pub filter-fewer : {X Y : Type 0} (p : X → Bool) (f : X → Y) (xs : List X) → length (map f (filter p xs)) ≤ length xs
 filter-fewer p f [] = omega arith
-filter-fewer p f (x ∷ xs) = by (p x) (filter-fewer p f xs)
-  where
-    by : (b : Bool) → length (map f (filter p xs)) ≤ length xs → length (map f (if b then x ∷ filter p xs else filter p xs)) ≤ suc (length xs)
-    by true h = omega (arith, h)
-    by false h = omega (arith, h)
+filter-fewer p f (x ∷ xs) = grind (arith, filter-fewer p f xs)
 
 -- a list without the first element that passes a test
 abbrev without_first : {X : Type 0} → (X → Bool) → List X → List X
@@ -27,24 +23,12 @@ without_first p (x ∷ xs) = if p x then xs else x ∷ without_first p xs
 
 one_fewer : {X : Type 0} (p : X → Bool) (xs : List X) → list_any p xs ≡ true → length xs ≡ suc (length (without_first p xs))
 one_fewer p [] h = cc
-one_fewer p (x ∷ xs) h = by (p x) h (one_fewer p xs)
-  where
-    by : (b : Bool) → (b || list_any p xs) ≡ true → (list_any p xs ≡ true → length xs ≡ suc (length (without_first p xs)))
-        → suc (length xs) ≡ suc (length (if b then xs else x ∷ without_first p xs))
-    by true h rest = refl
-    by false h rest = ap suc (rest h)
+one_fewer p (x ∷ xs) h = grind (arith, one_fewer p xs)
 
 -- another test still finds what it found
 still_any : {X : Type 0} (p q : X → Bool) → ((x : X) → p x ≡ true → q x ≡ false) → (xs : List X) → list_any q xs ≡ true → list_any q (without_first p xs) ≡ true
 still_any p q apart [] h = cc
-still_any p q apart (x ∷ xs) h = by (p x) refl (q x) refl (still_any p q apart xs)
-  where
-    by : (a : Bool) → p x ≡ a → (b : Bool) → q x ≡ b → (list_any q xs ≡ true → list_any q (without_first p xs) ≡ true)
-        → list_any q (if a then xs else x ∷ without_first p xs) ≡ true
-    by true is true was rest = let no : true ≡ false = sym was ∙ apart x is in cc
-    by true is false was rest = ap (λ b. b || list_any q xs) (sym was) ∙ h
-    by false is true was rest = ap (λ b. b || list_any q (without_first p xs)) was
-    by false is false was rest = ap (λ b. b || list_any q (without_first p xs)) was ∙ rest (ap (λ b. b || list_any q xs) (sym was) ∙ h)
+still_any p q apart (x ∷ xs) h = grind (arith, still_any p q apart xs)
 
 module _ {K C : Type 0} {cmp : K → K → Ordering} (o : IsTotalOrder cmp) (one_key : (a b : K) → cmp a b ≡ Equal → a ≡ b) where
   -- whether there is an event of a key
@@ -73,13 +57,7 @@ module _ {K C : Type 0} {cmp : K → K → Ordering} (o : IsTotalOrder cmp) (one
   -- without an event of its own a key's row hears nothing
   unheard : (leave : Cs) (k : K) (events : List (MrpEvent × K × C)) (r : Option (Row K C)) → is_heard events k ≡ false → fold (row_hearing cmp leave k) r events ≡ r
   unheard leave k [] r h = refl
-  unheard leave k (e ∷ events) r h = by (same cmp e.1 k) refl h (unheard leave k events)
-    where
-      by : (b : Bool) → same cmp e.1 k ≡ b → (b || is_heard events k) ≡ false
-          → ((r : Option (Row K C)) → is_heard events k ≡ false → fold (row_hearing cmp leave k) r events ≡ r)
-          → fold (row_hearing cmp leave k) (row_hearing cmp leave k r e) events ≡ r
-      by true is h rest = cc
-      by false is h rest = rest (row_hearing cmp leave k r e) h ∙ ap (λ b. if b then after_hear e.0 e.1 e.2 leave r else r) is
+  unheard leave k (e ∷ events) r h = grind (arith, unheard leave k events)
 
   -- LeaveAll changes no registration
   leave_all_registered : (leave : Cs) (r : Row K C) (was : Registrar) → r.registrar ≡ was → registered_in (Some (leave_all_row leave r)) ≡ registered_in (Some r)

@@ -52,17 +52,13 @@ module _ {K C : Type 0} {cmp : K → K → Ordering} (o : IsTotalOrder cmp) wher
       → find cmp k xs ≡ find cmp k ys
   tails_by x y xs ys k true one at up up' h =
       none_above o x.key k xs up.0 at ∙ sym (none_above o y.key k ys up'.0 (ap (λ (r : Row K C). same cmp r.key k) (sym one) ∙ at))
-  tails_by x y xs ys k false one at up up' h =
-      h ∙ ap (λ b. if b then Some y else find cmp k ys) (ap (λ (r : Row K C). same cmp r.key k) (sym one) ∙ at)
+  tails_by x y xs ys k false one at up up' h = grind arith
 
   heads_by : (x y : Row K C) (xs ys : List (Row K C)) (c : Ordering) → cmp x.key y.key ≡ c
       → Ascends cmp key_of (x ∷ xs) → Ascends cmp key_of (y ∷ ys)
       → ((k : K) → find cmp k (x ∷ xs) ≡ find cmp k (y ∷ ys)) → x ≡ y
   heads_by x y xs ys Less e up up' h = absurd (never-found x y xs ys up' e (h x.key))
-  heads_by x y xs ys Equal e up up' h =
-      let found : find cmp x.key (y ∷ ys) ≡ Some y = find-same o x.key y.key (y ∷ ys) e ∙ find-first y ys in
-      let both : Some x ≡ Some y = sym (find-first x xs) ∙ (h x.key ∙ found) in
-      cc
+  heads_by x y xs ys Equal e up up' h = grind (arith, find-same, find-first)
   heads_by x y xs ys Greater e up up' h = absurd (never-found y x ys xs up (o.antisymm y.key x.key ∙ ap ordering_reverse e) (sym (h y.key)))
 
   -- two ascending lists in which each key has the same are one
@@ -94,11 +90,8 @@ module _ {K C : Type 0} {cmp : K → K → Ordering} (o : IsTotalOrder cmp) wher
       → find cmp k rest ≡ first_of (find cmp k (x ∷ xs)) (find cmp k ys)
       → find cmp k (match_ordering c (x ∷ rows_as_one cmp xs (y ∷ ys)) (x ∷ rows_as_one cmp xs ys) (y ∷ rest))
       ≡ first_of (find cmp k (x ∷ xs)) (find cmp k (y ∷ ys))
-  find-step k x y xs ys rest Less e up up' a b d =
-      ap (λ t. if same cmp x.key k then Some x else t) a ∙ first-if (same cmp x.key k) x (find cmp k xs) (find cmp k (y ∷ ys))
-  find-step k x y xs ys rest Equal e up up' a b d =
-      ap (λ t. if same cmp x.key k then Some x else t) b
-      ∙ both_by (same cmp x.key k) (same cmp y.key k) x y (find cmp k xs) (find cmp k ys) (same_left o x.key y.key k e)
+  find-step k x y xs ys rest Less e up up' a b d = grind (arith, first-if)
+  find-step k x y xs ys rest Equal e up up' a b d = grind (arith, both_by, same_left)
   find-step k x y xs ys rest Greater e up up' a b d =
       ap (λ t. if same cmp y.key k then Some y else t) d
       ∙ later_by (same cmp y.key k) y (find cmp k (x ∷ xs)) (find cmp k ys)
@@ -109,9 +102,7 @@ module _ {K C : Type 0} {cmp : K → K → Ordering} (o : IsTotalOrder cmp) wher
       → find cmp k (rows_as_one cmp xs ys) ≡ first_of (find cmp k xs) (find cmp k ys))
       → find cmp k (rows_as_one cmp (x ∷ xs) ys) ≡ first_of (find cmp k (x ∷ xs)) (find cmp k ys)
   find-merged_into k x xs [] up up' rest = sym (first-none (find cmp k (x ∷ xs)))
-  find-merged_into k x xs (y ∷ ys) up up' rest =
-      find-step k x y xs ys (rows_as_one cmp (x ∷ xs) ys) (cmp x.key y.key) refl up up' (rest (y ∷ ys) up')
-      (rest ys up'.1) (find-merged_into k x xs ys up up'.1 rest)
+  find-merged_into k x xs (y ∷ ys) up up' rest = grind (arith, find-merged_into k x xs ys up up'.1 rest, find-step)
 
   -- in two lists as one each key has what the first list has, or else the second
   pub find-merged : (k : K) (xs ys : List (Row K C)) → Ascends cmp key_of xs → Ascends cmp key_of ys
@@ -130,9 +121,7 @@ module _ {K C : Type 0} {cmp : K → K → Ordering} (o : IsTotalOrder cmp) wher
       → AllByRecursion P ys → ((ys : List (Row K C)) → AllByRecursion P ys → AllByRecursion P (rows_as_one cmp xs ys))
       → AllByRecursion P (rows_as_one cmp (x ∷ xs) ys)
   each-merged_into P x xs [] h h' rest = h
-  each-merged_into P x xs (y ∷ ys) h h' rest =
-      each-step P x y (rows_as_one cmp xs (y ∷ ys)) (rows_as_one cmp xs ys) (rows_as_one cmp (x ∷ xs) ys)
-      (cmp x.key y.key) h.0 h'.0 (rest (y ∷ ys) h') (rest ys h'.1) (each-merged_into P x xs ys h h'.1 rest)
+  each-merged_into P x xs (y ∷ ys) h h' rest = grind (arith, each-merged_into P x xs ys h h'.1 rest, each-step)
 
   pub each-merged : (P : Row K C → Type 0) (xs ys : List (Row K C)) → AllByRecursion P xs → AllByRecursion P ys → AllByRecursion P (rows_as_one cmp xs ys)
   each-merged P [] ys h h' = h'
@@ -198,9 +187,7 @@ module _ {K C : Type 0} {cmp : K → K → Ordering} (o : IsTotalOrder cmp) wher
 
   -- those that are known stay so when a row is put
   pub known-put : (u : Row K C) (us rows : List (Row K C)) → Ascends cmp key_of rows → AreKnown us rows → AreKnown us (put cmp u.key (Some u) rows)
-  known-put u us rows up known =
-      Each-map _ _ (λ v h. subst IsSome (sym (find-put o u.key v.key (Some u) rows (is_of_itself u) up))
-      (known_by (same cmp u.key v.key) u (find cmp v.key rows) h)) us known
+  known-put u us rows up known = grind (arith, Each-map, find-put, is_of_itself, known_by)
 
   pub known-merged : (us rows : List (Row K C)) → Ascends cmp key_of us → Ascends cmp key_of rows → AreKnown us (rows_as_one cmp us rows)
   known-merged us rows up up' =
@@ -259,9 +246,7 @@ module _ {K C : Type 0} {cmp : K → K → Ordering} (o : IsTotalOrder cmp) (lea
   first-fits k (Some r) f a b = a
 
   so_far-same : (heard : List (Row K C)) (a b : K) → cmp a b ≡ Equal → row_so_far cmp leave_all leave rows heard a ≡ row_so_far cmp leave_all leave rows heard b
-  so_far-same heard a b e =
-      ap (λ x. first_of x (option_map (begun_row leave_all leave) (find cmp a rows))) (find-same o a b heard e)
-      ∙ ap (λ x. first_of (find cmp b heard) (option_map (begun_row leave_all leave) x)) (find-same o a b rows e)
+  so_far-same heard a b e = grind (arith, option_map, find-same)
 
   so_far-fits : (heard : List (Row K C)) (k : K) → AreRows cmp heard → Fits o k (row_so_far cmp leave_all leave rows heard k)
   so_far-fits heard k beside =
@@ -280,10 +265,7 @@ module _ {K C : Type 0} {cmp : K → K → Ordering} (o : IsTotalOrder cmp) (lea
       (option_map (begun_row leave_all leave) (find cmp k rows))
       ≡ (if b then after_hear event key c leave
       (row_so_far cmp leave_all leave rows heard k) else row_so_far cmp leave_all leave rows heard k)
-  step_by heard event key k c true e =
-      ap (λ x. first_of (after_hear event key c leave x) (option_map (begun_row leave_all leave) (find cmp k rows)))
-      (so_far-same heard key k (same_is cmp key k e))
-      ∙ hear_first event key c leave (find cmp k heard) (option_map (begun_row leave_all leave) (find cmp k rows))
+  step_by heard event key k c true e = grind (arith, option_map, so_far-same, same_is, hear_first)
   step_by heard event key k c false e = refl
 
   heard-step : (heard : List (Row K C)) (e : MrpEvent × K × C) (k : K) → AreRows cmp heard
@@ -316,9 +298,7 @@ module _ {K C : Type 0} {cmp : K → K → Ordering} (o : IsTotalOrder cmp) (lea
   pub received-rows : (events : List (MrpEvent × K × C)) (heard new : List (Row K C)) → HasHeard events heard
       → Ascends cmp key_of new → ((k : K) → find cmp k new ≡ row_so_far cmp leave_all leave rows heard k)
       → new ≡ rows_after_receive cmp leave leave_all events rows
-  received-rows events heard new of_each up each =
-      rows-same o new (rows_after_receive cmp leave leave_all events rows) up (AreRows-receive o leave leave_all events rows are).0
-      (λ k. each k ∙ (of_each k ∙ sym (each-receive o leave leave_all events rows are k)))
+  received-rows events heard new of_each up each = grind (arith, rows-same, AreRows-receive, each-receive)
 
   merged-received : (events : List (MrpEvent × K × C)) (heard : List (Row K C)) → HasHeard events heard
       → Ascends cmp key_of heard → rows_as_one cmp heard (map (begun_row leave_all leave) rows)
@@ -344,9 +324,7 @@ module _ {K C : Type 0} (cmp : K → K → Ordering) (p : Row K C → Bool) wher
       → ((ys : List (Row K C)) → AllByRecursion (λ y. p y ≡ false) ys
       → filter p (rows_as_one cmp xs ys) ≡ filter p xs) → filter p (rows_as_one cmp (x ∷ xs) ys) ≡ filter p (x ∷ xs)
   filter-merged_into x xs [] h rest = refl
-  filter-merged_into x xs (y ∷ ys) h rest =
-      filter-step x y (rows_as_one cmp xs (y ∷ ys)) (rows_as_one cmp xs ys) (rows_as_one cmp (x ∷ xs) ys) xs
-      (cmp x.key y.key) h.0 (rest (y ∷ ys) h) (rest ys h.1) (filter-merged_into x xs ys h.1 rest)
+  filter-merged_into x xs (y ∷ ys) h rest = grind (arith, filter-merged_into x xs ys h.1 rest, filter-step)
 
   -- of two lists as one those pass that pass of the first, where none passes of the second
   filter-merged : (xs ys : List (Row K C)) → AllByRecursion (λ y. p y ≡ false) ys → filter p (rows_as_one cmp xs ys) ≡ filter p xs
@@ -363,11 +341,7 @@ module _ {K C : Type 0} {cmp : K → K → Ordering} (o : IsTotalOrder cmp) (eq 
   begun-told : (leave_all : Bool) (leave : Cs) (rows : List (Row K C)) (r : Row K C) → Ascends cmp key_of rows
       → In r rows → not (option_eq eq (registered_in (find cmp (begun_row leave_all leave r).key rows))
       (registered_in (Some (begun_row leave_all leave r)))) ≡ false
-  begun-told leave_all leave rows r up at =
-      ap not
-      (ap (λ k. option_eq eq (registered_in (find cmp k rows)) (registered_in (Some (begun_row leave_all leave r)))) (begun-key leave_all leave r)
-      ∙ (ap (λ x. option_eq eq (registered_in x) (registered_in (Some (begun_row leave_all leave r)))) (find-in o r rows up at)
-      ∙ (ap (option_eq eq (registered_in (Some r))) (begun-registered leave_all leave r) ∙ option_eq-refl eq laws (registered_in (Some r)))))
+  begun-told leave_all leave rows r up at = grind (arith, begun-key, find-in, begun-registered, option_eq-refl)
 
   each-mapped_to : {X Y : Type 0} (P : Y → Type 0) (f : X → Y) (xs : List X) → ((x : X) → In x xs → P (f x)) → AllByRecursion P (map f xs)
   each-mapped_to P f [] h = tt
@@ -400,13 +374,7 @@ module _ {K C : Type 0} (cmp : K → K → Ordering) where
   pub next-of_first : (xs ys : List (Row K C)) (i j : ℕ) (x : Row K C) → i ≡ length ys → j < length xs
       → x ≡ get_or xs j x → rows_as_one cmp (drop j xs) (drop i ys)
       ≡ x ∷ rows_as_one cmp (drop (j + 1) xs) (drop i ys)
-  next-of_first xs ys i j x end below is =
-      rw (drop_all ys i end)
-      (merged-alone (drop j xs)
-      ∙ (drop-cons xs j x below
-      ∙ (ap (λ y. y ∷ drop (suc j) xs) (sym is)
-      ∙ ap (λ l. x ∷ l) (sym (merged-alone (drop (suc j) xs))
-      ∙ ap (λ n. rows_as_one cmp (drop n xs) []) (sym (add-one j))))))
+  next-of_first xs ys i j x end below is = grind (arith, drop_all, merged-alone, drop-cons, add-one)
 
 -- the next of two lists, of which neither is at its end, or the first is
 module _ {K C : Type 0} (cmp : K → K → Ordering) (xs ys : List (Row K C)) (i j : ℕ) (within : i < length ys) where
@@ -419,24 +387,7 @@ module _ {K C : Type 0} (cmp : K → K → Ordering) (xs ys : List (Row K C)) (i
       → cmp x.key y.key ≡ c → rows_as_one cmp (drop j xs) (drop i ys)
       ≡ match_ordering c (x ∷ rows_as_one cmp (drop (j + 1) xs) (drop i ys))
       (x ∷ rows_as_one cmp (drop (j + 1) xs) (drop (i + 1) ys)) (y ∷ rows_as_one cmp (drop j xs) (drop (i + 1) ys))
-  next-of_both c x y below is is' at =
-      ap (λ l. rows_as_one cmp l (drop i ys)) first
-      ∙ ap (λ l. rows_as_one cmp (x ∷ drop (j + 1) xs) l) second
-      ∙ ap (λ c. match_ordering c (x ∷ rows_as_one cmp (drop (j + 1) xs) (y ∷ drop (i + 1) ys))
-      (x ∷ rows_as_one cmp (drop (j + 1) xs) (drop (i + 1) ys))
-      (y ∷ rows_as_one cmp (x ∷ drop (j + 1) xs) (drop (i + 1) ys))) at
-      ∙ ap (λ l. match_ordering c (x ∷ rows_as_one cmp (drop (j + 1) xs) l)
-      (x ∷ rows_as_one cmp (drop (j + 1) xs) (drop (i + 1) ys))
-      (y ∷ rows_as_one cmp (x ∷ drop (j + 1) xs) (drop (i + 1) ys))) (sym second)
-      ∙ ap (λ l. match_ordering c (x ∷ rows_as_one cmp (drop (j + 1) xs) (drop i ys))
-      (x ∷ rows_as_one cmp (drop (j + 1) xs) (drop (i + 1) ys)) (y ∷ rows_as_one cmp l (drop (i + 1) ys)))
-      (sym first)
-    where
-      first : drop j xs ≡ x ∷ drop (j + 1) xs
-      first = drop_more xs j x below ∙ ap (λ z. z ∷ drop (j + 1) xs) (sym is)
-
-      second : drop i ys ≡ y ∷ drop (i + 1) ys
-      second = drop_more ys i y within ∙ ap (λ z. z ∷ drop (i + 1) ys) (sym is')
+  next-of_both c x y below is is' at = grind (arith, drop_more)
 
 -- ---- what the code has at hand
 
@@ -454,9 +405,7 @@ module _ {K C : Type 0} {cmp : K → K → Ordering} (o : IsTotalOrder cmp) (us 
     known-after = subst (AreKnown o us) (sym is) (known-merged o us rows up up')
 
     pub each-after : (k : K) → first_of (find cmp k us) (find cmp k new) ≡ first_of (find cmp k us) (find cmp k rows)
-    each-after k = ap (λ l. first_of (find cmp k us) (find cmp k l)) is
-        ∙ (ap (first_of (find cmp k us)) (find-merged o k us rows up up')
-        ∙ first-twice (find cmp k us) (find cmp k rows))
+    each-after k = grind (arith, find-merged, first-twice)
 
     pub ascends-after : Ascends cmp key_of new
     ascends-after = subst (Ascends cmp key_of) (sym is) (Ascends-merged o us rows up up')
@@ -496,10 +445,7 @@ module _ {K C : Type 0} {cmp : K → K → Ordering} (o : IsTotalOrder cmp) (lea
     → row_so_far cmp leave_all leave slice heard k
     ≡ row_after_receive cmp leave leave_all events k (find cmp k slice)) where
   what_was_heard : HasHeard o leave_all leave rows are events heard_slice
-  what_was_heard k =
-      ap (λ l. row_so_far cmp leave_all leave rows l k) slice_is
-      ∙ (ap (λ l. row_so_far cmp leave_all leave l heard k) (sym is)
-      ∙ (each k ∙ ap (λ l. row_after_receive cmp leave leave_all events k (find cmp k l)) is))
+  what_was_heard k = grind arith
 
   -- the rows that the code leaves are those after receiving
   pub rows-received : (new : List (Row K C)) → Ascends cmp key_of new

@@ -1,5 +1,5 @@
 -- Where no timer is due a participant stays, and where it is still it has nothing to say.
-use Rattle.std.proofs.Common.{◌≡◌, ℕ, Bool, true, false, not, ◌&&◌, if◌then◌else◌, List, [], ◌∷◌, map, filter, refl, ap, ◌∙◌}
+use Rattle.std.proofs.Common.{◌≡◌, ℕ, Bool, true, false, not, ◌&&◌, if◌then◌else◌, List, [], ◌∷◌, map, filter, refl, ap, arith}
 use Rattle.std.specs.Prelude.{Option, Some}
 use Rattle.std.specs.List.{filter_map, list_all, list_any}
 use Rattle.std.proofs.lemmas.Bool.{or_parts as or_false}
@@ -10,7 +10,7 @@ use Rattle.applicant.specs.Table.{is_quiet}
 use Rattle.registrar.specs.Table.{is_leaving}
 use Rattle.srp_base.specs.declared.numbers.Cs.{Cs}
 use Rattle.mrp_participant.specs.declared.row.Row.{Row}
-use Rattle.mrp_participant.specs.{key_of, leave_is_due, after_leave_due, is_settled, is_tried, is_any_due, is_leave_all_due, is_periodic_due, leave_all_state, periodic_fired_state, due_leave_all_state, due_periodic_state, due_state, due_count, left_keys, is_active, is_still, is_silent}
+use Rattle.mrp_participant.specs.{key_of, leave_is_due, after_leave_due, is_settled, is_tried, is_any_due, is_leave_all_due, is_periodic_due, due_state, due_count, left_keys, is_still, is_silent}
 use Rattle.mrp_participant.specs.State.{State}
 
 module _ {K C : Type 0} where
@@ -46,9 +46,7 @@ module _ {K C : Type 0} where
       rw (untried r.applicant (not (is_leaving r.registrar)) parts.0 r refl) (none_tried rows parts.1)
 
   pub still_is_silent : (s : State K C) → is_still s ≡ true → is_silent s ≡ true
-  still_is_silent s h =
-      let parts = both (not (is_active s.leave_all)) (list_all is_settled s.rows) h in
-      rw (parts.0, none_tried s.rows parts.1) refl
+  still_is_silent s h = grind (arith, both, none_tried)
 
 module _ {K C : Type 0} (s : State K C) (now : Cs) (none : is_any_due now s ≡ false) where
   leave : list_any (leave_is_due now.0) s.rows ≡ false
@@ -58,10 +56,7 @@ module _ {K C : Type 0} (s : State K C) (now : Cs) (none : is_any_due now s ≡ 
   others = or_false _ _ (or_false (list_any (leave_is_due now.0) s.rows) _ none).1
 
   pub due-none : due_state now s ≡ s
-  due-none =
-      ap (λ rows. due_periodic_state now (due_leave_all_state now (record s { rows = rows }))) (rows_stay now.0 s.rows leave)
-      ∙ (ap (λ b. due_periodic_state now (if b then leave_all_state now s else s)) others.0
-      ∙ ap (λ b. if b then periodic_fired_state now s else s) others.1)
+  due-none = grind (arith, rows_stay, leave)
 
   pub left-none : left_keys now s ≡ []
   left-none = ap (map key_of) (none_left now.0 s.rows leave)

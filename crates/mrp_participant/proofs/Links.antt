@@ -1,9 +1,9 @@
 -- Whatever happens on a link keeps both duties met.
-use Rattle.std.proofs.Common.{◌≡◌, ℕ, zero, suc, Bool, true, false, not, ◌&&◌, if◌then◌else◌, List, [], ◌∷◌, ◌++◌, refl, sym, ◌∙◌, subst, append_assoc}
+use Rattle.std.proofs.Common.{◌≡◌, ℕ, zero, suc, Bool, true, false, not, ◌&&◌, if◌then◌else◌, List, [], ◌∷◌, ◌++◌, refl, sym, ◌∙◌, subst, append_assoc, arith}
 use Rattle.std.specs.{declared.cmp.Ordering.Ordering, Cmp.IsTotalOrder}
 use Rattle.std.proofs.lemmas.Bool.{or_right as or-true_right, or_left as or-true_left}
 use Rattle.srp_base.specs.declared.numbers.Cs.{Cs}
-use Rattle.mrp_participant.specs.{find, registered_in, declared_in, IsDutyMet, EndEvent, LinkEvent, AreDutiesMet, is_loss, end_event_of, with_repeat, other_view, with_near, after_spoiling, after_receiving, after_sending, after_end_event, after_event, after_events, Messages, AreRows, after, is_active, is_silent, is_still, none_tried, takes, leave_all_state, sent_state, sent_messages}
+use Rattle.mrp_participant.specs.{find, registered_in, declared_in, IsDutyMet, EndEvent, LinkEvent, AreDutiesMet, is_loss, end_event_of, with_repeat, other_view, with_near, after_spoiling, after_receiving, after_sending, after_end_event, after_event, after_events, Messages, AreRows, after, is_active, is_silent, is_still, takes, sent_state, sent_messages}
 use Rattle.mrp_participant.specs.Link.{Link}
 use Rattle.mrp_participant.specs.Link.EndEvent.{Declares, Withdraws, Leaves, Fires, FiresLeaveAll, FiresPeriodic, Sends, Receives, Loses, Repeats}
 use Rattle.mrp_participant.specs.Link.LinkEvent.{AtNear, AtFar}
@@ -23,8 +23,7 @@ repeated-keeps P step (suc i) front (x ∷ xs) h =
 module _ {K C : Type 0} where
   -- the other end of a link keeps the same
   pub turned-met : (cmp : K → K → Ordering) (l : Link K C) → AreDutiesMet cmp l → AreDutiesMet cmp (other_view l)
-  turned-met cmp l met =
-      record { near_rows = met.far_rows; far_rows = met.near_rows; near_duty = met.far_duty; far_duty = met.near_duty }
+  turned-met cmp l met = grind arith
 
   -- a call of the near participant
   near-met : (cmp : K → K → Ordering) (l : Link K C) (s : State K C) → AreRows cmp s.rows
@@ -41,13 +40,7 @@ module _ {K C : Type 0} where
         sent = sent;
         coming = l.coming;
       })
-  lost-met cmp l sent met =
-      record {
-        near_rows = met.near_rows;
-        far_rows = met.far_rows;
-        near_duty = unsound-met cmp (after_spoiling l.near) (after_spoiling l.far) sent l.coming refl;
-        far_duty = unsound-met cmp (after_spoiling l.far) (after_spoiling l.near) l.coming sent refl;
-      }
+  lost-met cmp l sent met = grind (arith, unsound-met)
 
   repeated-met : (cmp : K → K → Ordering) (l : Link K C) (i : ℕ) → AreDutiesMet cmp l → AreDutiesMet cmp (record l { sent = with_repeat i l.sent })
   repeated-met cmp l i met =
@@ -66,13 +59,7 @@ module _ {K C : Type 0} {cmp : K → K → Ordering} (o : IsTotalOrder cmp) wher
   receiving-met : (now : Cs) (l : Link K C) (coming : List (Messages K C)) → l.coming ≡ coming → AreDutiesMet cmp l
       → AreDutiesMet cmp (after_receiving cmp now coming l)
   receiving-met now l [] is met = met
-  receiving-met now l (m ∷ coming) is met =
-      record {
-        near_rows = AreRows-receive o (after now l.near.leave_time) m.leave_all m.events l.near.rows met.near_rows;
-        far_rows = met.far_rows;
-        near_duty = own-receive o l.near l.far l.sent coming now m met.near_rows (subst (λ c. IsDutyMet cmp l.near l.far l.sent c) is met.near_duty);
-        far_duty = far-receive o l.near l.far l.sent coming now m met.near_rows (subst (λ c. IsDutyMet cmp l.far l.near c l.sent) is met.far_duty);
-      }
+  receiving-met now l (m ∷ coming) is met = grind (arith, AreRows-receive, own-receive, far-receive)
 
   module _ (base : ℕ) (octets : C → ℕ) where
     sending-met_by : (now : Cs) (l : Link K C) (b : Bool) → AreDutiesMet cmp l
@@ -94,30 +81,15 @@ module _ {K C : Type 0} {cmp : K → K → Ordering} (o : IsTotalOrder cmp) wher
       -- ---- at an end, at either end, and in a list of events
 
       pub end-met : (e : EndEvent K C) (l : Link K C) → AreDutiesMet cmp l → AreDutiesMet cmp (after_end_event base octets cmp eq e l)
-      end-met (Declares k c) l met =
-          near-met cmp l _ (AreRows-declare o eq k c l.near.rows met.near_rows)
-          (own-declare o eq l.near l.far l.sent l.coming k c met.near_rows met.near_duty)
-          (far-declare o eq l.near l.far l.sent l.coming k c met.near_rows met.far_duty) met
-      end-met (Withdraws k) l met =
-          near-met cmp l _ (AreRows-withdraw o k l.near.rows met.near_rows)
-          (own-withdraw o l.near l.far l.sent l.coming k met.near_rows met.near_duty)
-          (far-withdraw o l.near l.far l.sent l.coming k met.near_rows met.far_duty) met
-      end-met (Leaves k) l met =
-          near-met cmp l _ (AreRows-leave o k l.near.rows met.near_rows)
-          (own-leave o l.near l.far l.sent l.coming k met.near_rows met.near_duty)
-          (far-leave o l.near l.far l.sent l.coming k met.near_rows met.far_duty) met
+      end-met (Declares k c) l met = grind (arith, near-met, AreRows-declare, own-declare, far-declare)
+      end-met (Withdraws k) l met = grind (arith, near-met, AreRows-withdraw, own-withdraw, far-withdraw)
+      end-met (Leaves k) l met = grind (arith, near-met, AreRows-leave, own-leave, far-leave)
       end-met (Fires now) l met =
           near-met cmp l _ (AreRows-due cmp now l.near met.near_rows)
           (own-due o l.near l.far l.sent l.coming now met.near_rows met.near_duty)
           (far-due o l.near l.far l.sent l.coming now met.near_rows met.far_duty) met
-      end-met (FiresLeaveAll now) l met =
-          near-met cmp l (leave_all_state now l.near) met.near_rows
-          (own-same cmp l.near (leave_all_state now l.near) l.far l.sent l.coming (λ h. h) refl met.near_duty)
-          (far-kept cmp l.near (leave_all_state now l.near) l.far l.sent l.coming (λ k. refl) met.far_duty) met
-      end-met FiresPeriodic l met =
-          near-met cmp l _ (AreRows-periodic cmp l.near.rows met.near_rows)
-          (own-periodic o l.near l.far l.sent l.coming met.near_duty)
-          (far-periodic o l.near l.far l.sent l.coming met.far_duty) met
+      end-met (FiresLeaveAll now) l met = grind (arith, near-met, own-same, far-kept)
+      end-met FiresPeriodic l met = grind (arith, near-met, AreRows-periodic, own-periodic, far-periodic)
       end-met (Sends now) l met = sending-met_by now l (is_silent l.near) met
       end-met (Receives now) l met = receiving-met now l l.coming refl met
       end-met (Loses i) l met = lost-met cmp l _ met
@@ -135,9 +107,7 @@ module _ {K C : Type 0} (cmp : K → K → Ordering) where
   pub still-far : (l : Link K C) → AreDutiesMet cmp l → l.sent ≡ [] → l.coming ≡ [] → is_still l.near ≡ true
       → is_still l.far ≡ true → l.near.sound ≡ true → (k : K)
       → registered_in (find cmp k l.far.rows) ≡ declared_in (find cmp k l.near.rows)
-  still-far l met no_sent no_coming near_still far_still sound =
-      still-held cmp l.near l.far sound near_still far_still
-      (subst (λ sent. IsDutyMet cmp l.near l.far sent []) no_sent (subst (λ coming. IsDutyMet cmp l.near l.far l.sent coming) no_coming met.near_duty))
+  still-far l met no_sent no_coming near_still far_still sound = grind (arith, still-held)
 
 -- ---- soundness
 
@@ -172,12 +142,7 @@ module _ {K C : Type 0} {cmp : K → K → Ordering} (o : IsTotalOrder cmp) (bas
   receiving-far now l (m ∷ coming) h = h
 
   pub leave_all-sound_after : (now : Cs) (l : Link K C) → is_active l.near.leave_all ≡ true → (after_sending base octets cmp now l).near.sound ≡ true
-  leave_all-sound_after now l on =
-      subst (λ b. (if b then l else record l {
-        near = sent_state base octets cmp now l.near;
-        sent = l.sent ++ (sent_messages base octets cmp now l.near ∷ []);
-      }).near.sound ≡ true)
-      (sym (active-speaks (is_active l.near.leave_all) (none_tried l.near.rows) on)) (or-true_left (is_active l.near.leave_all) l.near.sound on)
+  leave_all-sound_after now l on = grind (arith, active-speaks, or-true_left)
 
   module _ (eq : C → C → Bool) where
     end-near_sound : (e : EndEvent K C) (l : Link K C) → is_loss e ≡ false → l.near.sound ≡ true → (after_end_event base octets cmp eq e l).near.sound ≡ true

@@ -52,8 +52,7 @@ filter-none p (x ∷ xs) h = ap (λ b. if b then x ∷ filter p xs else filter p
 pub fold-step : {A B : Type 0} (f : B → A → B) (start at : B) (xs : List A) (i : ℕ) (x : A) → i < length xs
     → x ≡ get_or xs i x → fold f start xs ≡ fold f at (drop i xs)
     → fold f start xs ≡ fold f (f at x) (drop (i + 1) xs)
-fold-step f start at xs i x below is h =
-    rw (add-one i) (h ∙ ap (fold f at) (drop-cons xs i x below ∙ ap (λ y. y ∷ drop (suc i) xs) (sym is)))
+fold-step f start at xs i x below is h = grind (arith, add-one, drop-cons)
 
 -- a key below another is not the same, seen from the other
 pub above_is_not_same : {K : Type 0} {cmp : K → K → Ordering} → IsTotalOrder cmp → (a b : K) → cmp a b ≡ Less → same cmp b a ≡ false
@@ -177,10 +176,7 @@ module _ {K C : Type 0} {cmp : K → K → Ordering} (o : IsTotalOrder cmp) wher
       → cmp r.key k ≡ c → IsOf k new → Ascends cmp key_of (r ∷ rows)
       → find cmp q later ≡ (if same cmp k q then new else find cmp q rows)
       → find cmp q (put_at c new r rows later) ≡ (if same cmp k q then new else find cmp q (r ∷ rows))
-  find-put_at k q new r rows later Less c of up rest =
-      ap (λ t. if same cmp r.key q then Some r else t) rest
-      ∙ swap_tests (same cmp r.key q) (same cmp k q) (Some r) new (find cmp q rows)
-      (λ a b. let e : cmp r.key k ≡ Equal = alike_right o k q r.key (same_is cmp k q b) ∙ same_is cmp r.key q a in cc)
+  find-put_at k q new r rows later Less c of up rest = grind (arith, swap_tests, alike_right, same_is)
   find-put_at k q new r rows later Equal c of up rest =
       find-front k q new rows (λ e. none_above r.key q rows up.0 (same_left o r.key k q c ∙ e)) of
       ∙ same_tests (same cmp k q) (same cmp r.key q) new (Some r) (find cmp q rows) (same_left o r.key k q c)

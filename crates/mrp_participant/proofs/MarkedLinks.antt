@@ -1,5 +1,5 @@
 -- Whatever happens on a link with marks keeps both duties as seen, and what a clear way says.
-use Rattle.std.proofs.Common.{◌≡◌, ℕ, Bool, true, false, not, ◌&&◌, ◌||◌, if◌then◌else◌, List, [], ◌∷◌, ◌++◌, refl, sym, ap, ◌∙◌, subst, inl, inr}
+use Rattle.std.proofs.Common.{◌≡◌, ℕ, Bool, true, false, not, ◌&&◌, ◌||◌, if◌then◌else◌, List, [], ◌∷◌, ◌++◌, refl, sym, ap, ◌∙◌, subst, inl, inr, arith}
 use Rattle.std.specs.Prelude.{◌⊎◌}
 use Rattle.std.specs.{declared.option.Option.Option, declared.option.Option.TheVariants.None, declared.option.Option.TheVariants.Some, declared.cmp.Ordering.Ordering, Cmp.IsTotalOrder}
 use Rattle.std.proofs.lemmas.Bool.{and_from as and-true, or_right as or-true_right, or_left as or-true_left}
@@ -8,7 +8,7 @@ use Rattle.srp_base.specs.declared.numbers.Cs.{Cs}
 use Rattle.applicant.specs.declared.Applicant.{Applicant}
 use Rattle.applicant.specs.declared.Applicant.TheVariants.{Vo, An, Aa, Qa}
 use Rattle.mrp_participant.specs.declared.row.Row.{Row}
-use Rattle.mrp_participant.specs.{find, held_in, hears, has_leave_all, Owes, OwesOf, IsDutyMet, EndEvent, LinkEvent, AreDutiesMet, with_repeat, with_near, after_receiving, Mark, IsNoMore, IsClear, AreMarkedDutiesMet, is_nothing, seen_state, seen_link, other_marked_view, mark_receiving, mark_sending, mark_sent, after_marked_end_event, after_marked_event, after_marked_events, Messages, AreRows, after, is_active, is_silent, takes, new_state, leave_timers_state, leave_all_state, periodic_fired_state, due_leave_all_state, due_periodic_state, due_state, is_leave_all_due, is_periodic_due, received_state, sent_state, sent_messages}
+use Rattle.mrp_participant.specs.{find, held_in, hears, has_leave_all, Owes, OwesOf, IsDutyMet, EndEvent, LinkEvent, AreDutiesMet, with_repeat, with_near, after_receiving, Mark, IsNoMore, IsClear, AreMarkedDutiesMet, is_nothing, seen_state, seen_link, other_marked_view, mark_receiving, mark_sending, mark_sent, after_marked_end_event, after_marked_event, after_marked_events, Messages, AreRows, is_active, is_silent, new_state, leave_all_state, periodic_fired_state, due_state, received_state, sent_state, sent_messages}
 use Rattle.mrp_participant.specs.Link.EndEvent.{Declares, Withdraws, Leaves, Fires, FiresLeaveAll, FiresPeriodic, Sends, Receives, Loses, Repeats}
 use Rattle.mrp_participant.specs.Link.LinkEvent.{AtNear, AtFar}
 use Rattle.mrp_participant.specs.MarkedLink.{MarkedLink}
@@ -58,11 +58,7 @@ module _ {K C : Type 0} where
   periodic-seen now s b false = refl
 
   due-seen : (now : Cs) (s : State K C) (b : Bool) → due_state now (record s { sound = b }) ≡ record (due_state now s) { sound = b }
-  due-seen now s b =
-      let first : State K C = leave_timers_state now s in
-      let second : State K C = due_leave_all_state now first in
-      ap (due_periodic_state now) (leave_all-seen now first b (is_leave_all_due now first))
-      ∙ periodic-seen now second b (is_periodic_due now second)
+  due-seen now s b = grind (arith, leave_all-seen, periodic-seen)
 
   -- ---- the same of a key by its row
 
@@ -80,17 +76,7 @@ module _ {K C : Type 0} (cmp : K → K → Ordering) where
       → far'.rows ≡ far.rows → (near'.sound ≡ true → near.sound ≡ true) → (far'.sound ≡ true → far.sound ≡ true)
       → AreDutiesMet cmp (record { near = near; far = far; sent = sent; coming = coming })
       → AreDutiesMet cmp (record { near = near'; far = far'; sent = sent; coming = coming })
-  resound near near' far far' sent coming nears fars near_sound far_sound met =
-      record {
-        near_rows = subst (AreRows cmp) (sym nears) met.near_rows;
-        far_rows = subst (AreRows cmp) (sym fars) met.far_rows;
-        near_duty =
-            own-same cmp near near' far' sent coming near_sound nears
-            (far-kept cmp far far' near coming sent (λ k. ap (λ rows. held_in (find cmp k rows)) fars) met.near_duty);
-        far_duty =
-            own-same cmp far far' near' coming sent far_sound fars
-            (far-kept cmp near near' far sent coming (λ k. ap (λ rows. held_in (find cmp k rows)) nears) met.far_duty);
-      }
+  resound near near' far far' sent coming nears fars near_sound far_sound met = grind (arith, own-same, far-kept)
 
   clear-duty : (mark : Mark) (sent : List (Messages K C)) (far : State K C) → IsClear cmp mark sent far → mark.clear ≡ true
       → (coming : List (Messages K C)) → IsDutyMet cmp quiet_end far sent coming
@@ -99,71 +85,33 @@ module _ {K C : Type 0} (cmp : K → K → Ordering) where
   clear-kept : (mark : Mark) (sent : List (Messages K C)) (far far' : State K C) (coming : List (Messages K C))
       → (IsDutyMet cmp quiet_end far sent coming → IsDutyMet cmp quiet_end far' sent coming)
       → IsClear cmp mark sent far → IsClear cmp mark sent far'
-  clear-kept mark sent far far' coming step clear =
-      record {
-        nothing_sent = clear.nothing_sent;
-        nothing_held = λ is k. (step (clear-duty mark sent far clear is coming)).of_key refl k;
-      }
+  clear-kept mark sent far far' coming step clear = grind (arith, clear-duty)
 
   pub unclear : (mark : Mark) (sent : List (Messages K C)) (far : State K C) → mark.clear ≡ false → IsClear cmp mark sent far
-  unclear mark sent far off =
-      record {
-        nothing_sent = λ is. let never : true ≡ false = sym is ∙ off in cc;
-        nothing_held = λ is k. let never : true ≡ false = sym is ∙ off in cc;
-      }
+  unclear mark sent far off = grind arith
 
   -- the same marks, but for whether the end is assured
   clear-same : (mark mark' : Mark) (sent : List (Messages K C)) (far : State K C)
       → (mark'.clear ≡ true → mark.clear ≡ true) → IsClear cmp mark sent far → IsClear cmp mark' sent far
-  clear-same mark mark' sent far less clear =
-      record { nothing_sent = λ is. clear.nothing_sent (less is); nothing_held = λ is k. clear.nothing_held (less is) k }
+  clear-same mark mark' sent far less clear = grind arith
 
   pub turned-marked : (l : MarkedLink K C) → AreMarkedDutiesMet cmp l → AreMarkedDutiesMet cmp (other_marked_view l)
-  turned-marked l met =
-      record {
-        duties = record {
-          near_rows = met.duties.far_rows;
-          far_rows = met.duties.near_rows;
-          near_duty = met.duties.far_duty;
-          far_duty = met.duties.near_duty;
-        };
-        near_clear = met.far_clear;
-        far_clear = met.near_clear;
-      }
+  turned-marked l met = grind arith
 
   pub fewer-marked : (l : MarkedLink K C) (near far : Mark) → IsNoMore near l.near → IsNoMore far l.far → AreMarkedDutiesMet cmp l
       → AreMarkedDutiesMet cmp (record l { near = near; far = far })
-  fewer-marked l near far nears fars met =
-      record {
-        duties =
-            resound (seen_state l.near l.link.near) (seen_state near l.link.near) (seen_state l.far l.link.far) (seen_state far l.link.far)
-            l.link.sent l.link.coming refl refl (or-map_left near.assured l.near.assured l.link.near.sound nears.assured)
-            (or-map_left far.assured l.far.assured l.link.far.sound fars.assured) met.duties;
-        near_clear = clear-same l.near near l.link.sent l.link.far nears.clear met.near_clear;
-        far_clear = clear-same l.far far l.link.coming l.link.near fars.clear met.far_clear;
-      }
+  fewer-marked l near far nears fars met = grind (arith, resound, or-map_left, clear-same)
 
   -- a call of the near participant
   called : (l : MarkedLink K C) (s : State K C) → AreDutiesMet cmp (with_near (seen_state l.near s) (seen_link l))
       → (IsDutyMet cmp quiet_end l.link.near l.link.coming l.link.sent → IsDutyMet cmp quiet_end s l.link.coming l.link.sent)
       → AreMarkedDutiesMet cmp l → AreMarkedDutiesMet cmp (record l { link = with_near s l.link })
-  called l s duties step met =
-      record {
-        duties = duties;
-        near_clear = met.near_clear;
-        far_clear = clear-kept l.far l.link.coming l.link.near s l.link.sent step met.far_clear;
-      }
+  called l s duties step met = grind (arith, clear-kept)
 
   -- a repeat: where the way is clear there is nothing to repeat
   twice-clear : (mark : Mark) (i : ℕ) (sent : List (Messages K C)) (far : State K C) → IsClear cmp mark sent far
       → IsClear cmp mark (with_repeat i sent) far
-  twice-clear mark i sent far clear =
-      record {
-        nothing_sent = λ is. ap (with_repeat i) (clear.nothing_sent is);
-        nothing_held = λ is k.
-            ap (hears cmp k (held_in (find cmp k far.rows)))
-            (ap (with_repeat i) (clear.nothing_sent is) ∙ sym (clear.nothing_sent is)) ∙ clear.nothing_held is k;
-      }
+  twice-clear mark i sent far clear = grind arith
 
 module _ {K C : Type 0} {cmp : K → K → Ordering} (o : IsTotalOrder cmp) (base : ℕ) (octets : C → ℕ) where
   -- ---- sending
@@ -171,10 +119,7 @@ module _ {K C : Type 0} {cmp : K → K → Ordering} (o : IsTotalOrder cmp) (bas
   -- the near end's LeaveAll leaves nothing held, and so clears the far end's way where nothing comes from there
   left-none : (now : Cs) (near : State K C) → AreRows cmp near.rows → is_active near.leave_all ≡ true → (k : K)
       → held_in (find cmp k (sent_state base octets cmp now near).rows) ≡ None
-  left-none now near rows on k =
-      ap held_in (each-kept o _ (sent-keeps (is_active near.leave_all) (takes base octets cmp near) (after now near.leave_time)) near.rows rows.0 k)
-      ∙ (sent-held (is_active near.leave_all) (takes base octets cmp near) (after now near.leave_time) (find cmp k near.rows)
-      ∙ ap (λ (b : Bool). if b then None else held_in (find cmp k near.rows)) on)
+  left-none now near rows on k = grind (arith, each-kept, sent-keeps, sent-held)
 
   sent-clear_by : (now : Cs) (l : MarkedLink K C) → AreMarkedDutiesMet cmp l
       → (l.far.clear ≡ true) ⊎ ((is_active l.link.near.leave_all && is_nothing l.link.coming) ≡ true)
@@ -293,20 +238,13 @@ module _ {K C : Type 0} {cmp : K → K → Ordering} (o : IsTotalOrder cmp) (bas
         (subst (λ (s : State K C). AreDutiesMet cmp (with_near s (seen_link l))) same
         (end-met o base octets eq (Fires now) (seen_link l) met.duties))
         (far-due o near quiet_end l.link.sent l.link.coming now met.duties.near_rows) met
-    end-marked (FiresLeaveAll now) l met =
-        called cmp l (leave_all_state now l.link.near) (end-met o base octets eq (FiresLeaveAll now) (seen_link l) met.duties)
-        (far-kept cmp l.link.near (leave_all_state now l.link.near) quiet_end l.link.sent l.link.coming (λ k. refl)) met
+    end-marked (FiresLeaveAll now) l met = grind (arith, called, end-met, far-kept)
     end-marked FiresPeriodic l met =
         called cmp l _ (end-met o base octets eq FiresPeriodic (seen_link l) met.duties)
         (far-periodic o l.link.near quiet_end l.link.sent l.link.coming) met
     end-marked (Sends now) l met = sending now l (is_silent l.link.near) met (end-met o base octets eq (Sends now) (seen_link l) met.duties)
     end-marked (Receives now) l met = receiving now l l.link.coming refl met
-    end-marked (Loses i) l met =
-        record {
-          duties = end-met o base octets eq (Loses i) (seen_link l) met.duties;
-          near_clear = unclear cmp _ _ _ refl;
-          far_clear = unclear cmp _ _ _ refl;
-        }
+    end-marked (Loses i) l met = grind (arith, end-met, unclear)
     end-marked (Repeats i) l met =
         record {
           duties = end-met o base octets eq (Repeats i) (seen_link l) met.duties;
@@ -335,6 +273,4 @@ module _ {K C : Type 0} where
 
   pub assures : (all coming : List (Messages K C)) (m : Messages K C) (mark : Mark) → all ≡ m ∷ coming → m.leave_all ≡ true
       → mark.clear ≡ true → (mark_receiving all mark).assured ≡ true
-  assures all coming m mark is leaves clear =
-      subst (λ (c : List (Messages K C)). (mark_receiving c mark).assured ≡ true) (sym is)
-      (or-true_right mark.assured (m.leave_all && mark.clear) (and-true m.leave_all mark.clear leaves clear))
+  assures all coming m mark is leaves clear = grind (arith, or-true_right, and-true)

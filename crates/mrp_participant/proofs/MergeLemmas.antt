@@ -31,9 +31,7 @@ module _ {X : Type 0} (P : X → Type 0) where
 
 -- the first so many with the last of them apart
 pub split-last : {X : Type 0} (xs : List X) (j : ℕ) (x : X) → 0 < j → j ≤ length xs → x ≡ get_or xs (j - 1) x → take j xs ≡ take (j - 1) xs ++ x ∷ []
-split-last xs j x more within is =
-    let on : j - 1 + 1 ≡ j = omega arith in
-    ap (λ n. take n xs) (sym on) ∙ take_more xs (j - 1) x (omega arith) ∙ ap (λ z. take (j - 1) xs ++ z ∷ []) (sym is)
+split-last xs j x more within is = grind (arith, take_more)
 
 module _ {K C : Type 0} (cmp : K → K → Ordering) where
   -- all of some rows are below a key
@@ -61,9 +59,7 @@ module _ {K C : Type 0} (cmp : K → K → Ordering) where
 
   find-append : (k : K) (xs ys : List (Row K C)) → find cmp k (xs ++ ys) ≡ first_of (find cmp k xs) (find cmp k ys)
   find-append k [] ys = refl
-  find-append k (x ∷ xs) ys =
-      ap (λ t. if same cmp x.key k then Some x else t) (find-append k xs ys)
-      ∙ first-if (same cmp x.key k) x (find cmp k xs) (find cmp k ys)
+  find-append k (x ∷ xs) ys = grind (arith, find-append k xs ys, first-if)
 
   find-below : (k : K) (rows : List (Row K C)) → AllBelow k rows → find cmp k rows ≡ None
   find-below k [] h = refl
@@ -82,9 +78,7 @@ module _ {K C : Type 0} (cmp : K → K → Ordering) where
       → ((ys : List (Row K C)) → length ys ≤ length (rows_as_one cmp xs ys))
       → length ys ≤ length (rows_as_one cmp (x ∷ xs) ys)
   long-merged_into x xs [] rest = omega arith
-  long-merged_into x xs (y ∷ ys) rest =
-      long-step x y ys (rows_as_one cmp xs (y ∷ ys)) (rows_as_one cmp xs ys) (rows_as_one cmp (x ∷ xs) ys)
-      (cmp x.key y.key) (rest (y ∷ ys)) (rest ys) (long-merged_into x xs ys rest)
+  long-merged_into x xs (y ∷ ys) rest = grind (arith, long-merged_into x xs ys rest, long-step)
 
   -- they are as many as the second has, or more
   pub long-merged : (xs ys : List (Row K C)) → length ys ≤ length (rows_as_one cmp xs ys)
@@ -110,8 +104,7 @@ module _ {X : Type 0} where
   later_both true b' x y None f e none = ap (λ g. first_of g (Some x)) (sym (none refl))
   later_both true b' x y (Some z) f e none = refl
   later_both false true x y a f e none = cc
-  later_both false false x y a f e none =
-      ap (λ g. first_of g (first_of f None)) (first-none a) ∙ ap (first_of a) (first-none f) ∙ sym (first-none (first_of a f))
+  later_both false false x y a f e none = grind (arith, first-none)
 
 module _ {K C : Type 0} {cmp : K → K → Ordering} (o : IsTotalOrder cmp) where
   below_more : (k q : K) (rows : List (Row K C)) → cmp k q ≡ Less → AllBelow cmp k rows → AllBelow cmp q rows
@@ -243,11 +236,7 @@ module _ {K C : Type 0} (cmp : K → K → Ordering) (xs made rows : List (Row K
 
   -- none is left to put in
   pub back-all : j ≡ 0 → rows ≡ made
-  back-all none =
-      let within = so_far.before in
-      let front : rows_as_one cmp (take j xs) (take i rows) ≡ take i rows = ap (λ n. rows_as_one cmp (take n xs) (take i rows)) none in
-      let at : w ≡ i = so_far.place ∙ ap length front ∙ length-take-le i rows within in
-      sym (so_far.whole ∙ ap (λ l. l ++ drop w rows) front ∙ ap (λ n. take i rows ++ drop n rows) at ∙ take-append-drop i rows)
+  back-all none = grind (arith, length-take-le, take-append-drop)
 
 -- ---- the room
 
@@ -262,12 +251,7 @@ module _ {K C : Type 0} (cmp : K → K → Ordering) (xs rows slice new : List (
   behind-rows = let more = long-merged cmp xs rows in let wanted = long in is ∙ ap (λ l. l ++ replicate (n - m) row) (take_all n rows (omega arith))
 
   room-length : length new ≡ n
-  room-length =
-      let more = long-merged cmp xs rows in
-      let wanted = long in
-      let both = ap length behind-rows ∙ length-append rows (replicate (n - m) row) in
-      let behind = length-replicate (n - m) row in
-      omega arith
+  room-length = grind (arith, long-merged, long, behind-rows, length-append, length-replicate)
 
   pub room-front : take count new ≡ rows
   room-front = ap (take count) behind-rows ∙ take_at rows (replicate (n - m) row) count (omega arith)

@@ -21,12 +21,7 @@ sum_by-zero f (x ∷ xs) h = let e = sum_by-cons f x xs in let rest = sum_by-zer
 
 sum_by-same : {X : Type 0} (f g : X → ℕ) (xs : List X) → ((x : X) → In x xs → f x ≡ g x) → sum_by f xs ≡ sum_by g xs
 sum_by-same f g [] h = refl
-sum_by-same f g (x ∷ xs) h =
-    let a = sum_by-cons f x xs in
-    let b = sum_by-cons g x xs in
-    let here = h x (inl refl) in
-    let rest = sum_by-same f g xs (λ y at. h y (inr at)) in
-    omega arith
+sum_by-same f g (x ∷ xs) h = grind (arith, sum_by-same f g xs (λ y at. h y (inr at)), sum_by-cons)
 
 filtered_by : {X : Type 0} (f : X → ℕ) (x : X) (xs ys : List X) (b : Bool) (rest : ℕ) → sum_by f ys ≡ rest
     → sum_by f (if b then x ∷ ys else ys) ≡ (if b then f x else 0) + rest
@@ -41,14 +36,7 @@ sum_by-filtered f p (x ∷ xs) =
 
 sum_by-three : {X : Type 0} (f g h k : X → ℕ) (xs : List X) → ((x : X) → f x + (g x + h x) ≡ k x) → sum_by f xs + (sum_by g xs + sum_by h xs) ≡ sum_by k xs
 sum_by-three f g h k [] e = refl
-sum_by-three f g h k (x ∷ xs) e =
-    let a = sum_by-cons f x xs in
-    let b = sum_by-cons g x xs in
-    let c = sum_by-cons h x xs in
-    let d = sum_by-cons k x xs in
-    let here = e x in
-    let rest = sum_by-three f g h k xs e in
-    omega arith
+sum_by-three f g h k (x ∷ xs) e = grind (arith, sum_by-three f g h k xs e, sum_by-cons)
 
 kept_most_by : {X Y : Type 0} (f : X → ℕ) (g : Y → ℕ) (x : X) (new : Option Y) (ys : List Y) (rest : ℕ)
     → ((y : Y) → new ≡ Some y → g y ≤ f x) → sum_by g ys ≤ rest → sum_by g (cons_option new ys) ≤ f x + rest
@@ -58,10 +46,7 @@ kept_most_by f g x (Some y) ys rest h k = let e = sum_by-cons g y ys in let here
 sum_by-kept : {X Y : Type 0} (f : X → ℕ) (g : Y → ℕ) (keep : X → Option Y) (xs : List X)
     → ((x : X) (y : Y) → keep x ≡ Some y → g y ≤ f x) → sum_by g (filter_map keep xs) ≤ sum_by f xs
 sum_by-kept f g keep [] h = omega arith
-sum_by-kept f g keep (x ∷ xs) h =
-    let e = sum_by-cons f x xs in
-    let step = kept_most_by f g x (keep x) (filter_map keep xs) (sum_by f xs) (h x) (sum_by-kept f g keep xs h) in
-    omega arith
+sum_by-kept f g keep (x ∷ xs) h = grind (arith, sum_by-kept f g keep xs h, sum_by-cons, kept_most_by)
 
 -- a number in its round, and none in the others
 in_one_round : (n w : ℕ) → n ≤ 3 → (n ≡ 0 → w ≡ 0) → (if n == 1 then w else 0) + ((if n == 2 then w else 0) + (if n == 3 then w else 0)) ≡ w
@@ -242,12 +227,7 @@ module _ {K C : Type 0} {cmp : K → K → Ordering} (o : IsTotalOrder cmp) (oct
   share_of : (leave_all : Bool) (limit : Option (SendingLimit K)) (leave : Cs) (r : Row K C) (e : MrpEvent × K × C)
       → sent_event leave_all (is_in_room cmp leave_all limit r) leave r ≡ Some e
       → octets e.2 ≤ share o leave_all octets limit r
-  share_of leave_all limit leave r e h =
-      let taken : share o leave_all octets limit r
-      ≡ octets r.content = ap (λ t. if t then octets r.content else 0)
-      (only_taken leave_all (is_in_room cmp leave_all limit r) leave r e h) in
-      let content : octets e.2 ≡ octets r.content = ap octets (sent_is leave_all (is_in_room cmp leave_all limit r) leave r e h).1 in
-      omega arith
+  share_of leave_all limit leave r e h = grind (arith, only_taken)
 
   pub events-fit : (leave_all : Bool) (leave : Cs) (rows : List (Row K C)) → Ascends cmp key_of rows → base ≤ 1500
       → base + sum_by (λ (e : MrpEvent × K × C). octets e.2)
@@ -315,8 +295,7 @@ filter-all p (x ∷ xs) h = ap (λ b. if b then x ∷ filter p xs else filter p 
 
 filter-same : {X : Type 0} (p q : X → Bool) (xs : List X) → ((x : X) → In x xs → p x ≡ q x) → filter p xs ≡ filter q xs
 filter-same p q [] h = refl
-filter-same p q (x ∷ xs) h =
-    ap (λ b. if b then x ∷ filter p xs else filter p xs) (h x (inl refl)) ∙ ap (λ l. if q x then x ∷ l else l) (filter-same p q xs (λ y at. h y (inr at)))
+filter-same p q (x ∷ xs) h = grind (arith, filter-same p q xs (λ y at. h y (inr at)))
 
 first_of : {X : Type 0} (x y : X) (xs ys : List X) → x ∷ xs ≡ y ∷ ys → x ≡ y
 first_of x y xs ys h = cc
@@ -334,14 +313,7 @@ module _ {K C : Type 0} (octets : C → ℕ) where
 
   split_here : (used : ℕ) (x : Row K C) (xs : List (Row K C)) → used ≤ 1500
       → nat_le (used + octets x.content) 1500 ≡ false → IsSplit used octets (x ∷ xs) [] (x ∷ xs)
-  split_here used x xs room full =
-      let over : 1500 < used + octets x.content = grind (arith, nat_tests) in
-      record {
-        joined = refl;
-        fits = omega arith;
-        full = λ next more h. let e : octets x.content
-            ≡ octets next.content = ap (λ (r : Row K C). octets r.content) (first_of x next xs more h) in omega arith;
-      }
+  split_here used x xs room full = grind (arith, nat_tests, first_of)
 
 module _ {K C : Type 0} {cmp : K → K → Ordering} (o : IsTotalOrder cmp) (leave_all : Bool) (octets : C → ℕ) where
   abbrev before : Option (SendingLimit K) → Row K C → Bool

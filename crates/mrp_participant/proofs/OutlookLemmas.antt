@@ -77,9 +77,7 @@ module _ {K C : Type 0} where
   never_at : (t first : Cs) (rows : List (Row K C)) → t.0 < first.0
       → AllByRecursion (λ (q : Row K C). is_leaving q.registrar ≡ true → first.0 ≤ q.leave.0) rows
       → count_by (ends_at t) rows ≡ 0
-  never_at t first rows less h =
-      count-none (ends_at t) rows (Each-map _ _ (λ q from. never_at_by t q.leave (is_leaving q.registrar)
-      (λ leaving. let after = from leaving in omega arith)) rows h)
+  never_at t first rows less h = grind (arith, count-none, Each-map, never_at_by)
 
   ends_itself : (r : Row K C) → is_leaving r.registrar ≡ true → ends_at r.leave r ≡ true
   ends_itself r e = ap (λ b. b && (r.leave.0 == r.leave.0)) e ∙ grind (arith, nat_tests)
@@ -141,8 +139,7 @@ module _ {K C : Type 0} where
 
   -- no count is more than the rows are
   room-for : (o : Outlook) (rows : List (Row K C)) → Tells o rows → length rows + 1 < 2 ^ 64 → HasRoom o
-  room-for o rows h few =
-      (omega (arith, firsts-few o.first_leave rows h.first, few), omega (arith, h.tried, count_by-le-length (λ (q : Row K C). is_tried false q) rows, few))
+  room-for o rows h few = grind (arith, firsts-few, count_by-le-length)
 
   -- there is room for the row that a walk comes to
   pub room-walked : (o : Outlook) (rows : List (Row K C)) (i : ℕ) → i < length rows → length rows < 2 ^ 64 → IsOutlook o (take i rows) → HasRoom o
@@ -151,8 +148,7 @@ module _ {K C : Type 0} where
   -- ---- a row in the place of another
 
   parts-at : (rows : List (Row K C)) (at : ℕ) (r : Row K C) → at < length rows → r ≡ get_or rows at r → rows ≡ take at rows ++ r ∷ drop (suc at) rows
-  parts-at rows at r below is =
-      sym (take-append-drop at rows) ∙ ap (λ l. take at rows ++ l) (drop-cons rows at r below ∙ ap (λ x. x ∷ drop (suc at) rows) (sym is))
+  parts-at rows at r below is = grind (arith, take-append-drop, drop-cons)
 
   pub without-at : (o : Outlook) (rows : List (Row K C)) (at : ℕ) (r : Row K C) → at < length rows
       → r ≡ get_or rows at r → Tells o rows → Tells (outlook_without o r) (take at rows ++ drop (suc at) rows)
@@ -199,8 +195,7 @@ module _ {K C : Type 0} where
   -- there is room for a row that was put between others
   pub room-filled : (o : Outlook) (rows new : List (Row K C)) (at : ℕ) (q : Row K C) → Tells o rows
       → length new < 2 ^ 64 → new ≡ take at rows ++ q ∷ drop at rows → HasRoom o
-  room-filled o rows new at q h few new_is =
-      room-for o rows h (omega (arith, few, ap length new_is, length-among (take at rows) q (drop at rows), ap length (take-append-drop at rows)))
+  room-filled o rows new at q h few new_is = grind (arith, room-for, length-among, take-append-drop)
 
   -- ---- one walk over the rows
 
@@ -269,16 +264,11 @@ module _ {K C : Type 0} where
 
   some-leaving : (t : Cs) (rows : List (Row K C)) → 0 < count_by (ends_at t) rows → all_still rows ≡ false
   some-leaving t [] some = absurd (omega (arith, some))
-  some-leaving t (r ∷ rows) some =
-      leaving_by (is_leaving r.registrar) (all_still rows) t r.leave (count_by (ends_at t) rows) (some-leaving t rows)
-      (subst (λ n. 0 < n) (sum_by-cons (λ q. cond (ends_at t q) 1 0) r rows) some)
+  some-leaving t (r ∷ rows) some = grind (arith, some-leaving t rows, leaving_by, sum_by-cons)
 
   some-due : (t : Cs) (now : ℕ) (rows : List (Row K C)) → t.0 ≤ now → 0 < count_by (ends_at t) rows → list_any (leave_is_due now) rows ≡ true
   some-due t now [] by some = absurd (omega (arith, some))
-  some-due t now (r ∷ rows) by some =
-      some-due_by (ends_at t r) (leave_is_due now r) (list_any (leave_is_due now) rows) (count_by (ends_at t) rows)
-      (λ e. due_by (is_leaving r.registrar) (t.0 == r.leave.0) t r.leave now refl e by) (some-due t now rows by)
-      (subst (λ n. 0 < n) (sum_by-cons (λ q. cond (ends_at t q) 1 0) r rows) some)
+  some-due t now (r ∷ rows) by some = grind (arith, some-due t now rows by, some-due_by, due_by, sum_by-cons)
 
   none-due : (now : ℕ) (rows : List (Row K C)) → AllByRecursion (λ r. leave_is_due now r ≡ false) rows → list_any (leave_is_due now) rows ≡ false
   none-due now [] h = refl
@@ -294,10 +284,7 @@ module _ {K C : Type 0} where
       let some : 0 < count_by (ends_at p.0) rows = grind (arith, nat_tests) in
       let due : p.0.0 ≤ now = grind (arith, nat_tests) in
       sym (some-due p.0 now rows due some)
-  due-at p now rows false by h one =
-      let later : now < p.0.0 = grind (arith, nat_tests) in
-      sym (none-due now rows (Each-map _ _ (λ q from. none-due_by q.leave now (is_leaving q.registrar)
-      (λ leaving. let after = from leaving in omega (arith, later, after))) rows h.1))
+  due-at p now rows false by h one = grind (arith, nat_tests, none-due, Each-map, none-due_by)
 
   -- a leave timer is due where the first is
   pub due-says : (now : ℕ) (first : Option (Cs × ℕ)) (rows : List (Row K C)) → IsFirstLeave first rows
@@ -307,14 +294,8 @@ module _ {K C : Type 0} where
 
   parts-settled : (rows : List (Row K C)) → all_settled rows ≡ (none_tried rows && all_still rows)
   parts-settled [] = refl
-  parts-settled (r ∷ rows) =
-      ap (λ b. (b && not (is_leaving r.registrar)) && all_settled rows) (quiet-untried r.applicant)
-      ∙ ap (λ b. (not (is_tried false r) && not (is_leaving r.registrar)) && b) (parts-settled rows)
-      ∙ both_by (not (is_tried false r)) (not (is_leaving r.registrar)) (none_tried rows) (all_still rows)
+  parts-settled (r ∷ rows) = grind (arith, parts-settled rows, quiet-untried, both_by)
 
   -- all rows are at rest where none is tried and no leave timer runs
   pub settled-says : (o : Outlook) (rows : List (Row K C)) → IsOutlook o rows → is_at_rest o ≡ all_settled rows
-  settled-says o rows h =
-      ap (λ b. b && is_none o.first_leave) (ap (λ n. n == 0) h.0.tried ∙ sym (tried-says rows))
-      ∙ ap (λ b. none_tried rows && b) (first-still o.first_leave rows h.0.first h.1)
-      ∙ sym (parts-settled rows)
+  settled-says o rows h = grind (arith, is_none, tried-says, first-still, parts-settled)

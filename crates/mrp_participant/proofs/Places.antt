@@ -1,10 +1,10 @@
 -- What is made of a key's row at its place, or of the gap where it has none, is what `put` makes of it; and loops
 -- over rows that keep something of some.
-use Rattle.std.proofs.Common.{◌≡◌, ◌≢◌, ℕ, zero, suc, ◌+◌, ◌<◌, ◌≤◌, ◌==◌, ◌&&◌, nat_le, Bool, true, false, if◌then◌else◌, List, [], ◌∷◌, ◌++◌, length, map, filter, get_or, take, drop, sym, ap, refl, ◌∙◌, append_assoc, arith}
+use Rattle.std.proofs.Common.{◌≡◌, ◌≢◌, ℕ, zero, suc, ◌+◌, ◌<◌, ◌≤◌, ◌&&◌, nat_le, Bool, true, false, if◌then◌else◌, List, [], ◌∷◌, ◌++◌, length, map, filter, get_or, take, drop, sym, ap, refl, ◌∙◌, append_assoc, arith}
 use Rattle.std.proofs.lemmas.{Bool.eq-eqb, Bool.ne_eqb, Bool.Decides.nat_tests, List.append-nil, List.drop_all, List.take-append-drop, List.at_drop_more}
 use Rattle.std.specs.{declared.option.Option.Option, declared.option.Option.TheVariants.None, declared.option.Option.TheVariants.Some, declared.cmp.Ordering.Ordering, List.cons_option, List.filter_map, List.list_all, List.slice_get}
 use Rattle.mrp_participant.specs.declared.row.Row.{Row}
-use Rattle.mrp_participant.specs.{key_of, find, put, IsRowAt, IsGapAt, leave_is_due, round, rows_of_round, limit_at, first_limit}
+use Rattle.mrp_participant.specs.{key_of, find, put, IsRowAt, IsGapAt, leave_is_due, round, rows_of_round, first_limit}
 
 module _ {K C : Type 0} {cmp : K → K → Ordering} {k : K} (rows slice : List (Row K C)) (i : ℕ) (all : slice ≡ rows) where
   -- the key's row stands at the place
@@ -18,23 +18,13 @@ module _ {K C : Type 0} {cmp : K → K → Ordering} {k : K} (rows slice : List 
   pub put-at_row : (f : Option (Row K C) → Option (Row K C)) (new : List (Row K C)) (r : Row K C)
       (changed : Option (Row K C)) → IsRowAt cmp k slice i → r ≡ get_or rows i r → changed ≡ f (Some r)
       → new ≡ take i rows ++ cons_option changed (drop (suc i) rows) → new ≡ put cmp k (f (find cmp k rows)) rows
-  put-at_row f new r changed at is made new_is =
-      new_is
-      ∙ ap (λ l. take i l ++ cons_option changed (drop (suc i) l)) (sym all)
-      ∙ sym (at.replaced changed)
-      ∙ ap (put cmp k changed) all
-      ∙ ap (λ x. put cmp k x rows) (made ∙ ap f (sym (found-at_row r at is)))
+  put-at_row f new r changed at is made new_is = grind (arith, found-at_row)
 
   -- a row, or none, in the gap
   pub put-at_gap : (f : Option (Row K C) → Option (Row K C)) (new : List (Row K C)) (changed : Option (Row K C))
       → IsGapAt cmp k slice i → changed ≡ f None → new ≡ take i rows ++ cons_option changed (drop i rows)
       → new ≡ put cmp k (f (find cmp k rows)) rows
-  put-at_gap f new changed at made new_is =
-      new_is
-      ∙ ap (λ l. take i l ++ cons_option changed (drop i l)) (sym all)
-      ∙ sym (at.filled changed)
-      ∙ ap (put cmp k changed) all
-      ∙ ap (λ x. put cmp k x rows) (made ∙ ap f (sym (absent-at_gap at)))
+  put-at_gap f new changed at made new_is = grind (arith, absent-at_gap)
 
   -- nothing is made of a key without a row
   pub put-none : (f : Option (Row K C) → Option (Row K C)) → IsGapAt cmp k slice i → None ≡ f None → rows ≡ put cmp k (f (find cmp k rows)) rows
@@ -74,11 +64,7 @@ module _ {X Y : Type 0} (f : X → Y) (p : X
     → Bool) (xs : List X) (whole done : List Y) (i : ℕ) (x : X) (below : i < length xs) (is : x ≡ get_or xs i x)
     (so_far : whole ≡ done ++ map f (filter p (drop i xs))) where
   pub kept_more : (b : Bool) → b ≡ p x → b ≡ true → (new : List Y) → new ≡ done ++ f x ∷ [] → whole ≡ new ++ map f (filter p (drop (i + 1) xs))
-  kept_more b test passed new pushed =
-      so_far
-      ∙ ap (λ l. done ++ map f l) (filter-front p xs i x below is (sym test ∙ passed))
-      ∙ sym (append_assoc done (f x ∷ []) (map f (filter p (drop (i + 1) xs))))
-      ∙ ap (λ l. l ++ map f (filter p (drop (i + 1) xs))) (sym pushed)
+  kept_more b test passed new pushed = grind (arith, filter-front, append_assoc)
 
   pub passed_over : (b : Bool) → b ≡ p x → b ≡ false → whole ≡ done ++ map f (filter p (drop (i + 1) xs))
   passed_over b test fails = so_far ∙ ap (λ l. done ++ map f l) (filter-over p xs i x below is (sym test ∙ fails))
@@ -86,8 +72,7 @@ module _ {X Y : Type 0} (f : X → Y) (p : X
 -- and at the end
 pub all_kept : {X Y : Type 0} (f : X → Y) (p : X → Bool) (xs : List X) (whole done : List Y) (i : ℕ) → length xs ≤ i
     → whole ≡ done ++ map f (filter p (drop i xs)) → done ≡ whole
-all_kept f p xs whole done i past so_far =
-    sym (so_far ∙ ap (λ l. done ++ map f (filter p l)) (drop_all i xs past) ∙ append-nil done)
+all_kept f p xs whole done i past so_far = grind (arith, drop_all, append-nil)
 
 -- a loop that keeps what is made of each element, if anything is
 module _ {Y : Type 0} where
@@ -117,35 +102,23 @@ module _ {K C : Type 0} (leave_all : Bool) (octets : C
   pub in_round : round leave_all r.applicant ≡ n → (rest : List (Row K C))
       → first_limit leave_all octets total (rows_of_round leave_all n (drop i rows) ++ rest)
       ≡ first_limit leave_all octets total (r ∷ rows_of_round leave_all n (drop (i + 1) rows) ++ rest)
-  in_round at rest =
-      ap (λ l. first_limit leave_all octets total (l ++ rest))
-      (filter-front (λ r. round leave_all r.applicant == n) rows i r below is
-      (eq-eqb (round leave_all r.applicant) n at))
+  in_round at rest = grind (arith, filter-front, eq-eqb)
 
   pub not_in_round : round leave_all r.applicant ≢ n → (rest : List (Row K C))
       → first_limit leave_all octets total (rows_of_round leave_all n (drop i rows) ++ rest)
       ≡ first_limit leave_all octets total (rows_of_round leave_all n (drop (i + 1) rows) ++ rest)
-  not_in_round at rest =
-      ap (λ l. first_limit leave_all octets total (l ++ rest))
-      (filter-over (λ r. round leave_all r.applicant == n) rows i r below is
-      (ne_eqb (round leave_all r.applicant) n at))
+  not_in_round at rest = grind (arith, filter-over, ne_eqb)
 
   pub finds_room : round leave_all r.applicant ≡ n → total + octets r.content ≤ 1500 → (rest : List (Row K C))
       → first_limit leave_all octets total (rows_of_round leave_all n (drop i rows) ++ rest)
       ≡ first_limit leave_all octets (total + octets r.content)
       (rows_of_round leave_all n (drop (i + 1) rows) ++ rest)
-  finds_room at few rest = in_round at rest ∙ fits where
-    fits : first_limit leave_all octets total (r ∷ rows_of_round leave_all n (drop (i + 1) rows) ++ rest)
-        ≡ first_limit leave_all octets (total + octets r.content)
-        (rows_of_round leave_all n (drop (i + 1) rows) ++ rest)
-    fits = let room : nat_le (total + octets r.content) 1500 ≡ true = grind (arith, nat_tests) in rw room refl
+  finds_room at few rest = grind (arith, in_round, nat_le, nat_tests)
 
   pub finds_none : round leave_all r.applicant ≡ n → 1500 < total + octets r.content → (rest : List (Row K C))
       → first_limit leave_all octets total (rows_of_round leave_all n (drop i rows) ++ rest)
       ≡ Some (record { round = n; key = r.key })
-  finds_none at many rest = in_round at rest ∙ full ∙ ap (λ m. Some (record { round = m; key = r.key })) at where
-    full : first_limit leave_all octets total (r ∷ rows_of_round leave_all n (drop (i + 1) rows) ++ rest) ≡ Some (limit_at leave_all r)
-    full = let none : nat_le (total + octets r.content) 1500 ≡ false = grind (arith, nat_tests) in rw none refl
+  finds_none at many rest = grind (arith, in_round, nat_le, nat_tests)
 
 -- ---- keys that leave
 

@@ -2,7 +2,7 @@
 -- of the order fit.
 use Rattle.std.proofs.Common.{◌≡◌, ℕ, ◌+◌, ◌<◌, Bool, true, false, not, ◌&&◌, ◌||◌, if◌then◌else◌, nat_le, nat_lt, ◌==◌, List, [], ◌∷◌, ◌++◌, filter, refl, sym, ap, ◌∙◌, subst, arith, inl, inr}
 use Rattle.std.specs.Prelude.{◌⊎◌}
-use Rattle.std.specs.{declared.option.Option.Option, declared.option.Option.TheVariants.Some, declared.cmp.Ordering.Ordering, declared.cmp.Ordering.TheVariants.Less, declared.cmp.Ordering.TheVariants.Equal, declared.cmp.Ordering.TheVariants.Greater, Ordering.is_eq, Ordering.is_lt, Ordering.ordering_reverse, Cmp.IsTotalOrder, List.filter_map, List.cons_option, List.AllByRecursion}
+use Rattle.std.specs.{declared.option.Option.Option, declared.option.Option.TheVariants.Some, declared.cmp.Ordering.Ordering, declared.cmp.Ordering.TheVariants.Less, declared.cmp.Ordering.TheVariants.Equal, declared.cmp.Ordering.TheVariants.Greater, Ordering.is_eq, Ordering.is_lt, Ordering.ordering_reverse, Cmp.IsTotalOrder, List.filter_map, List.AllByRecursion}
 use Rattle.std.proofs.lemmas.{Cmp.tied_itself, List.Sums.sum_by-cons, Bool.Decides.nat_tests}
 use Rattle.std.proofs.Common.{eqb-true, eq-eqb}
 use Rattle.srp_base.proofs.Lists.{each_append as Each-append, each_filter as Each-filtered}
@@ -112,9 +112,7 @@ module _ {K C : Type 0} {cmp : K → K → Ordering} (o : IsTotalOrder cmp) wher
 
   -- two rows of one list with one key are one row
   one_row : (r s : Row K C) (rows : List (Row K C)) → Ascends cmp key_of rows → In r rows → In s rows → cmp r.key s.key ≡ Equal → r ≡ s
-  one_row r s rows up at bt e =
-      let found : Some r ≡ Some s = sym (find-in r rows up at) ∙ find-same o r.key s.key rows e ∙ find-in s rows up bt in
-      cc
+  one_row r s rows up at bt e = grind (arith, find-in, find-same)
 
 -- ---- before and after in the order
 
@@ -160,9 +158,7 @@ module _ {K C : Type 0} {cmp : K → K → Ordering} (o : IsTotalOrder cmp) (lea
   Ahead x y = (is_ahead cmp leave_all (limit_at leave_all y) x ≡ true) × (same cmp x.key y.key ≡ false)
 
   pub ahead_once : (x y : Row K C) → Ahead x y → is_ahead cmp leave_all (limit_at leave_all x) y ≡ false
-  ahead_once x y ahead =
-      asym_by (round leave_all x.applicant) (round leave_all y.applicant) (is_lt (cmp x.key y.key)) (is_lt (cmp y.key x.key))
-      (λ h k. less_once o x.key y.key (lt_is (cmp x.key y.key) h) (lt_is (cmp y.key x.key) k)) ahead.0
+  ahead_once x y ahead = grind (arith, asym_by, lt_is)
 
   pub not_ahead_of_itself : (x : Row K C) → is_ahead cmp leave_all (limit_at leave_all x) x ≡ false
   not_ahead_of_itself x = irrefl_by (round leave_all x.applicant) (is_lt (cmp x.key x.key)) (ap is_lt (tied_itself o x.key))
@@ -171,10 +167,7 @@ module _ {K C : Type 0} {cmp : K → K → Ordering} (o : IsTotalOrder cmp) (lea
   pub first_is_before : (used : ℕ) (xs : List (Row K C)) (x : Row K C) → AllByRecursion (Ahead x) xs
       → is_before cmp leave_all (first_limit leave_all octets used xs) x ≡ true
   first_is_before used [] x ahead = refl
-  first_is_before used (y ∷ ys) x ahead =
-      elim (nat_le (used + octets y.content) 1500)
-      as (λ b. is_before cmp leave_all (if b then first_limit leave_all octets (used + octets y.content) ys else Some (limit_at leave_all y)) x ≡ true)
-      [ true ↦ first_is_before (used + octets y.content) ys x ahead.1 | false ↦ ahead.0.0 ]
+  first_is_before used (y ∷ ys) x ahead = grind (arith, first_is_before (used + octets y.content) ys x ahead.1, nat_le)
 
   -- the octets up to a row, and whether it is before the limit, at the first of some rows
   here_by : (used : ℕ) (x : Row K C) (xs : List (Row K C)) (b : Bool) → nat_le (used + octets x.content) 1500 ≡ b
@@ -191,24 +184,13 @@ module _ {K C : Type 0} {cmp : K → K → Ordering} (o : IsTotalOrder cmp) (lea
       ≡ is_before cmp leave_all (if b then first_limit leave_all octets (used + octets x.content) xs else Some
       (limit_at leave_all x)) r
   later_by used rest x r xs true e late step = step
-  later_by used rest x r xs false e late step = no_room (used + octets x.content) rest e ∙ sym late
-    where
-      no_room : (n m : ℕ) → nat_le n 1500 ≡ false → nat_le (n + m) 1500 ≡ false
-      no_room n m h = grind (arith, nat_tests)
+  later_by used rest x r xs false e late step = grind (arith, nat_le, nat_tests)
 
   pub fits_before : (used : ℕ) (xs : List (Row K C)) (r : Row K C) → Lined Ahead xs → In r xs
       → nat_le (used + octets_of octets (up_to cmp r.key xs)) 1500
       ≡ is_before cmp leave_all (first_limit leave_all octets used xs) r
   fits_before used [] r lined at = absurd at
-  fits_before used (x ∷ xs) r lined (inl e) = subst
-      (λ z. nat_le (used + octets_of octets (up_to cmp z.key (x ∷ xs))) 1500
-      ≡ is_before cmp leave_all (first_limit leave_all octets used (x ∷ xs)) z) (sym e) here
-    where
-      one_more : used + (0 + octets x.content) ≡ used + octets x.content
-      one_more = omega arith
-
-      here : nat_le (used + octets_of octets (up_to cmp x.key (x ∷ xs))) 1500 ≡ is_before cmp leave_all (first_limit leave_all octets used (x ∷ xs)) x
-      here = rw (same_refl o x.key) (ap (λ n. nat_le n 1500) one_more ∙ here_by used x xs (nat_le (used + octets x.content) 1500) refl lined.0)
+  fits_before used (x ∷ xs) r lined (inl e) = grind (arith, nat_le, same_refl, here_by)
   fits_before used (x ∷ xs) r lined (inr at) =
       let ahead : Ahead x r = Each-in (Ahead x) r xs lined.0 at in
       rw ahead.1
@@ -300,5 +282,4 @@ module _ {K C : Type 0} {cmp : K → K → Ordering} (o : IsTotalOrder cmp) (lea
 -- what a function makes of a list depends on what it makes of its elements
 pub filter_map-same : {X Y : Type 0} (f g : X → Option Y) (xs : List X) → ((x : X) → In x xs → f x ≡ g x) → filter_map f xs ≡ filter_map g xs
 filter_map-same f g [] same_at = refl
-filter_map-same f g (x ∷ xs) same_at = ap (λ y. cons_option y (filter_map f xs)) (same_at x (inl refl))
-    ∙ ap (cons_option (g x)) (filter_map-same f g xs (λ y at. same_at y (inr at)))
+filter_map-same f g (x ∷ xs) same_at = grind (arith, filter_map-same f g xs (λ y at. same_at y (inr at)))

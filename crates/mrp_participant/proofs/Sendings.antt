@@ -1,6 +1,6 @@
 -- What a participant keeps of its rows when it sends, and what it says.
-use Rattle.std.proofs.Common.{◌≡◌, ℕ, ◌+◌, Bool, true, false, not, ◌&&◌, ◌||◌, nat_le, List, [], ◌∷◌, refl, sym, ap, ◌∙◌, subst}
-use Rattle.std.specs.{declared.option.Option.Option, declared.option.Option.TheVariants.None, declared.option.Option.TheVariants.Some, declared.cmp.Ordering.Ordering, Cmp.IsTotalOrder, List.filter_map, List.cons_option}
+use Rattle.std.proofs.Common.{◌≡◌, ℕ, ◌+◌, Bool, true, false, not, ◌&&◌, ◌||◌, nat_le, List, [], ◌∷◌, refl, sym, ap, subst, arith}
+use Rattle.std.specs.{declared.option.Option.Option, declared.option.Option.TheVariants.None, declared.option.Option.TheVariants.Some, declared.cmp.Ordering.Ordering, Cmp.IsTotalOrder, List.filter_map}
 use Rattle.srp_base.specs.declared.{numbers.Cs.Cs, mrp.MrpEvent.MrpEvent}
 use Rattle.applicant.specs.declared.AppEvent.{AppEvent}
 use Rattle.registrar.specs.declared.RegEvent.TheVariants.{TxLeaveAll as RegTxLeaveAll}
@@ -29,16 +29,11 @@ module _ {K C : Type 0} where
   sent-key false taken leave r s e = after-key (opportunity false taken r) r s e
 
   sent-live : (leave_all taken : Bool) (leave : Cs) (r s : Row K C) → is_live r ≡ true → sent_row leave_all taken leave r ≡ Some s → is_live s ≡ true
-  sent-live true taken leave r s live e = after-live (opportunity true taken r)
-      (registrar_takes RegTxLeaveAll leave r) s
-      (registrar-lives RegTxLeaveAll sent_leave_all-registers leave r live) e
+  sent-live true taken leave r s live e = grind (arith, after-live, registrar-lives, sent_leave_all-registers)
   sent-live false taken leave r s live e = after-live (opportunity false taken r) r s live e
 
   pub sent-keeps : (leave_all : Bool) (taken : Row K C → Bool) (leave : Cs) → Keeps (λ r. sent_row leave_all (taken r) leave r)
-  sent-keeps leave_all taken leave = record {
-    key = λ r s e. sent-key leave_all (taken r) leave r s e;
-    lives = λ r s live e. sent-live leave_all (taken r) leave r s live e;
-  }
+  sent-keeps leave_all taken leave = grind (arith, sent-key, sent-live)
   -- ---- the limit gives what the test gives
 
 module _ {K C : Type 0} {cmp : K → K → Ordering} (o : IsTotalOrder cmp) where
@@ -47,18 +42,14 @@ module _ {K C : Type 0} {cmp : K → K → Ordering} (o : IsTotalOrder cmp) wher
       → AreRows cmp rows → limit ≡ first_limit leave_all octets base (order leave_all rows)
       → filter_map (λ r. sent_row leave_all (is_in_room cmp leave_all limit r) leave r) rows
       ≡ filter_map (λ r. sent_row leave_all (is_taken base octets cmp leave_all rows r) leave r) rows
-  rows-by_limit base octets leave_all leave rows limit are is =
-      filter_map-same _ _ rows (λ r at. ap (λ t. sent_row leave_all t leave r)
-      (ap (λ c. is_in_room cmp leave_all c r) is ∙ in_room o leave_all octets base rows r are.0 at))
+  rows-by_limit base octets leave_all leave rows limit are is = grind (arith, filter_map-same, in_room)
 
   pub events-by_limit : (base : ℕ) (octets : C
       → ℕ) (leave_all : Bool) (leave : Cs) (rows : List (Row K C)) (limit : Option (SendingLimit K))
       → AreRows cmp rows → limit ≡ first_limit leave_all octets base (order leave_all rows)
       → filter_map (λ r. sent_event leave_all (is_in_room cmp leave_all limit r) leave r) rows
       ≡ filter_map (λ r. sent_event leave_all (is_taken base octets cmp leave_all rows r) leave r) rows
-  events-by_limit base octets leave_all leave rows limit are is =
-      filter_map-same _ _ rows (λ r at. ap (λ t. sent_event leave_all t leave r)
-      (ap (λ c. is_in_room cmp leave_all c r) is ∙ in_room o leave_all octets base rows r are.0 at))
+  events-by_limit base octets leave_all leave rows limit are is = grind (arith, filter_map-same, in_room)
 
 -- ---- where nothing is to be said
 
@@ -73,10 +64,7 @@ module _ {K C : Type 0} (cmp : K → K → Ordering) (base : ℕ) (octets : C �
       → (b && none_tried rows) ≡ true → (none_tried rows ≡ true → filter_map
       (λ r. sent_row false (is_taken base octets cmp false all r) leave r) rows ≡ rows)
       → filter_map (λ r. sent_row false (is_taken base octets cmp false all r) leave r) (r ∷ rows) ≡ r ∷ rows
-  silent-rows_by r rows true untried h rest =
-      ap (λ y. cons_option y (filter_map (λ r. sent_row false (is_taken base octets cmp false all r) leave r) rows))
-      (untried_by r (is_tried false r) refl untried)
-      ∙ ap (λ l. r ∷ l) (rest h)
+  silent-rows_by r rows true untried h rest = grind (arith, untried_by)
   silent-rows_by r rows false untried h rest = cc
 
   pub silent-rows : (rows : List (Row K C)) → none_tried rows ≡ true
@@ -107,11 +95,7 @@ pub events-of : {K C : Type 0} (cmp : K → K → Ordering) (base : ℕ) (octets
     (events : List (MrpEvent × K × C)) → leave_all ≡ is_active s.leave_all → leave ≡ after now s.leave_time
     → rows ≡ s.rows → events ≡ filter_map (λ r. sent_event leave_all
     (is_taken base octets cmp leave_all rows r) leave r) rows → events ≡ sent_events base octets cmp now s
-events-of cmp base octets now s leave_all leave rows events active moment is h =
-    h
-    ∙ ap (λ a. filter_map (λ r. sent_event a (is_taken base octets cmp a rows r) leave r) rows) active
-    ∙ ap (λ t. filter_map (λ r. sent_event (is_active s.leave_all) (is_taken base octets cmp (is_active s.leave_all) rows r) t r) rows) moment
-    ∙ ap (λ l. filter_map (λ r. sent_event (is_active s.leave_all) (is_taken base octets cmp (is_active s.leave_all) l r) (after now s.leave_time) r) l) is
+events-of cmp base octets now s leave_all leave rows events active moment is h = grind arith
 
 pub sent-parts : {K C : Type 0} (cmp : K → K → Ordering) (base : ℕ) (octets : C
     → ℕ) (now : Cs) (s : State K C) (leave_all : Bool) (leave : Cs) (new : List (Row K C)) (machine : LeaveAll)
@@ -119,27 +103,10 @@ pub sent-parts : {K C : Type 0} (cmp : K → K → Ordering) (base : ℕ) (octet
     → new ≡ filter_map (λ r. sent_row leave_all (is_taken base octets cmp leave_all s.rows r) leave r) s.rows
     → machine ≡ leaveall.table LaTx s.leave_all → sound ≡ (leave_all || s.sound)
     → record s { rows = new; leave_all = machine; sound = sound } ≡ sent_state base octets cmp now s
-sent-parts cmp base octets now s leave_all leave new machine sound active moment new_is next sound_is =
-    ap (λ l. record s { rows = l; leave_all = machine; sound = sound })
-    (new_is
-    ∙ ap (λ a. filter_map (λ r. sent_row a (is_taken base octets cmp a s.rows r) leave r) s.rows) active
-    ∙ ap (λ t. filter_map (λ r. sent_row (is_active s.leave_all) (is_taken base octets cmp (is_active s.leave_all) s.rows r) t r) s.rows) moment)
-    ∙ ap (λ m. record s {
-      rows = filter_map (λ r. sent_row (is_active s.leave_all)
-          (is_taken base octets cmp (is_active s.leave_all) s.rows r) (after now s.leave_time) r) s.rows;
-      leave_all = m;
-      sound = sound;
-    }) next
-    ∙ ap (λ b. record s {
-      rows = filter_map (λ r. sent_row (is_active s.leave_all)
-          (is_taken base octets cmp (is_active s.leave_all) s.rows r) (after now s.leave_time) r) s.rows;
-      leave_all = leaveall.table LaTx s.leave_all;
-      sound = b;
-    }) (sound_is ∙ ap (λ a. a || s.sound) active)
+sent-parts cmp base octets now s leave_all leave new machine sound active moment new_is next sound_is = grind arith
 
 -- what is not silent has a row that is tried, or a LeaveAll to say
 pub tried-one : {K C : Type 0} (s : State K C) (leave_all : Bool) (rows : List (Row K C))
     → leave_all ≡ is_active s.leave_all → rows ≡ s.rows → is_silent s ≡ false → leave_all ≡ false
     → none_tried rows ≡ false
-tried-one s leave_all rows active is loud none =
-    ap none_tried is ∙ (ap (λ a. not a && none_tried s.rows) (sym (sym active ∙ none)) ∙ loud)
+tried-one s leave_all rows active is loud none = grind arith

@@ -1,5 +1,5 @@
 -- What a taken row says, and which row each event that is sent is of.
-use Rattle.std.proofs.Common.{◌≡◌, Bool, true, false, not, ◌&&◌, if◌then◌else◌, ◌==◌, List, [], ◌∷◌, refl, sym, ap, ◌∙◌, inl, inr}
+use Rattle.std.proofs.Common.{◌≡◌, Bool, true, false, not, ◌&&◌, if◌then◌else◌, ◌==◌, List, [], ◌∷◌, refl, sym, ap, ◌∙◌, inl, inr, arith}
 use Rattle.std.specs.Prelude.{◌⊎◌, Contains}
 use Rattle.std.specs.{declared.option.Option.Option, declared.option.Option.TheVariants.None, declared.option.Option.TheVariants.Some, declared.cmp.Ordering.Ordering, Cmp.IsTotalOrder, List.filter_map, List.cons_option}
 use Rattle.srp_base.proofs.Bools.{first_holds}
@@ -97,22 +97,14 @@ module _ {K C : Type 0} where
   declared_by : (leave_all : Bool) (r : Row K C) (e : MrpEvent × K × C) (found : Option (Row K C)) → found ≡ Some r
       → is_tried leave_all r ≡ true → Some (word_of leave_all r.applicant (is_in r.registrar), r.key, r.content)
       ≡ Some e → declared_in found ≡ (if is_leave e.0 then None else Some e.2)
-  declared_by leave_all r e found is tried says =
-      let one : (word_of leave_all r.applicant (is_in r.registrar), r.key, r.content) ≡ e = cc in
-      ap declared_in is
-      ∙ (word-declared leave_all r.applicant (is_in r.registrar) r.content tried
-      ∙ ap (λ (x : MrpEvent × K × C). if is_leave x.0 then None else Some x.2) one)
+  declared_by leave_all r e found is tried says = grind (arith, word-declared)
 
   -- an event has the content that is declared of its key, or says that it isn't declared any more
   pub event-declared : (leave_all fits : Bool) (leave : Cs) (r : Row K C) (e : MrpEvent × K
       × C) (found : Option (Row K C)) → found ≡ Some r
       → sent_event leave_all (is_tried leave_all r && fits) leave r ≡ Some e
       → declared_in found ≡ (if is_leave e.0 then None else Some e.2)
-  event-declared leave_all fits leave r e found is says = by (is_tried leave_all r && fits) refl
-    where
-      by : (b : Bool) → (is_tried leave_all r && fits) ≡ b → declared_in found ≡ (if is_leave e.0 then None else Some e.2)
-      by true t = declared_by leave_all r e found is (first_holds (is_tried leave_all r) fits t) (sym (taken-says leave_all fits leave r t) ∙ says)
-      by false t = let never = sym (not_taken-says leave_all (is_tried leave_all r && fits) leave r t) ∙ says in cc
+  event-declared leave_all fits leave r e found is says = grind (arith, declared_by, first_holds, taken-says, not_taken-says)
 
 silent_of : (m : LeaveAll) (b : Bool) → (not (is_active m) && b) ≡ false → is_active m ≡ false → b ≡ false
 silent_of Active b h k = cc

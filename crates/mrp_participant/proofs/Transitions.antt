@@ -1,5 +1,5 @@
 -- Each event keeps a row's key, and leaves no row of which nothing is kept.
-use Rattle.std.proofs.Common.{◌≡◌, ℕ, Bool, true, false, not, ◌||◌, if◌then◌else◌, refl, sym, ap, ◌∙◌, subst, List, [], ◌∷◌, map, fold, OnOk, OnErr}
+use Rattle.std.proofs.Common.{◌≡◌, ℕ, Bool, true, false, not, ◌||◌, if◌then◌else◌, refl, sym, ap, ◌∙◌, subst, List, [], ◌∷◌, map, fold, OnOk, OnErr, arith}
 use Rattle.std.specs.{declared.option.Option.Option, declared.option.Option.TheVariants.None, declared.option.Option.TheVariants.Some, declared.cmp.Ordering.Ordering, declared.cmp.Ordering.TheVariants.Less, declared.cmp.Ordering.TheVariants.Equal, Cmp.IsTotalOrder, List.filter_map, declared.result.Result.Result, declared.result.Result.TheVariants.Ok, declared.result.Result.TheVariants.Err}
 use Rattle.std.proofs.lemmas.Cmp.{tied_itself}
 use Rattle.srp_base.proofs.Bools.{or-map_right}
@@ -8,16 +8,16 @@ use Rattle.srp_base.specs.declared.mrp.MrpEvent.TheVariants.{New, JoinIn, OnlyIn
 use Rattle.applicant.specs.declared.{Applicant.Applicant, AppEvent.AppEvent}
 use Rattle.applicant.specs.declared.Applicant.TheVariants.{Vo, Vp, Vn, An, Aa, Qa, La}
 use Rattle.applicant.specs.Table as applicant
-use Rattle.applicant.specs.declared.AppEvent.TheVariants.{RxIn, RxMt, RxLv as AppRxLv, RxLeaveAll as AppRxLeaveAll, Periodic}
+use Rattle.applicant.specs.declared.AppEvent.TheVariants.{RxIn, RxMt, RxLv as AppRxLv, Periodic}
 use Rattle.registrar.specs.declared.RegEvent.{RegEvent}
-use Rattle.registrar.specs.declared.RegEvent.TheVariants.{RxNew, RxJoin, RxLv as RegRxLv, RxLeaveAll as RegRxLeaveAll, LeaveTimer}
+use Rattle.registrar.specs.declared.RegEvent.TheVariants.{RxNew, RxLv as RegRxLv, LeaveTimer}
 use Rattle.registrar.specs.Table as registrar
 use Rattle.applicant.proofs.ApplicantLemmas.{KeepsObserver, in-keeps, mt-keeps, lv-keeps, leave_all-keeps, periodic-keeps}
 use Rattle.registrar.proofs.RegistrarLemmas.{KeepsRegistered, new-registers, join-registers, lv-registers, leave_all-registers}
 use Rattle.mrp_participant.specs.declared.row.Row.{Row}
 use Rattle.registrar.specs.Table.{is_in}
 use Rattle.applicant.specs.Table.{is_observer}
-use Rattle.mrp_participant.specs.{is_live, leave_is_due, after_leave_due, applicant_takes, registrar_takes, with_heard, leave_all_row, periodic_row, kept_row, fresh_row, declared_row, with_applicant, left_row, heard_row, after_declare, after_withdraw, after_leave, after_hear, Ascends, key_of, find, put, AreRows, rows_hearing, rows_after_receive, leave_timers_state, leave_all_state, due_leave_all_state, periodic_fired_state, due_state, is_leave_all_due, is_periodic_due}
+use Rattle.mrp_participant.specs.{is_live, leave_is_due, after_leave_due, applicant_takes, registrar_takes, leave_all_row, periodic_row, kept_row, fresh_row, declared_row, with_applicant, left_row, heard_row, after_declare, after_withdraw, after_leave, after_hear, Ascends, key_of, find, put, AreRows, rows_hearing, rows_after_receive, leave_timers_state, leave_all_state, due_leave_all_state, periodic_fired_state, due_state, is_leave_all_due, is_periodic_due}
 use Rattle.mrp_participant.specs.State.{State}
 use Rattle.mrp_participant.proofs.Lookups.{Fits, AreRows-put, find-fits, Each-mapped, Each-kept, Ascends-kept}
 
@@ -26,21 +26,11 @@ module _ {K C : Type 0} where
 
   declared-live_by : (eq : C → C → Bool) (c : C) (r : Row K C) (a : Applicant) → is_live (declared_row eq c (with_applicant a r)) ≡ true
   declared-live_by eq c r Vo = refl
-  declared-live_by eq c r Vp = elim (eq r.content c) as
-      (λ b. is_live (if b then with_applicant Vp r else record r { applicant = Vn; content = c })
-      ≡ true) [ true ↦ refl | false ↦ refl ]
-  declared-live_by eq c r Vn = elim (eq r.content c) as
-      (λ b. is_live (if b then with_applicant Vn r else record r { applicant = Vn; content = c })
-      ≡ true) [ true ↦ refl | false ↦ refl ]
-  declared-live_by eq c r An = elim (eq r.content c) as
-      (λ b. is_live (if b then with_applicant An r else record r { applicant = Vn; content = c })
-      ≡ true) [ true ↦ refl | false ↦ refl ]
-  declared-live_by eq c r Aa = elim (eq r.content c) as
-      (λ b. is_live (if b then with_applicant Aa r else record r { applicant = Vn; content = c })
-      ≡ true) [ true ↦ refl | false ↦ refl ]
-  declared-live_by eq c r Qa = elim (eq r.content c) as
-      (λ b. is_live (if b then with_applicant Qa r else record r { applicant = Vn; content = c })
-      ≡ true) [ true ↦ refl | false ↦ refl ]
+  declared-live_by eq c r Vp = grind arith
+  declared-live_by eq c r Vn = grind arith
+  declared-live_by eq c r An = grind arith
+  declared-live_by eq c r Aa = grind arith
+  declared-live_by eq c r Qa = grind arith
   declared-live_by eq c r La = refl
 
   declared-live : (eq : C → C → Bool) (c : C) (r : Row K C) → is_live (declared_row eq c r) ≡ true
@@ -66,23 +56,18 @@ module _ {K C : Type 0} where
 
   pub registrar-lives : (event : RegEvent) → KeepsRegistered event → (leave : Cs) (r : Row K C) → is_live r ≡ true
       → is_live (registrar_takes event leave r) ≡ true
-  registrar-lives event keeps leave r live = or-map_right (not (is_observer r.applicant))
-      (registrar.is_registered_in r.registrar) (registrar.is_registered_in (registrar.next event r.registrar))
-      (keeps r.registrar) live
+  registrar-lives event keeps leave r live = grind (arith, or-map_right)
 
   heard-live : (event : MrpEvent) (c : C) (leave : Cs) (r : Row K C) → is_live r ≡ true → is_live (heard_row event c leave r) ≡ true
   heard-live New c leave r live = registrar-lives RxNew new-registers leave r live
-  heard-live JoinIn c leave r live = applicant-lives RxIn in-keeps (with_heard c (registrar_takes RxJoin leave r))
-      (registrar-lives RxJoin join-registers leave r live)
+  heard-live JoinIn c leave r live = grind (arith, applicant-lives, in-keeps, registrar-lives, join-registers)
   heard-live OnlyIn c leave r live = applicant-lives RxIn in-keeps r live
-  heard-live JoinMt c leave r live = applicant-lives RxMt mt-keeps (with_heard c (registrar_takes RxJoin leave r))
-      (registrar-lives RxJoin join-registers leave r live)
+  heard-live JoinMt c leave r live = grind (arith, applicant-lives, mt-keeps, registrar-lives, join-registers)
   heard-live OnlyMt c leave r live = applicant-lives RxMt mt-keeps r live
   heard-live Lv c leave r live = applicant-lives AppRxLv lv-keeps (registrar_takes RegRxLv leave r) (registrar-lives RegRxLv lv-registers leave r live)
 
   pub leave_all-live : (leave : Cs) (r : Row K C) → is_live r ≡ true → is_live (leave_all_row leave r) ≡ true
-  leave_all-live leave r live = applicant-lives AppRxLeaveAll leave_all-keeps (registrar_takes RegRxLeaveAll leave r)
-      (registrar-lives RegRxLeaveAll leave_all-registers leave r live)
+  leave_all-live leave r live = grind (arith, applicant-lives, leave_all-keeps, registrar-lives, leave_all-registers)
 
   pub periodic-live : (r : Row K C) → is_live r ≡ true → is_live (periodic_row r) ≡ true
   periodic-live r live = applicant-lives Periodic periodic-keeps r live
@@ -204,8 +189,7 @@ module _ {K C : Type 0} {cmp : K → K → Ordering} (o : IsTotalOrder cmp) wher
 
   pub AreRows-receive : (leave : Cs) (leave_all : Bool) (events : List (MrpEvent × K × C)) (rows : List (Row K C))
       → AreRows cmp rows → AreRows cmp (rows_after_receive cmp leave leave_all events rows)
-  AreRows-receive leave leave_all events rows are = AreRows-fold leave events
-      (if leave_all then map (leave_all_row leave) rows else rows) (AreRows-leave_all cmp leave rows leave_all are)
+  AreRows-receive leave leave_all events rows are = grind (arith, AreRows-fold, AreRows-leave_all)
 
 -- ---- rows that go where an event leaves nothing of them
 

@@ -1,9 +1,8 @@
 -- Calls at one key that change nothing.
-use Rattle.std.proofs.Common.{◌≡◌, Bool, true, false, if◌then◌else◌, List, [], ◌∷◌, refl, sym, ap, ◌∙◌, OnOk, OnErr}
+use Rattle.std.proofs.Common.{◌≡◌, Bool, true, false, if◌then◌else◌, List, [], ◌∷◌, refl, ap, ◌∙◌, OnOk, OnErr, arith}
 use Rattle.std.specs.{declared.option.Option.Option, declared.option.Option.TheVariants.None, declared.option.Option.TheVariants.Some, declared.result.Result.Result, declared.result.Result.TheVariants.Ok, declared.result.Result.TheVariants.Err, declared.cmp.Ordering.Ordering, declared.cmp.Ordering.TheVariants.Less, declared.cmp.Ordering.TheVariants.Equal, declared.cmp.Ordering.TheVariants.Greater, Ordering.is_eq, Ordering.ordering_reverse, Cmp.IsTotalOrder, Cmp.IsEquivalence, List.cons_option}
 use Rattle.applicant.specs.declared.Applicant.{Applicant}
 use Rattle.applicant.specs.declared.Applicant.TheVariants.{Vo, Vp, Vn, An, Aa, Qa, La}
-use Rattle.applicant.specs.Table as applicant
 use Rattle.registrar.specs.declared.Registrar.{Registrar}
 use Rattle.registrar.specs.declared.Registrar.TheVariants.{Held, Leaving, Empty}
 use Rattle.mrp_participant.specs.declared.row.Row.{Row}
@@ -42,9 +41,7 @@ module _ {K C : Type 0} where
 
   same-declared : (eq : C → C → Bool) → IsEquivalence eq → (k : K) (c : C) (old : Option (Row K C)) → declared_in old ≡ Some c → after_declare eq k c old ≡ old
   same-declared eq laws k c None h = cc
-  same-declared eq laws k c (Some r) h =
-      let at = declared_true (applicant.is_declared_in r.applicant) r.content c h in
-      ap Some (first_of r _ _ (applicant.is_declared_in r.applicant) (eq r.content c) at.0 (ap (eq r.content) (sym at.1) ∙ laws.refl r.content))
+  same-declared eq laws k c (Some r) h = grind (arith, first_of)
 
   undeclared_by : (r : Row K C) (a : Applicant) → declared_in (Some (with_applicant a r)) ≡ None
       → after_withdraw (Some (with_applicant a r)) ≡ Some (with_applicant a r)

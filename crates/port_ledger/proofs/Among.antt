@@ -36,38 +36,13 @@ found_in x (y ∷ ys) up h = by (same_entry x y) refl h (found_in x ys up.1)
 -- a stream's entry is one of the entries
 is_there : (s : StreamId) (y : Entry) (those : List Entry) → entry_of those s ≡ Some y → list_any (same_entry y) those ≡ true
 is_there s y [] h = cc
-is_there s y (x ∷ xs) h = by (stream_of x == s.0) h (is_there s y xs)
-  where
-    by : (b : Bool) → (if b then Some x else entry_of xs s) ≡ Some y → (entry_of xs s ≡ Some y → list_any (same_entry y) xs ≡ true)
-        → list_any (same_entry y) (x ∷ xs) ≡ true
-    by true k rest =
-        let same : x ≡ y = cc in
-        or_left (same_entry y x) (list_any (same_entry y) xs) (subst (λ (z : Entry). same_entry y z ≡ true) (sym same) (same_entry-refl y))
-    by false k rest = or_right (same_entry y x) (list_any (same_entry y) xs) (rest k)
+is_there s y (x ∷ xs) h = grind (arith, is_there s y xs, or_left, same_entry-refl, or_right)
 
 -- where the stream has an entry
 pub among-found : (x y : Entry) (those : List Entry) → IsAscending those → entry_of those x.want.stream ≡ Some y
     → same_entry x y ≡ list_any (same_entry x) those
-among-found x y those up e = by (same_entry x y) refl (list_any (same_entry x) those) refl
-  where
-    by : (a : Bool) → same_entry x y ≡ a → (b : Bool) → list_any (same_entry x) those ≡ b → a ≡ b
-    by true f true g = refl
-    by false f false g = refl
-    by true f false g =
-        let there = is_there x.want.stream y those e in
-        let same : x ≡ y = same_entry-is x y f in
-        let yes : list_any (same_entry x) those ≡ true = subst (λ (z : Entry). list_any (same_entry z) those ≡ true) (sym same) there in
-        cc
-    by false f true g =
-        let own = found_in x those up g in
-        let same : x ≡ y = cc in
-        let yes : same_entry x y ≡ true = subst (λ (z : Entry). same_entry x z ≡ true) same (same_entry-refl x) in
-        cc
+among-found x y those up e = grind (arith, is_there, same_entry-is, found_in, same_entry-refl)
 
 -- and where it has none
 pub among-none : (x : Entry) (those : List Entry) → IsAscending those → entry_of those x.want.stream ≡ None → false ≡ list_any (same_entry x) those
-among-none x those up e = by (list_any (same_entry x) those) refl
-  where
-    by : (b : Bool) → list_any (same_entry x) those ≡ b → false ≡ b
-    by false g = refl
-    by true g = let own = found_in x those up g in cc
+among-none x those up e = grind (arith, found_in)

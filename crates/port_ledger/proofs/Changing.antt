@@ -7,7 +7,7 @@ use Rattle.srp_base.proofs.Lists.{each_append as all_join}
 use Rattle.srp_base.specs.declared.{bandwidth.Class.TheVariants.A, bandwidth.Class.TheVariants.B, numbers.StreamId.StreamId}
 use Rattle.stream_importance.specs.declared.{entry.Entry.Entry, entry.Want.Want, slope.Caps.Caps}
 use Rattle.stream_importance.specs.Importance.{is_more_important, moment_or, IsImportanceOrder}
-use Rattle.port_ledger.specs.{Standing, booked_slope, entry_of, has_new_booking, unbooked_entry, with_want, without, stream_of, comes_after, does_fit, is_booked, marked_set, marks_of, AreOfDifferentStreams, IsAscending, AreBehind, ArePriorTo, IsAhead, IsBehind, IsFront, IsOrdered, IsOrderedBook, IsSettled, later_standing, Runs, same_level, exchanged, has_want, totals_of}
+use Rattle.port_ledger.specs.{Standing, booked_slope, entry_of, has_new_booking, unbooked_entry, with_want, without, stream_of, comes_after, does_fit, is_booked, marked_set, marks_of, AreOfDifferentStreams, IsAscending, AreBehind, ArePriorTo, IsAhead, IsBehind, IsFront, IsOrdered, IsOrderedBook, IsSettled, later_standing, same_level, exchanged, has_want, totals_of}
 use Rattle.port_ledger.specs.declared.totals.Totals.{Totals}
 use Rattle.port_ledger.specs.Book.{Book}
 use Rattle.port_ledger.proofs.{Deciding.different_right, Fronts.seam-take, Keeping.all-without, Keeping.ascending-with_want, Keeping.ascending-without, Keeping.moments-with_want, Marking.choice_above, Marking.different_from_ascending, Marking.marked-map, Moving.with_want_exchanged, Moving.without_permuted, Ranking.all_permuted, Ranking.different_permuted, Ranking.holds_permuted, Running.all_with, Running.Holds, Settling.all_left, Settling.runs_front, Settling.settled_later, Settling.settled_seam, TotalsLemmas.new_any, TotalsLemmas.slope-permuted, TotalsLemmas.totals_fit, TotalsLemmas.totals_later, TotalsLemmas.totals-permuted}
@@ -64,9 +64,7 @@ behind_new now x f ne prior =
 
 without_front : (s : StreamId) (f r : List Entry) → AllByRecursion (λ y. stream_of y ≢ s.0) f → without (f ++ r) s ≡ f ++ without r s
 without_front s [] r ne = refl
-without_front s (x ∷ f) r ne =
-    ap (λ v. cond (not v) (x ∷ without (f ++ r) s) (without (f ++ r) s)) (ne_eqb (stream_of x) s.0 ne.0)
-    ∙ ap (λ ys. x ∷ ys) (without_front s f r ne.1)
+without_front s (x ∷ f) r ne = grind (arith, without_front s f r ne.1, ne_eqb)
 
 -- ---- what holds of every ledger
 
@@ -128,19 +126,7 @@ module _ (now : ℕ) (o : IsImportanceOrder now) (caps : Caps) (standing : Stand
 
     front_of : (front : Totals) (later rest : List Entry) → front ≡ totals_of now f → IsAscending later → AllByRecursion (λ x. moment_or now x.since ≤ now) later
         → IsPermutation later (f ++ rest) → AllByRecursion (IsBehind now f) rest → IsFront now caps place front later (f ++ rest)
-    front_of front later rest e up moments same behind =
-        let cut : take place (f ++ rest) ≡ f = seam-take place order rest book_place in
-        let long : length f ≡ place = length-take-le place order book_place in
-        record {
-          ascending = up;
-          shares = h.kept.shares;
-          range = h.range;
-          moments = moments;
-          same = same;
-          settled = settled_seam now place f rest long (record { lasting = is_ahead.lasting; behind = behind });
-          stays = subst (λ (ys : List Entry). Runs caps 0 is_booked ys) (sym cut) (runs_front now o caps 0 is_booked f r is_ahead all_holds);
-          totals = e ∙ ap (totals_of now) (sym cut);
-        }
+    front_of front later rest e up moments same behind = grind (arith, seam-take, book_place, length-take-le, settled_seam, runs_front, is_ahead, all_holds)
 
     -- of a stream whose entry goes, or that has none, nothing stands in the front
     pub front_apart : (s : StreamId) (goes : Option Entry) → entry_of es s ≡ goes → ArePriorTo now goes f → AllByRecursion (λ y. stream_of y ≢ s.0) f
@@ -193,5 +179,4 @@ less_test a b h = grind (arith, nat_tests)
 
 pub new_shown : (now : ℕ) (book : Book) (t : Totals) → t ≡ totals_of book.moment book.entries → nat_lt book.moment now ≡ true
     → nat_lt 0 t.new_count ≡ (nat_lt book.moment now && has_new_booking book)
-new_shown now book t e lt =
-    ap (λ (u : Totals). nat_lt 0 u.new_count) e ∙ (new_any book.moment book.entries ∙ ap (λ v. v && has_new_booking book) (sym lt))
+new_shown now book t e lt = grind (arith, new_any)

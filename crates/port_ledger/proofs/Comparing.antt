@@ -1,5 +1,5 @@
 -- When two booked sets are the same, and what then is the same.
-use Rattle.std.proofs.Common.{Result, Ok, Err, IfOk, ◌≡◌, ◌↔◌, ℕ, ◌<◌, Bool, true, false, not, ◌||◌, ◌&&◌, cond, List, [], ◌∷◌, map, filter, refl, sym, ◌∙◌, ap, subst, arith, inl, inr, true≢false}
+use Rattle.std.proofs.Common.{Result, Ok, Err, IfOk, ◌≡◌, ◌↔◌, ℕ, ◌<◌, true, false, not, ◌||◌, ◌&&◌, cond, List, [], ◌∷◌, map, filter, refl, sym, ◌∙◌, ap, subst, arith, inl, inr, true≢false}
 use Rattle.std.specs.List.{AllByRecursion, list_any}
 use Rattle.std.proofs.lemmas.Bool.{cases_Bool, or_left, or_right}
 use Rattle.stream_importance.specs.declared.entry.Entry.{Entry}
@@ -9,35 +9,20 @@ use Rattle.port_ledger.proofs.{Finding.differ, PerStream.same_entry-is, PerStrea
 -- a fact of each entry is one of each booked entry
 pub all_booked : (P : Entry → Type 0) (xs : List Entry) → AllByRecursion P xs → AllByRecursion P (booked_of xs)
 all_booked P [] h = tt
-all_booked P (x ∷ xs) h =
-    elim (is_booked x) as (λ v. AllByRecursion P (cond v (x ∷ booked_of xs) (booked_of xs))) [ true ↦ (h.0, all_booked P xs h.1) | false ↦ all_booked P xs h.1 ]
+all_booked P (x ∷ xs) h = grind (arith, all_booked P xs h.1)
 
 pub ascending-booked : (xs : List Entry) → IsAscending xs → IsAscending (booked_of xs)
 ascending-booked [] up = tt
-ascending-booked (x ∷ xs) up =
-    elim (is_booked x) as (λ v. IsAscending (cond v (x ∷ booked_of xs) (booked_of xs))) [
-      | true ↦ (all_booked (λ y. stream_of x < stream_of y) xs up.0, ascending-booked xs up.1)
-      | false ↦ ascending-booked xs up.1
-    ]
+ascending-booked (x ∷ xs) up = grind (arith, ascending-booked xs up.1, all_booked)
 
 -- among the booked ones a booked entry is found where it is found among all
 same_booked : (x y : Entry) → is_booked x ≡ true → is_booked y ≡ false → same_entry x y ≡ false
-same_booked x y h k =
-    elim (cases_Bool (same_entry x y)) [
-      | inl e ↦ absurd (true≢false (sym h ∙ (ap is_booked (same_entry-is x y e) ∙ k)))
-      | inr e ↦ e
-    ]
+same_booked x y h k = grind (arith, cases_Bool, same_entry-is)
 
 found_booked : (x : Entry) (ys : List Entry) → is_booked x ≡ true
     → list_any (same_entry x) (booked_of ys) ≡ list_any (same_entry x) ys
 found_booked x [] h = refl
-found_booked x (y ∷ ys) h =
-    elim (cases_Bool (is_booked y)) [
-      | inl k ↦ ap (λ v. list_any (same_entry x) (cond v (y ∷ booked_of ys) (booked_of ys))) k ∙ ap (λ v. same_entry x y || v) (found_booked x ys h)
-      | inr k ↦
-          ap (λ v. list_any (same_entry x) (cond v (y ∷ booked_of ys) (booked_of ys))) k
-          ∙ (found_booked x ys h ∙ ap (λ v. v || list_any (same_entry x) ys) (sym (same_booked x y h k)))
-    ]
+found_booked x (y ∷ ys) h = grind (arith, found_booked x ys h, cases_Bool, same_booked)
 
 -- what these have booked and those haven't, as a list of entries
 abbrev pub only_in : List Entry → List Entry → List Entry
@@ -45,16 +30,7 @@ only_in these those = filter (λ x. is_booked x && not (list_any (same_entry x) 
 
 only_in-booked : (these those : List Entry) → only_in (booked_of these) (booked_of those) ≡ only_in these those
 only_in-booked [] those = refl
-only_in-booked (x ∷ xs) those =
-    elim (cases_Bool (is_booked x)) [
-      | inl h ↦
-          ap (λ v. only_in (cond v (x ∷ booked_of xs) (booked_of xs)) (booked_of those)) h
-          ∙ (ap (λ v. cond (is_booked x && not v) (x ∷ only_in (booked_of xs) (booked_of those)) (only_in (booked_of xs) (booked_of those))) (found_booked x those h)
-          ∙ ap (λ ys. cond (is_booked x && not (list_any (same_entry x) those)) (x ∷ ys) ys) (only_in-booked xs those))
-      | inr h ↦
-          ap (λ v. only_in (cond v (x ∷ booked_of xs) (booked_of xs)) (booked_of those)) h
-          ∙ (only_in-booked xs those ∙ ap (λ v. cond (v && not (list_any (same_entry x) those)) (x ∷ only_in xs those) (only_in xs those)) (sym h))
-    ]
+only_in-booked (x ∷ xs) those = grind (arith, only_in-booked xs those, cases_Bool, found_booked)
 
 pub booked_only_in-booked : (these those : List Entry)
     → booked_only_in (booked_of these) (booked_of those) ≡ booked_only_in these those
@@ -66,21 +42,12 @@ AreIn those these = AllByRecursion (λ x. list_any (same_entry x) those ≡ true
 
 pub in_own : (xs : List Entry) → AreIn xs xs
 in_own [] = tt
-in_own (x ∷ xs) = (
-  or_left (same_entry x x) (list_any (same_entry x) xs) (same_entry-refl x),
-  all_with xs (in_own xs) (in_own xs) (λ y h _. or_right (same_entry y x) (list_any (same_entry y) xs) h),
-)
+in_own (x ∷ xs) = grind (arith, in_own xs, or_left, same_entry-refl, all_with, or_right)
 
 -- nothing of these is missing among those exactly where each is among them
 none_missing : (those these : List Entry) → AreIn those these → only_in these those ≡ []
 none_missing those [] h = refl
-none_missing those (x ∷ xs) h =
-    ap (λ v. cond (is_booked x && not v) (x ∷ only_in xs those) (only_in xs those)) h.0
-    ∙ (and_false (is_booked x) (only_in xs those) x ∙ none_missing those xs h.1)
-  where
-    and_false : (v : Bool) (ys : List Entry) (y : Entry) → cond (v && false) (y ∷ ys) ys ≡ ys
-    and_false true ys y = refl
-    and_false false ys y = refl
+none_missing those (x ∷ xs) h = grind (arith, none_missing those xs h.1)
 
 all_in : (those these : List Entry) → AllByRecursion (λ x. is_booked x ≡ true) these → map (λ (x : Entry). x.want.stream) (only_in these those) ≡ []
     → AreIn those these
@@ -101,12 +68,7 @@ all_in those (x ∷ xs) booked h =
 
 all_of_booked : (xs : List Entry) → AllByRecursion (λ x. is_booked x ≡ true) (booked_of xs)
 all_of_booked [] = tt
-all_of_booked (x ∷ xs) = by_test (is_booked x) refl (all_of_booked xs)
-  where
-    by_test : (v : Bool) → is_booked x ≡ v → AllByRecursion (λ y. is_booked y ≡ true) (booked_of xs)
-        → AllByRecursion (λ y. is_booked y ≡ true) (cond v (x ∷ booked_of xs) (booked_of xs))
-    by_test true e rest = (e, rest)
-    by_test false e rest = rest
+all_of_booked (x ∷ xs) = grind (arith, all_of_booked xs)
 
 -- an entry that is found lies behind what all lie behind
 found_behind : (n : ℕ) (x : Entry) (ys : List Entry) → AllByRecursion (λ y. n < stream_of y) ys

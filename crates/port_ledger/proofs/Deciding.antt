@@ -14,20 +14,14 @@ abbrev pub taken : List Entry → ℕ
 taken xs = part is_booked (is_of A) xs + part is_booked (is_of B) xs
 
 taken-cons : (x : Entry) (xs : List Entry) (sum : ℕ) → sum + cond (is_booked x) (entry_slope x) 0 + taken xs ≡ sum + taken (x ∷ xs)
-taken-cons x xs sum =
-    let parts = class_parts x.want.class (entry_slope x) (is_booked x) in
-    omega (arith, parts)
+taken-cons x xs sum = grind (arith, class_parts)
 
 pub taken-slopes : (xs : List Entry) → booked_slope xs A + booked_slope xs B ≡ taken xs
-taken-slopes xs =
-    let a = sum-filter is_booked (is_of A) xs in
-    let b = sum-filter is_booked (is_of B) xs in
-    omega (arith, a, b)
+taken-slopes xs = grind (arith, sum-filter, is_of)
 
 sum_on : (caps : Caps) (start : ℕ) (x : Entry) (f : List Entry) → is_booked x ≡ has_room caps start x
     → sum_with start x (has_room caps start x) + taken f ≡ start + taken (x ∷ f)
-sum_on caps start x f e =
-    ap (λ n. n + taken f) (sum_with-cond start x (has_room caps start x) ∙ ap (λ v. start + cond v (entry_slope x) 0) (sym e)) ∙ taken-cons x f start
+sum_on caps start x f e = grind (arith, sum_with-cond, taken-cons)
 
 -- an entry whose booking stands keeps its moment
 keeps : (now : ℕ) (caps : Caps) (start : ℕ) (x : Entry) → is_booked x ≡ has_room caps start x → since_after now x.since (has_room caps start x) ≡ x.since

@@ -1,13 +1,12 @@
 -- Where a stream stands in a list that ascends by StreamID, and whether it is among chosen ones.
-use Rattle.std.proofs.Common.{◌≡◌, ◌≢◌, ℕ, zero, suc, ◌+◌, ◌<◌, ◌≤◌, Bool, false, ◌==◌, ◌&&◌, cond, List, [], ◌∷◌, ◌++◌, length, get_or, take, drop, set, Some, None, Result, Ok, Err, refl, sym, ◌∙◌, ap, arith, inl, inr, IfOk, IfErr}
+use Rattle.std.proofs.Common.{◌≡◌, ◌≢◌, ℕ, zero, suc, ◌<◌, ◌≤◌, false, ◌==◌, List, [], ◌∷◌, ◌++◌, length, get_or, take, drop, set, Some, None, Result, Ok, Err, refl, sym, ◌∙◌, ap, arith, inl, inr, IfOk, IfErr}
 use Rattle.std.specs.Prelude.{find, nat_lt}
 use Rattle.std.specs.{Ordering.nat_cmp, Ordering.is_lt, declared.cmp.Ordering.TheVariants.Less, declared.cmp.Ordering.TheVariants.Greater, List.AllByRecursion, List.AllWithin, List.HoldsAt, List.list_any, List.Sorted.IsBinarySearchResult, List.Sorted.IsSearchInRange, List.Sorted.IsSortedBy}
 use Rattle.std.proofs.lemmas.{Bool.eq-eqb, Bool.ne_eqb, Bool.cases_lt, Bool.lt-ltb, Bool.le-ltb, Bool.or_from, Bool.and_left, Bool.cond-true, Bool.cond-false, Bool.Decides.nat_tests, Cmp.nat_cmp_total, List.Recursion.found_at, List.Recursion.found_nowhere, List.Sorted.searchable_from_sorted, List.Elements.All-from_recursion}
 use Rattle.srp_base.proofs.Arithmetic.{same_number as equal_is}
 use Rattle.srp_base.specs.declared.{bandwidth.Class.TheVariants.A, bandwidth.Rank.TheVariants.Emergency, numbers.StreamId.StreamId}
 use Rattle.stream_importance.specs.declared.{entry.Entry.Entry, entry.Want.Want}
-use Rattle.stream_importance.specs.Importance.{class_number, rank_number}
-use Rattle.port_ledger.specs.{stream_of, IsAscending, entry_of, entry_with, unbooked_entry, with_want, same_want, same_since, same_entry}
+use Rattle.port_ledger.specs.{stream_of, IsAscending, entry_of, entry_with, unbooked_entry, with_want, same_entry}
 
 -- of two places the earlier has the lower StreamID
 pub ascending_at : (xs : List Entry) → IsAscending xs → (i j : ℕ) (d : Entry) → i < j → j < length xs
@@ -19,9 +18,7 @@ ascending_at (x ∷ xs) up (suc i) (suc j) d l k = ascending_at xs up.1 i j d (o
 
 sorted_from_ascending : (xs : List Entry) → IsAscending xs
     → IsSortedBy (λ a b. is_lt (nat_cmp (stream_of a) (stream_of b))) xs
-sorted_from_ascending xs up k d low high =
-    let l : stream_of (get_or xs k d) < stream_of (get_or xs (k + 1) d) = ascending_at xs up k (k + 1) d (omega arith) high in
-    grind (arith, nat_tests)
+sorted_from_ascending xs up k d low high = grind (arith, ascending_at, nat_tests)
 
 less_is : (a b : ℕ) → nat_cmp a b ≡ Less → a < b
 less_is a b h = grind (arith, nat_tests)
@@ -66,8 +63,7 @@ missing_is xs stream i low high =
 -- a stream below all of the entries has none of them
 pub none_of : (s : StreamId) (xs : List Entry) → AllByRecursion (λ y. s.0 < stream_of y) xs → entry_of xs s ≡ None
 none_of s [] h = refl
-none_of s (x ∷ xs) h =
-    ap (λ v. cond v (Some x) (entry_of xs s)) (ne_eqb (stream_of x) s.0 (λ e. let l : s.0 < stream_of x = h.0 in omega (arith, e, l))) ∙ none_of s xs h.1
+none_of s (x ∷ xs) h = grind (arith, none_of s xs h.1, ne_eqb)
 
 -- the first place of a list with a want, by how its StreamID compares
 pub with_want-lower : (x : Entry) (xs : List Entry) (want : Want) → want.stream.0 < stream_of x
@@ -76,24 +72,18 @@ with_want-lower x xs want l = cond-true (nat_lt want.stream.0 (stream_of x)) _ _
 
 pub with_want-same : (x : Entry) (xs : List Entry) (want : Want) → stream_of x ≡ want.stream.0
     → with_want (x ∷ xs) want ≡ entry_with x want ∷ xs
-with_want-same x xs want e =
-    cond-false (nat_lt want.stream.0 (stream_of x)) _ _ (le-ltb want.stream.0 (stream_of x) (omega (arith, e)))
-    ∙ cond-true (want.stream.0 == stream_of x) _ _ (eq-eqb want.stream.0 (stream_of x) (sym e))
+with_want-same x xs want e = grind (arith, cond-false, le-ltb, cond-true, eq-eqb)
 
 pub with_want-higher : (x : Entry) (xs : List Entry) (want : Want) → stream_of x < want.stream.0
     → with_want (x ∷ xs) want ≡ x ∷ with_want xs want
-with_want-higher x xs want l =
-    cond-false (nat_lt want.stream.0 (stream_of x)) _ _ (le-ltb want.stream.0 (stream_of x) (omega (arith, l)))
-    ∙ cond-false (want.stream.0 == stream_of x) _ _ (ne_eqb want.stream.0 (stream_of x) (λ e. omega (arith, e, l)))
+with_want-higher x xs want l = grind (arith, cond-false, le-ltb, ne_eqb)
 
 -- a want at the place of its stream's entry
 pub with_want-found : (xs : List Entry) (want : Want) (i : ℕ) (d : Entry) → IsAscending xs → i < length xs
     → stream_of (get_or xs i d) ≡ want.stream.0 → set xs i (entry_with (get_or xs i d) want) ≡ with_want xs want
 with_want-found [] want i d up l e = absurd (omega (arith, l))
 with_want-found (x ∷ xs) want zero d up l e = sym (with_want-same x xs want e)
-with_want-found (x ∷ xs) want (suc i) d up l e =
-    let below : stream_of x < stream_of (get_or xs i d) = All-from_recursion (λ y. stream_of x < stream_of y) xs up.0 i d (omega (arith, l)) in
-    ap (λ ys. x ∷ ys) (with_want-found xs want i d up.1 (omega (arith, l)) e) ∙ sym (with_want-higher x xs want (omega (arith, below, e)))
+with_want-found (x ∷ xs) want (suc i) d up l e = grind (arith, with_want-found xs want i d up.1 (omega (arith, l)) e, All-from_recursion, with_want-higher)
 
 -- and where its stream has none
 pub with_want-missing : (xs : List Entry) (want : Want) (i : ℕ) → i ≤ length xs
@@ -109,16 +99,9 @@ with_want-missing (x ∷ xs) want (suc i) l low high =
 
 -- entries of other streams are others
 pub differ : (x y : Entry) → stream_of x ≢ stream_of y → same_entry x y ≡ false
-differ x y ne =
-    let streams : Bool = stream_of x == stream_of y in
-    let classes : Bool = class_number x.want.class == class_number y.want.class in
-    let ranks : Bool = rank_number x.want.rank == rank_number y.want.rank in
-    and_left (same_want x.want y.want) (same_since x.since y.since)
-    (and_left (streams && classes && ranks) (x.want.slope == y.want.slope)
-    (and_left (streams && classes) ranks (and_left streams classes (ne_eqb (stream_of x) (stream_of y) ne))))
+differ x y ne = grind (arith, and_left, ne_eqb)
 
 pub others_differ : (x : Entry) (xs : List Entry) → AllByRecursion (λ y. stream_of x < stream_of y) xs
     → list_any (same_entry x) xs ≡ false
 others_differ x [] h = refl
-others_differ x (y ∷ ys) h =
-    or_from (same_entry x y) (list_any (same_entry x) ys) (differ x y (λ e. let l : stream_of x < stream_of y = h.0 in omega (arith, e, l))) (others_differ x ys h.1)
+others_differ x (y ∷ ys) h = grind (arith, others_differ x ys h.1, or_from, differ)

@@ -1,13 +1,13 @@
 -- What leaves a fit as it was.
-use Rattle.std.proofs.Common.{◌≡◌, ◌≢◌, ℕ, ◌+◌, ◌<◌, ◌≤◌, Bool, true, false, not, ◌==◌, ◌&&◌, cond, if◌then◌else◌, List, [], ◌∷◌, filter, sum_by, Option, Some, None, option_and_then, is_some, IfSome, refl, sym, ◌∙◌, ap, subst, arith, inl, inr, zero-add}
-use Rattle.std.specs.Prelude.{nat_le, nat_lt}
-use Rattle.std.specs.{Ordering.nat_cmp, Ordering.is_lt, Ordering.ordering_then, List.AllByRecursion, List.list_any}
+use Rattle.std.proofs.Common.{◌≡◌, ◌≢◌, ℕ, ◌<◌, ◌≤◌, Bool, true, false, ◌==◌, ◌&&◌, cond, if◌then◌else◌, List, [], ◌∷◌, filter, sum_by, Option, Some, None, option_and_then, is_some, IfSome, refl, sym, ◌∙◌, ap, subst, arith, inl, inr, zero-add}
+use Rattle.std.specs.Prelude.{nat_lt}
+use Rattle.std.specs.{List.AllByRecursion, List.list_any}
 use Rattle.std.proofs.lemmas.{Bool.cases_Bool, Bool.cases_order, Bool.cases_lt, Bool.eqb-true, Bool.eqb-false, Bool.lt-ltb, Bool.or_parts, List.Sums.sum_by-cons}
 use Rattle.srp_base.proofs.Arithmetic.{less_is_below}
 use Rattle.srp_base.specs.declared.{numbers.Cs.Cs, numbers.StreamId.StreamId}
-use Rattle.stream_importance.specs.declared.{entry.Entry.Entry, entry.Want.Want, entry.Fit.TheVariants.Fits, entry.Fit.TheVariants.TooLittle, slope.Caps.Caps}
-use Rattle.stream_importance.specs.{Bandwidth.cap_of, Importance.class_number, Importance.rank_number, Importance.moment_or}
-use Rattle.port_ledger.specs.{stream_of, entry_slope, above, booked_of, does_fit, is_booked, comes_after, IsAscending, IsKept, code_of, entry_of, fit_for, fit_in, has_new_booking, is_normal, is_since, since_if_same, since_of, same_want, tested_entry, normal_slope_before, slope_before}
+use Rattle.stream_importance.specs.declared.{entry.Entry.Entry, entry.Want.Want, slope.Caps.Caps}
+use Rattle.stream_importance.specs.{Importance.moment_or}
+use Rattle.port_ledger.specs.{stream_of, entry_slope, above, booked_of, is_booked, comes_after, IsAscending, IsKept, entry_of, fit_for, fit_in, has_new_booking, is_normal, is_since, since_if_same, since_of, tested_entry, normal_slope_before, slope_before}
 use Rattle.port_ledger.specs.Book.{Book}
 use Rattle.port_ledger.proofs.{Comparing.all_booked, Finding.none_of, Rounds.filter_agree, Running.all_with}
 
@@ -16,12 +16,7 @@ abbrev tested_since : Want → Option Entry → Option Cs
 tested_since want o = option_and_then (λ x. since_if_same x want) o
 
 unbooked_since : (want : Want) (x : Entry) → is_booked x ≡ false → since_if_same x want ≡ None
-unbooked_since want x h = by_since x.since (same_want x.want want) h
-  where
-    by_since : (o : Option Cs) (v : Bool) → is_some o ≡ false → cond v o None ≡ None
-    by_since None true h = refl
-    by_since None false h = refl
-    by_since (Some c) v h = cc
+unbooked_since want x h = grind (arith)
 
 -- it is that of the booked entry
 tested_booked : (want : Want) (xs : List Entry) → IsAscending xs
@@ -88,16 +83,7 @@ all_before moment (x ∷ xs) h none =
 -- such a booking goes before a want alike at every later moment
 same_preceded : (moment now : ℕ) (x y : Entry) → moment ≤ now → IsBefore moment y.since
     → comes_after now x y ≡ comes_after moment x y
-same_preceded moment now x y up before =
-    ap (λ o. not (stream_of y == stream_of x) && is_lt
-    (ordering_then (nat_cmp (class_number y.want.class) (class_number x.want.class))
-    (ordering_then (nat_cmp (rank_number y.want.rank) (rank_number x.want.rank)) (ordering_then o (nat_cmp (stream_of y) (stream_of x))))))
-    (by_since y.since x.since before)
-  where
-    by_since : (a b : Option Cs) → IsBefore moment a → nat_cmp (moment_or now a) (moment_or now b) ≡ nat_cmp (moment_or moment a) (moment_or moment b)
-    by_since None b h = absurd h
-    by_since (Some a) (Some b) h = refl
-    by_since (Some a) None h = less_is_below a.0 now (omega (arith, h, up)) ∙ sym (less_is_below a.0 moment h)
+same_preceded moment now x y up before = grind (arith, less_is_below)
 
 same_above : (moment now : ℕ) (x : Entry) (set : List Entry) → moment ≤ now
     → AllByRecursion (λ y. IsBefore moment y.since) set → above now x set ≡ above moment x set
@@ -106,18 +92,11 @@ same_above moment now x set up h =
 
 all_filtered : (P : Entry → Type 0) (p : Entry → Bool) (xs : List Entry) → AllByRecursion P xs → AllByRecursion P (filter p xs)
 all_filtered P p [] h = tt
-all_filtered P p (x ∷ xs) h =
-    elim (p x) as (λ v. AllByRecursion P (cond v (x ∷ filter p xs) (filter p xs))) [ true ↦ (h.0, all_filtered P p xs h.1) | false ↦ all_filtered P p xs h.1 ]
+all_filtered P p (x ∷ xs) h = grind (arith, all_filtered P p xs h.1)
 
 same_fit : (moment now : ℕ) (caps : Caps) (set : List Entry) (x : Entry) → moment ≤ now
     → AllByRecursion (λ y. IsBefore moment y.since) set → fit_in now caps set x ≡ fit_in moment caps set x
-same_fit moment now caps set x up h =
-    let all : above now x set ≡ above moment x set = same_above moment now x set up h in
-    let normal : above now x (filter is_normal set) ≡ above moment x (filter is_normal set) =
-    same_above moment now x (filter is_normal set) up (all_filtered (λ y. IsBefore moment y.since) is_normal set h) in
-    ap (λ n. cond (nat_le (n + entry_slope x) (cap_of caps x.want.class)) Fits (TooLittle n (cap_of caps x.want.class) (code_of now caps set x))) all
-    ∙ ap (λ n. cond (does_fit moment caps set x) Fits
-    (TooLittle (above moment x set) (cap_of caps x.want.class) (cond (is_normal x && nat_le (n + entry_slope x) (cap_of caps x.want.class)) 6 1))) normal
+same_fit moment now caps set x up h = grind (arith, same_above, all_filtered)
 
 pub fits_by_clock : (book : Book) (now : ℕ) (want : Want) → IsKept book → book.moment ≤ now
     → (nat_lt book.moment now && has_new_booking book) ≡ false → fit_for now book want ≡ fit_for book.moment book want
@@ -151,12 +130,7 @@ none_ahead moment (x ∷ xs) s h =
 -- what a filter leaves out takes nothing
 sum-kept : (f g : Entry → ℕ) (q : Entry → Bool) → ((y : Entry) → f y ≡ cond (q y) (g y) 0) → (xs : List Entry) → sum_by f xs ≡ sum_by g (filter q xs)
 sum-kept f g q h [] = refl
-sum-kept f g q h (y ∷ ys) =
-    sum_by-cons f y ys ∙ ap (λ n. f y + n) (sum-kept f g q h ys) ∙ ap (λ n. n + sum_by g (filter q ys)) (h y) ∙ by_test (q y)
-  where
-    by_test : (v : Bool) → cond v (g y) 0 + sum_by g (filter q ys) ≡ sum_by g (cond v (y ∷ filter q ys) (filter q ys))
-    by_test true = sym (sum_by-cons g y (filter q ys))
-    by_test false = zero-add (sum_by g (filter q ys))
+sum-kept f g q h (y ∷ ys) = grind (arith, sum-kept f g q h ys, sum_by-cons, zero-add)
 
 module _ (now : ℕ) (x : Entry) where
   abbrev preceding : Entry → ℕ
@@ -171,9 +145,7 @@ module _ (now : ℕ) (x : Entry) where
       ∙ sum-kept preceding entry_slope (comes_after now x) (λ y. refl) (booked_of xs)
 
   either_first : (a b : Bool) (n : ℕ) → cond a (cond b n 0) 0 ≡ cond b (cond a n 0) 0
-  either_first true b n = refl
-  either_first false true n = refl
-  either_first false false n = refl
+  either_first a b n = grind arith
 
   pub normal-summed : (xs : List Entry) → sum_by (normal_slope_before now x) xs ≡ above now x (filter is_normal (booked_of xs))
   normal-summed xs =

@@ -33,11 +33,7 @@ module _ (now : ℕ) (o : IsImportanceOrder now) (caps : Caps) (place : ℕ) (fr
   front_place = h.settled.within
 
   pub front_taken : both_of front < 2 ^ 64
-  front_taken =
-      let within = runs_both caps 0 _ ahead h.shares (omega arith) h.stays in
-      let most = h.range in
-      let is = taken_is in
-      omega (arith, within, most, is)
+  front_taken = grind (arith, runs_both, taken_is)
 
   pub front_different : AreOfDifferentStreams rest
   front_different = rest_different now o caps es ahead rest h.ascending same is_ahead h.stays
@@ -46,13 +42,10 @@ module _ (now : ℕ) (o : IsImportanceOrder now) (caps : Caps) (place : ℕ) (fr
   front_only = rest_only now o caps es ahead rest h.ascending same is_ahead h.stays
 
   pub front_decided : with_pass now caps (both_of front) (importance_order now rest) es ≡ decided_entries now caps es
-  front_decided =
-      ap (λ n. with_pass now caps n (importance_order now rest) es) taken_is ∙ decided_over now o caps es ahead rest h.ascending same is_ahead h.stays
+  front_decided = grind (arith, taken_is, decided_over, same, is_ahead)
 
   later_same : IsPermutation (decided_entries now caps es) (ahead ++ later)
-  later_same =
-      subst (λ (n : ℕ). IsPermutation (decided_entries now caps es) (ahead ++ decided_behind now caps n rest)) (sym taken_is)
-      (after_same now o caps es ahead rest h.ascending same is_ahead h.stays)
+  later_same = grind (arith, taken_is, after_same, same, is_ahead)
 
   pub front_range : booked_slope (ahead ++ later) A + booked_slope (ahead ++ later) B < 2 ^ 64
   front_range =

@@ -1,19 +1,18 @@
 -- What holds of every ledger is kept by a call that decides.
-use Rattle.std.proofs.Common.{◌≡◌, ℕ, ◌<◌, ◌≤◌, Bool, true, false, not, ◌==◌, cond, List, [], ◌∷◌, Option, Some, None, refl, sym, ◌∙◌, ap, subst, arith, inl, inr}
+use Rattle.std.proofs.Common.{◌≡◌, ℕ, ◌<◌, ◌≤◌, Bool, List, [], ◌∷◌, Option, sym, ◌∙◌, ap, subst, arith, inl, inr}
 use Rattle.std.specs.List.{AllByRecursion}
 use Rattle.std.proofs.lemmas.Bool.{cases_order}
 use Rattle.srp_base.specs.declared.{numbers.Cs.Cs, numbers.StreamId.StreamId}
 use Rattle.stream_importance.specs.declared.{entry.Entry.Entry, entry.Fit.Fit, entry.Want.Want, slope.Caps.Caps}
 use Rattle.stream_importance.specs.Importance.{moment_or, IsImportanceOrder}
-use Rattle.port_ledger.specs.{booked_of, stream_of, IsAscending, decided_entries, Decides, marks_of, with_moments, since_after, BookWithRoom, IsKept, clocked_book, fit_in, tested_entry, same_want, unbooked_entry, unwanted_book, wanted_book, entry_with, with_want, without}
+use Rattle.port_ledger.specs.{booked_of, stream_of, IsAscending, decided_entries, Decides, marks_of, with_moments, since_after, BookWithRoom, IsKept, clocked_book, fit_in, tested_entry, unbooked_entry, unwanted_book, wanted_book, entry_with, with_want, without}
 use Rattle.port_ledger.specs.Book.{Book}
 use Rattle.port_ledger.proofs.{Running.all_with, Finding.with_want-lower, Finding.with_want-same, Finding.with_want-higher, Marking.different_from_ascending, Rounds.decided_decides, Standing.book_stands, Standing.decision_settled}
 
 -- a moment that isn't past its ledger's isn't past a later one
 moment_later : (since : Option Cs) (moment now : ℕ) → moment ≤ now → moment_or moment since ≤ moment
     → moment_or now since ≤ now
-moment_later None moment now up h = omega arith
-moment_later (Some c) moment now up h = omega (arith, h, up)
+moment_later since moment now h1 h2 = grind arith
 
 -- what a ledger is seen as has one book
 pub book_is : {v w : BookWithRoom} → v ≡ w → v.book ≡ w.book
@@ -29,19 +28,11 @@ all-with_want : (P : Entry → Type 0) (want : Want) (xs : List Entry) → P (un
     → ((x : Entry) → stream_of x ≡ want.stream.0 → P x → P (entry_with x want)) → AllByRecursion P xs
     → AllByRecursion P (with_want xs want)
 all-with_want P want [] new more h = (new, tt)
-all-with_want P want (x ∷ xs) new more h =
-    elim (cases_order want.stream.0 (stream_of x)) [
-      | inl e ↦ subst (λ (ys : List Entry). AllByRecursion P ys) (sym (with_want-same x xs want (sym e))) (more x (sym e) h.0, h.1)
-      | inr c ↦ elim c [
-        | inl l ↦ subst (λ (ys : List Entry). AllByRecursion P ys) (sym (with_want-lower x xs want l)) (new, h)
-        | inr l ↦ subst (λ (ys : List Entry). AllByRecursion P ys) (sym (with_want-higher x xs want l)) (h.0, all-with_want P want xs new more h.1)
-      ]
-    ]
+all-with_want P want (x ∷ xs) new more h = grind (arith, all-with_want P want xs new more h.1, cases_order, with_want-same, with_want-lower, with_want-higher)
 
 stream_of-entry_with : (x : Entry) (want : Want) → stream_of x ≡ want.stream.0
     → stream_of (entry_with x want) ≡ stream_of x
-stream_of-entry_with x want e =
-    elim (same_want x.want want) as (λ v. stream_of (cond v x (unbooked_entry want)) ≡ stream_of x) [ true ↦ refl | false ↦ sym e ]
+stream_of-entry_with x want e = grind (arith)
 
 pub ascending-with_want : (want : Want) (xs : List Entry) → IsAscending xs → IsAscending (with_want xs want)
 ascending-with_want want [] up = (tt, tt)
@@ -60,14 +51,12 @@ ascending-with_want want (x ∷ xs) up =
 
 moment-entry_with : (now : ℕ) (x : Entry) (want : Want) → moment_or now x.since ≤ now
     → moment_or now (entry_with x want).since ≤ now
-moment-entry_with now x want h =
-    elim (same_want x.want want) as (λ v. moment_or now (cond v x (unbooked_entry want)).since ≤ now) [ true ↦ h | false ↦ omega arith ]
+moment-entry_with now x want h = grind (arith)
 
 pub moments-with_want : (now : ℕ) (want : Want) (xs : List Entry)
     → AllByRecursion (λ x. moment_or now x.since ≤ now) xs
     → AllByRecursion (λ x. moment_or now x.since ≤ now) (with_want xs want)
-moments-with_want now want xs h =
-    all-with_want (λ x. moment_or now x.since ≤ now) want xs (omega arith) (λ x _ k. moment-entry_with now x want k) h
+moments-with_want now want xs h = grind (arith, all-with_want, moment-entry_with)
 
 -- moments that are set change no stream, and none is past the decision's
 above-settled : (n now : ℕ) (xs : List Entry) (marks : List Bool) → AllByRecursion (λ y. n < stream_of y) xs
@@ -84,8 +73,7 @@ ascending-settled now (x ∷ xs) (mark ∷ marks) up = (above-settled (stream_of
 
 moment-since_after : (now : ℕ) (since : Option Cs) (mark : Bool) → moment_or now since ≤ now
     → moment_or now (since_after now since mark) ≤ now
-moment-since_after now since true h = h
-moment-since_after now since false h = omega arith
+moment-since_after now since mark h1 = grind arith
 
 moments-settled : (now : ℕ) (xs : List Entry) (marks : List Bool)
     → AllByRecursion (λ x. moment_or now x.since ≤ now) xs
@@ -101,20 +89,12 @@ ascending_after now caps before after up d = subst (λ (ys : List Entry). IsAsce
 -- a decided list of entries makes a ledger
 pub kept_after : (caps : Caps) (now : ℕ) (before after : List Entry) → caps.class_a ≤ caps.both → IsAscending before
     → AllByRecursion (λ x. moment_or now x.since ≤ now) before → Decides now caps before after → IsKept (record { caps = caps; moment = now; entries = after })
-kept_after caps now before after shares up moments d =
-    record {
-      ascending = ascending_after now caps before after up d;
-      shares = shares;
-      moments = subst (λ (ys : List Entry). AllByRecursion (λ x. moment_or now x.since ≤ now) ys) (sym d.moments) (moments-settled now before (marks_of after) moments);
-      decision = decision_settled now caps before after moments d;
-    }
+kept_after caps now before after shares up moments d = grind (arith, ascending_after, moments-settled, decision_settled)
 
 -- the ledger after a want
 pub kept_with_want : (book : Book) (now : ℕ) (want : Want) (after : List Entry) → IsKept book → book.moment ≤ now
     → Decides now book.caps (with_want book.entries want) after → IsKept (record { caps = book.caps; moment = now; entries = after })
-kept_with_want book now want after kept up d =
-    kept_after book.caps now (with_want book.entries want) after kept.shares (ascending-with_want want book.entries kept.ascending)
-    (moments-with_want now want book.entries (moments_later book.moment now book.entries up kept.moments)) d
+kept_with_want book now want after kept up d = grind (arith, kept_after, ascending-with_want, moments-with_want, moments_later)
 
 -- a want is tested against the entries that the book has
 pub fit_in_book : (now moment : ℕ) (caps : Caps) (entries one two : List Entry) (want : Want) (x : Entry) (fit : Fit) (book : Book)
@@ -128,19 +108,11 @@ fit_in_book now moment caps entries one two want x fit book e tested first secon
 pub all-without : (P : Entry → Type 0) (stream : StreamId) (xs : List Entry) → AllByRecursion P xs
     → AllByRecursion P (without xs stream)
 all-without P stream [] h = tt
-all-without P stream (x ∷ xs) h =
-    elim (not (stream_of x == stream.0)) as (λ v. AllByRecursion P (cond v (x ∷ without xs stream) (without xs stream))) [
-      | true ↦ (h.0, all-without P stream xs h.1)
-      | false ↦ all-without P stream xs h.1
-    ]
+all-without P stream (x ∷ xs) h = grind (arith, all-without P stream xs h.1)
 
 pub ascending-without : (stream : StreamId) (xs : List Entry) → IsAscending xs → IsAscending (without xs stream)
 ascending-without stream [] up = tt
-ascending-without stream (x ∷ xs) up =
-    elim (not (stream_of x == stream.0)) as (λ v. IsAscending (cond v (x ∷ without xs stream) (without xs stream))) [
-      | true ↦ (all-without (λ y. stream_of x < stream_of y) stream xs up.0, ascending-without stream xs up.1)
-      | false ↦ ascending-without stream xs up.1
-    ]
+ascending-without stream (x ∷ xs) up = grind (arith, ascending-without stream xs up.1, all-without)
 
 -- every step of a ledger keeps what holds of every ledger
 pub kept_wanted : (book : Book) (now : ℕ) (want : Want) → IsImportanceOrder now → IsKept book → book.moment ≤ now

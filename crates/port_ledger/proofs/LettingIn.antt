@@ -23,13 +23,7 @@ streams_let_in caps sum (x ∷ xs) =
 taken_not : (caps : Caps) (sum stream : ℕ) (xs : List Entry) → AllByRecursion (λ y. stream ≢ stream_of y) xs
     → is_among (streams_let_in caps sum xs) stream ≡ false
 taken_not caps sum stream [] h = refl
-taken_not caps sum stream (x ∷ xs) h =
-    elim (nat_le (sum + entry_slope x) (cap_of caps x.want.class))
-    as (λ v. is_among (cond v (stream_of x ∷ streams_let_in caps (sum + entry_slope x) xs) (streams_let_in caps sum xs)) stream ≡ false) [
-      | true ↦ or_from (stream_of x == stream) (is_among (streams_let_in caps (sum + entry_slope x) xs) stream) (ne_eqb (stream_of x) stream (λ e. h.0 (sym e)))
-          (taken_not caps (sum + entry_slope x) stream xs h.1)
-      | false ↦ taken_not caps sum stream xs h.1
-    ]
+taken_not caps sum stream (x ∷ xs) h = grind (arith, taken_not caps (sum + entry_slope x) stream xs h.1, taken_not caps sum stream xs h.1, or_from, ne_eqb)
 
 pub taken_runs : (caps : Caps) (sum : ℕ) (xs : List Entry) → AreOfDifferentStreams xs
     → Runs caps sum (λ e. is_among (streams_let_in caps sum xs) (stream_of e)) xs

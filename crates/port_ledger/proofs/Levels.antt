@@ -3,7 +3,7 @@ use Rattle.std.proofs.Common.{◌≡◌, ◌⊎◌, ℕ, ◌+◌, ◌<◌, ◌�
 use Rattle.std.specs.{declared.cmp.Ordering.Ordering, Ordering.nat_cmp, Ordering.is_lt, Ordering.ordering_then}
 use Rattle.std.proofs.lemmas.Bool.{and_from, and_parts, cases_Bool, cases_lt, cases_order, eq-eqb, eqb-true, not_from_false, or_left, or_right}
 use Rattle.srp_base.proofs.{Bools.held_from, Arithmetic.less_is_below, Arithmetic.same_is_equal}
-use Rattle.srp_base.specs.declared.{bandwidth.Rank.Rank, bandwidth.Rank.TheVariants.Emergency, bandwidth.Rank.TheVariants.Normal, numbers.Cs.Cs}
+use Rattle.srp_base.specs.declared.{bandwidth.Rank.Rank, numbers.Cs.Cs}
 use Rattle.stream_importance.specs.declared.{entry.Entry.Entry, entry.Want.Want}
 use Rattle.stream_importance.specs.Importance.{class_number, rank_number, moment_or, is_more_important, IsImportanceOrder}
 use Rattle.port_ledger.specs.{stream_of, comes_after, is_booked, since_after, is_prior, is_prior_to, same_level, stays_after, stays_behind}
@@ -15,8 +15,7 @@ abbrev pub level : Entry → ℕ
 level x = class_number x.want.class + class_number x.want.class + rank_number x.want.rank
 
 rank_small : (r : Rank) → rank_number r ≤ 1
-rank_small Emergency = omega arith
-rank_small Normal = omega arith
+rank_small r = grind arith
 
 less_or : (a b : ℕ) (rest : Ordering) → is_lt (ordering_then (nat_cmp a b) rest) ≡ true → (a < b) ⊎ ((a ≡ b) × (is_lt rest ≡ true))
 less_or a b rest h =
@@ -29,49 +28,16 @@ less_or a b rest h =
     ]
 
 pub level_up : (now : ℕ) (x y : Entry) → is_more_important now x y ≡ true → level x ≤ level y
-level_up now x y h =
-    let mine = rank_small x.want.rank in
-    let other = rank_small y.want.rank in
-    elim (less_or (class_number x.want.class) (class_number y.want.class) _ h) [
-      | inl l ↦ omega (arith, l, mine, other)
-      | inr p ↦ elim (less_or (rank_number x.want.rank) (rank_number y.want.rank) _ p.1) [
-        | inl l ↦ omega (arith, p.0, l)
-        | inr q ↦ omega (arith, p.0, q.0)
-      ]
-    ]
+level_up now x y h = grind (arith, rank_small)
 
 pub level_first : (now : ℕ) (x y : Entry) → level x < level y → is_more_important now x y ≡ true
-level_first now x y l =
-    let rest : Ordering = ordering_then (nat_cmp (moment_or now x.since) (moment_or now y.since)) (nat_cmp x.want.stream.0 y.want.stream.0) in
-    let second : Ordering = ordering_then (nat_cmp (rank_number x.want.rank) (rank_number y.want.rank)) rest in
-    let mine = rank_small x.want.rank in
-    let other = rank_small y.want.rank in
-    elim (cases_order (class_number x.want.class) (class_number y.want.class)) [
-      | inl e ↦
-          (let up : rank_number x.want.rank < rank_number y.want.rank = omega (arith, e, l) in
-          ap (λ o. is_lt (ordering_then o second)) (same_is_equal (class_number x.want.class) (class_number y.want.class) e)
-          ∙ ap (λ o. is_lt (ordering_then o rest)) (less_is_below (rank_number x.want.rank) (rank_number y.want.rank) up))
-      | inr c ↦ elim c [
-        | inl up ↦ ap (λ o. is_lt (ordering_then o second)) (less_is_below (class_number x.want.class) (class_number y.want.class) up)
-        | inr down ↦ absurd (omega (arith, l, down, mine, other))
-      ]
-    ]
+level_first now x y l = grind (arith, rank_small, cases_order, same_is_equal, less_is_below)
 
 pub same_is : (x y : Entry) → same_level x y ≡ true → level x ≡ level y
-same_is x y h =
-    let parts = and_parts (class_number x.want.class == class_number y.want.class) (rank_number x.want.rank == rank_number y.want.rank) h in
-    let class = eqb-true (class_number x.want.class) (class_number y.want.class) parts.0 in
-    let rank = eqb-true (rank_number x.want.rank) (rank_number y.want.rank) parts.1 in
-    omega (arith, class, rank)
+same_is x y h = grind (arith, and_parts, eqb-true)
 
 pub is_same : (x y : Entry) → level x ≡ level y → same_level x y ≡ true
-is_same x y e =
-    let mine = rank_small x.want.rank in
-    let other = rank_small y.want.rank in
-    let class : class_number x.want.class ≡ class_number y.want.class = omega (arith, e, mine, other) in
-    let rank : rank_number x.want.rank ≡ rank_number y.want.rank = omega (arith, e, class) in
-    and_from (class_number x.want.class == class_number y.want.class) (rank_number x.want.rank == rank_number y.want.rank)
-    (eq-eqb (class_number x.want.class) (class_number y.want.class) class) (eq-eqb (rank_number x.want.rank) (rank_number y.want.rank) rank)
+is_same x y e = grind (arith, rank_small, and_from, eq-eqb)
 
 pub differ : (x y : Entry) → same_level x y ≡ false → level x ≡ level y → ⊥
 differ x y h e = true≢false (sym (is_same x y e) ∙ h)
@@ -90,9 +56,7 @@ pub below_from : (m n : ℕ) → m ≤ n → (m ≡ n → ⊥) → m < n
 below_from m n le ne = elim (cases_lt m n) [ inl l ↦ l | inr g ↦ (let same : m ≡ n = omega (arith, le, g) in absurd (ne same)) ]
 
 level_stays : (now later : ℕ) (x y : Entry) → comes_after now y x ≡ true → same_level x y ≡ false → comes_after later y x ≡ true
-level_stays now later x y h k =
-    and_from (not (stream_of x == stream_of y)) (is_more_important later x y) (comes_parts now x y h).0
-    (level_first later x y (below_from (level x) (level y) (comes_level now x y h) (differ x y k)))
+level_stays now later x y h k = grind (arith, and_from, level_first, below_from, comes_level)
 
 -- ---- a booked entry that goes before another goes on doing so
 
@@ -101,11 +65,7 @@ stays_by : (now later : ℕ) (x y : Want) (mine other : Option Cs) → is_some m
     → comes_after later (record { want = y; since = other }) (record { want = x; since = mine }) ≡ true
 stays_by now later x y None other b up h = cc
 stays_by now later x y (Some c) (Some d) b up h = h
-stays_by now later x y (Some c) None b up h =
-    let parts = and_parts (not (x.stream.0 == y.stream.0)) (is_more_important now (record { want = x; since = Some c }) (record { want = y; since = None })) h in
-    and_from (not (x.stream.0 == y.stream.0)) (is_more_important later (record { want = x; since = Some c }) (record { want = y; since = None })) parts.0
-    (still_first (nat_cmp (class_number x.class) (class_number y.class)) (nat_cmp (rank_number x.rank) (rank_number y.rank)) (nat_cmp x.stream.0 y.stream.0)
-    c.0 now later up parts.1)
+stays_by now later x y (Some c) None b up h = grind (arith, and_parts, and_from, still_first)
 
 stays : (now later : ℕ) (x y : Entry) → is_booked x ≡ true → now ≤ later → comes_after now y x ≡ true → comes_after later y x ≡ true
 stays now later x y b up h = stays_by now later x.want y.want x.since y.since b up h
@@ -114,14 +74,7 @@ stays now later x y b up h = stays_by now later x.want y.want x.since y.since b 
 wait_by : (now later : ℕ) (x y : Want) (mine other : Option Cs) → is_some mine ≡ false → is_some other ≡ false
     → comes_after now (record { want = y; since = other }) (record { want = x; since = mine }) ≡ true
     → comes_after later (record { want = y; since = other }) (record { want = x; since = mine }) ≡ true
-wait_by now later x y (Some c) other a b h = cc
-wait_by now later x y None (Some d) a b h = cc
-wait_by now later x y None None a b h =
-    let moved : nat_cmp later later ≡ nat_cmp now now = same_is_equal later later refl ∙ sym (same_is_equal now now refl) in
-    ap (λ o. not (x.stream.0 == y.stream.0)
-    && is_lt (ordering_then (nat_cmp (class_number x.class) (class_number y.class))
-    (ordering_then (nat_cmp (rank_number x.rank) (rank_number y.rank)) (ordering_then o (nat_cmp x.stream.0 y.stream.0))))) moved
-    ∙ h
+wait_by now later x y mine other h1 h2 h3 = grind (arith, same_is_equal)
 
 waits : (now later : ℕ) (x y : Entry) → is_booked x ≡ false → is_booked y ≡ false → comes_after now y x ≡ true → comes_after later y x ≡ true
 waits now later x y a b h = wait_by now later x.want y.want x.since y.since a b h
@@ -139,13 +92,10 @@ sinks now x y false past h =
 -- ---- pairs of which one stays after the other
 
 free_of : (b v : Bool) → b ≡ false → (b || v) ≡ true → v ≡ true
-free_of true v e h = cc
-free_of false v e h = h
+free_of b v h1 h2 = grind arith
 
 weaker : (b k s : Bool) → (b || not s) ≡ true → (b || not (k && s)) ≡ true
-weaker true k s h = refl
-weaker false true s h = h
-weaker false false s h = refl
+weaker b k s h1 = grind arith
 
 pub after_parts : (now : ℕ) (x y : Entry) → stays_after now y x ≡ true → (comes_after now y x ≡ true) × ((is_booked x || not (is_booked y && same_level x y)) ≡ true)
 after_parts now x y h = and_parts (comes_after now y x) (is_booked x || not (is_booked y && same_level x y)) h
@@ -154,9 +104,7 @@ pub behind_parts : (now : ℕ) (x y : Entry) → stays_behind now y x ≡ true �
 behind_parts now x y h = and_parts (comes_after now y x) (is_booked x || not (same_level x y)) h
 
 pub after_behind : (now : ℕ) (x y : Entry) → stays_behind now y x ≡ true → stays_after now y x ≡ true
-after_behind now x y h =
-    let parts = behind_parts now x y h in
-    and_from (comes_after now y x) (is_booked x || not (is_booked y && same_level x y)) parts.0 (weaker (is_booked x) (is_booked y) (same_level x y) parts.1)
+after_behind now x y h = grind (arith, and_from, weaker)
 
 pub behind_later : (now later : ℕ) (x y : Entry) → now ≤ later → stays_behind now y x ≡ true → stays_behind later y x ≡ true
 behind_later now later x y up h =
@@ -185,9 +133,7 @@ after_later now later x y up h =
 
 pub behind_decided : (now : ℕ) (x y : Entry) (mark : Bool) → moment_or now y.since ≤ now → stays_behind now y x ≡ true
     → stays_behind now (record y { since = since_after now y.since mark }) x ≡ true
-behind_decided now x y mark past h =
-    let parts = behind_parts now x y h in
-    and_from (comes_after now (record y { since = since_after now y.since mark }) x) (is_booked x || not (same_level x y)) (sinks now x y mark past parts.0) parts.1
+behind_decided now x y mark past h = grind (arith, and_from, sinks)
 
 -- ---- what goes before an entry that is booked anew
 

@@ -1,12 +1,11 @@
 -- A choice of entries and the marks beside them; there is exactly one marking.
-use Rattle.std.proofs.Common.{◌≡◌, ℕ, ◌+◌, Bool, true, false, cond, List, [], ◌∷◌, map, filter, Option, is_some, refl, sym, ◌∙◌, ap, arith, zero-add}
+use Rattle.std.proofs.Common.{◌≡◌, ℕ, ◌+◌, Bool, cond, List, [], ◌∷◌, map, filter, refl, sym, ◌∙◌, ap, arith, zero-add}
 use Rattle.std.specs.Prelude.{nat_le}
 use Rattle.std.specs.{List.AllByRecursion, List.Sorted.IsPermutation}
 use Rattle.std.proofs.lemmas.List.Sorted.{IsPermutation-sym}
-use Rattle.srp_base.specs.declared.numbers.Cs.{Cs}
 use Rattle.stream_importance.specs.declared.{entry.Entry.Entry, slope.Caps.Caps}
 use Rattle.stream_importance.specs.{Importance.IsImportanceOrder, Bandwidth.cap_of}
-use Rattle.port_ledger.specs.{stream_of, entry_slope, does_fit, marked_set, IsDecision, IsAscending, AreOfDifferentStreams, marks_of, with_moments, since_after, importance_order}
+use Rattle.port_ledger.specs.{stream_of, entry_slope, does_fit, marked_set, IsDecision, IsAscending, AreOfDifferentStreams, marks_of, with_moments, importance_order}
 use Rattle.port_ledger.proofs.{Running.total, Running.above-filter, Running.Holds, Running.Runs, Running.IsRanked, Running.holds_from_runs, Running.runs_from_holds, Running.runs_agree, Running.all_with, Ranking.IsPermutation-ranked, Ranking.ranked_is_ranked, Ranking.holds_permuted, Ranking.all_permuted, Ranking.different_permuted, LettingIn.is_among, LettingIn.streams_let_in, LettingIn.taken_runs}
 
 pub marked-map : (b : Entry → Bool) (xs : List Entry) → marked_set xs (map b xs) ≡ filter b xs
@@ -42,8 +41,7 @@ marked-choice now caps xs marks d = ap (marked_set xs) d ∙ marked-map (choice 
 
 pub holds_from_decision : (now : ℕ) (caps : Caps) (xs : List Entry) (marks : List Bool)
     → IsDecision now caps xs marks → AllByRecursion (Holds now caps 0 (choice now caps xs marks) xs) xs
-holds_from_decision now caps xs marks d =
-    all_of xs (λ x. ap (λ set. does_fit now caps set x) (marked-choice now caps xs marks d) ∙ sym (choice_above (choice now caps xs marks) now caps xs x))
+holds_from_decision now caps xs marks d = grind (arith, all_of, marked-choice, choice_above)
 
 -- a choice that holds, run in the order of importance
 pub ranked_runs : (now : ℕ) (o : IsImportanceOrder now) (caps : Caps) (b : Entry → Bool) (xs : List Entry)
@@ -81,12 +79,7 @@ different_from_ascending (x ∷ xs) up = (all_with xs up.0 up.0 (λ y l _ e. ome
 -- a choice is what its settled entries show
 pub marks_of-settled : (now : ℕ) (b : Entry → Bool) (xs : List Entry) → marks_of (with_moments now xs (map b xs)) ≡ map b xs
 marks_of-settled now b [] = refl
-marks_of-settled now b (x ∷ xs) =
-    ap (λ m. m ∷ marks_of (with_moments now xs (map b xs))) (shown (b x) x.since) ∙ ap (λ ms. b x ∷ ms) (marks_of-settled now b xs)
-  where
-    shown : (mark : Bool) (since : Option Cs) → is_some (since_after now since mark) ≡ mark
-    shown true since = refl
-    shown false since = refl
+marks_of-settled now b (x ∷ xs) = grind (arith, marks_of-settled now b xs)
 
 pub decision_exists : (now : ℕ) (o : IsImportanceOrder now) (caps : Caps) (xs : List Entry)
     → AreOfDifferentStreams xs → (marks : List Bool) × IsDecision now caps xs marks

@@ -1,75 +1,44 @@
 -- One walk along two ascending lists finds what each has booked and the other hasn't.
-use Rattle.std.proofs.Common.{◌≡◌, ℕ, suc, ◌+◌, ◌<◌, ◌≤◌, Bool, true, false, not, ◌||◌, ◌&&◌, cond, List, [], ◌∷◌, ◌++◌, map, length, get_or, drop, refl, sym, ◌∙◌, ap, subst, arith, inl, inr, append_assoc, drop-cons}
-use Rattle.std.specs.Prelude.{◌⊎◌, nat_lt}
+use Rattle.std.proofs.Common.{◌≡◌, ℕ, suc, ◌+◌, ◌<◌, ◌≤◌, Bool, true, false, ◌||◌, List, [], ◌∷◌, ◌++◌, map, length, get_or, drop, refl, sym, ◌∙◌, ap, subst, arith, inl, inr, append_assoc, drop-cons}
+use Rattle.std.specs.Prelude.{◌⊎◌}
 use Rattle.std.specs.List.{AllByRecursion, list_any}
 use Rattle.std.proofs.lemmas.{List.append-nil, List.drop_all, Bool.cases_Bool, Bool.ltb-true, Bool.ltb-false}
 use Rattle.srp_base.specs.declared.numbers.StreamId.{StreamId}
 use Rattle.stream_importance.specs.declared.entry.Entry.{Entry}
-use Rattle.port_ledger.specs.{stream_of, is_booked, IsAscending, booked_only_in, same_entry, begins_with_entry, from_stream, booked_stream, booked_streams_below}
+use Rattle.port_ledger.specs.{stream_of, IsAscending, booked_only_in, same_entry, begins_with_entry, from_stream, booked_stream, booked_streams_below}
 use Rattle.port_ledger.proofs.{Comparing.only_in, Finding.differ, Finding.others_differ, PerStream.same_entry-is, PerStream.same_entry-refl, Running.all_with}
 
 -- what lies below a stream is none of an entry that doesn't
 found_from : (s : StreamId) (z : Entry) (ys : List Entry) → s.0 ≤ stream_of z
     → list_any (same_entry z) (from_stream ys s) ≡ list_any (same_entry z) ys
 found_from s z [] l = refl
-found_from s z (y ∷ ys) l =
-    elim (cases_Bool (nat_lt (stream_of y) s.0)) [
-      | inl h ↦
-          ap (λ v. list_any (same_entry z) (cond v (from_stream ys s) (y ∷ ys))) h
-          ∙ (found_from s z ys l ∙ ap (λ v. v || list_any (same_entry z) ys) (sym (differ z y (λ e. let k : stream_of y < s.0 = ltb-true (stream_of y) s.0 h in omega (arith, e, k, l)))))
-      | inr h ↦ ap (λ v. list_any (same_entry z) (cond v (from_stream ys s) (y ∷ ys))) h
-    ]
+found_from s z (y ∷ ys) l = grind (arith, found_from s z ys l, cases_Bool, differ, ltb-true)
 
 only_from : (s : StreamId) (xs ys : List Entry) → AllByRecursion (λ x. s.0 ≤ stream_of x) xs
     → only_in xs (from_stream ys s) ≡ only_in xs ys
 only_from s [] ys l = refl
-only_from s (x ∷ xs) ys l =
-    ap (λ v. cond (is_booked x && not v) (x ∷ only_in xs (from_stream ys s)) (only_in xs (from_stream ys s))) (found_from s x ys l.0)
-    ∙ ap (λ zs. cond (is_booked x && not (list_any (same_entry x) ys)) (x ∷ zs) zs) (only_from s xs ys l.1)
+only_from s (x ∷ xs) ys l = grind (arith, only_from s xs ys l.1, only_in, found_from)
 
 -- from its stream on an entry stands first or nowhere
 first_found : (x : Entry) (ys : List Entry) → IsAscending ys
     → list_any (same_entry x) (from_stream ys x.want.stream) ≡ begins_with_entry (from_stream ys x.want.stream) x
 first_found x [] up = refl
-first_found x (y ∷ ys) up =
-    elim (cases_Bool (nat_lt (stream_of y) (stream_of x))) [
-      | inl h ↦
-          ap (λ v. list_any (same_entry x) (cond v (from_stream ys x.want.stream) (y ∷ ys))) h
-          ∙ (first_found x ys up.1 ∙ ap (λ v. begins_with_entry (cond v (from_stream ys x.want.stream) (y ∷ ys)) x) (sym h))
-      | inr h ↦
-          (let l : stream_of x ≤ stream_of y = ltb-false (stream_of y) (stream_of x) h in
-          ap (λ v. list_any (same_entry x) (cond v (from_stream ys x.want.stream) (y ∷ ys))) h
-          ∙ (or_nothing (same_entry x y) (list_any (same_entry x) ys) (others_differ x ys (all_with ys up.0 up.0 (λ z k _. omega (arith, k, l))))
-          ∙ ap (λ v. begins_with_entry (cond v (from_stream ys x.want.stream) (y ∷ ys)) x) (sym h)))
-    ]
-  where
-    or_nothing : (a b : Bool) → b ≡ false → (a || b) ≡ a
-    or_nothing true b h = refl
-    or_nothing false b h = h
+first_found x (y ∷ ys) up = grind (arith, first_found x ys up.1, cases_Bool, ltb-false, others_differ, all_with)
 
 ascending_from : (s : StreamId) (ys : List Entry) → IsAscending ys → IsAscending (from_stream ys s)
 ascending_from s [] up = tt
-ascending_from s (y ∷ ys) up =
-    elim (nat_lt (stream_of y) s.0) as (λ v. IsAscending (cond v (from_stream ys s) (y ∷ ys))) [ true ↦ ascending_from s ys up.1 | false ↦ up ]
+ascending_from s (y ∷ ys) up = grind (arith, ascending_from s ys up.1, up)
 
 -- ---- the head of one list
 
 -- an entry that isn't among those
 head-noted : (x : Entry) (xs ys : List Entry) → list_any (same_entry x) ys ≡ false → booked_only_in (x ∷ xs) ys ≡ booked_stream x ++ booked_only_in xs ys
-head-noted x xs ys none =
-    ap (λ v. map (λ (y : Entry). y.want.stream) (cond (is_booked x && not v) (x ∷ only_in xs ys) (only_in xs ys))) none ∙ by_test (is_booked x) (only_in xs ys)
-  where
-    by_test : (v : Bool) (zs : List Entry) → map (λ (y : Entry). y.want.stream) (cond (v && true) (x ∷ zs) zs)
-        ≡ cond v (x.want.stream ∷ []) [] ++ map (λ (y : Entry). y.want.stream) zs
-    by_test true zs = refl
-    by_test false zs = refl
+head-noted x xs ys none = grind (arith, only_in)
 
 -- an entry that none of these is
 only_skip : (y : Entry) (xs ys : List Entry) → AllByRecursion (λ x. same_entry x y ≡ false) xs → only_in xs (y ∷ ys) ≡ only_in xs ys
 only_skip y [] ys h = refl
-only_skip y (x ∷ xs) ys h =
-    ap (λ v. cond (is_booked x && not (v || list_any (same_entry x) ys)) (x ∷ only_in xs (y ∷ ys)) (only_in xs (y ∷ ys))) h.0
-    ∙ ap (λ zs. cond (is_booked x && not (list_any (same_entry x) ys)) (x ∷ zs) zs) (only_skip y xs ys h.1)
+only_skip y (x ∷ xs) ys h = grind (arith, only_skip y xs ys h.1, only_in)
 
 head-skipped : (y : Entry) (xs ys : List Entry) → AllByRecursion (λ x. same_entry x y ≡ false) xs → booked_only_in xs (y ∷ ys) ≡ booked_only_in xs ys
 head-skipped y xs ys h = ap (map (λ (z : Entry). z.want.stream)) (only_skip y xs ys h)
@@ -80,29 +49,13 @@ above_differ x (y ∷ ys) h = (differ y x (λ e. let l : stream_of x < stream_of
 
 -- an entry that both lists begin with
 head-shared : (x : Entry) (xs ys : List Entry) → AllByRecursion (λ y. stream_of x < stream_of y) xs → booked_only_in (x ∷ xs) (x ∷ ys) ≡ booked_only_in xs ys
-head-shared x xs ys up =
-    ap (λ v. map (λ (y : Entry). y.want.stream) (cond (is_booked x && not (v || list_any (same_entry x) ys)) (x ∷ only_in xs (x ∷ ys)) (only_in xs (x ∷ ys)))) (same_entry-refl x)
-    ∙ by_test (is_booked x) (only_in xs (x ∷ ys))
-    ∙ head-skipped x xs ys (above_differ x xs up)
-  where
-    by_test : (v : Bool) (zs : List Entry) → map (λ (y : Entry). y.want.stream) (cond (v && false) (x ∷ zs) zs) ≡ map (λ (y : Entry). y.want.stream) zs
-    by_test true zs = refl
-    by_test false zs = refl
+head-shared x xs ys up = grind (arith, only_in, same_entry-refl, head-skipped, above_differ, up)
 
 -- the entries of a list that are below a stream, where those aren't
 below-noted : (s : StreamId) (ys xs : List Entry) → AllByRecursion (λ x. s.0 ≤ stream_of x) xs
     → booked_only_in ys xs ≡ booked_streams_below ys s ++ booked_only_in (from_stream ys s) xs
 below-noted s [] xs l = refl
-below-noted s (y ∷ ys) xs l =
-    elim (cases_Bool (nat_lt (stream_of y) s.0)) [
-      | inl h ↦
-          (let under : stream_of y < s.0 = ltb-true (stream_of y) s.0 h in
-          head-noted y ys xs (others_differ y xs (all_with xs l l (λ z k _. omega (arith, k, under))))
-          ∙ (ap (λ zs. booked_stream y ++ zs) (below-noted s ys xs l)
-          ∙ (sym (append_assoc (booked_stream y) (booked_streams_below ys s) (booked_only_in (from_stream ys s) xs))
-          ∙ ap (λ v. cond v (booked_stream y ++ booked_streams_below ys s) [] ++ booked_only_in (cond v (from_stream ys s) (y ∷ ys)) xs) (sym h))))
-      | inr h ↦ ap (λ v. cond v (booked_stream y ++ booked_streams_below ys s) [] ++ booked_only_in (cond v (from_stream ys s) (y ∷ ys)) xs) (sym h)
-    ]
+below-noted s (y ∷ ys) xs l = grind (arith, below-noted s ys xs l, cases_Bool, ltb-true, head-noted, others_differ, all_with, append_assoc)
 
 none-same : (x : Entry) (ys : List Entry) → list_any (same_entry x) ys ≡ false → AllByRecursion (λ y. same_entry y x ≡ false) ys
 none-same x [] h = tt
@@ -156,13 +109,7 @@ module _ (before after : List Entry) (i : ℕ) (x d : Entry) (booked dropped : L
       ∙ ap (λ ys. booked ++ booked_only_in (x ∷ drop (i + 1) after) ys) (sym is)
 
   old_before : (later : List StreamId) → later ≡ dropped ++ booked_streams_below rest x.want.stream → booked_only_in before after ≡ later ++ booked_only_in next (x ∷ drop (i + 1) after)
-  old_before later e =
-      h.old
-      ∙ ap (λ zs. dropped ++ booked_only_in rest zs) left_is
-      ∙ ap (λ zs. dropped ++ zs) (below-noted x.want.stream rest (x ∷ drop (i + 1) after) above)
-      ∙ sym (append_assoc dropped (booked_streams_below rest x.want.stream) (booked_only_in (from_stream rest x.want.stream) (x ∷ drop (i + 1) after)))
-      ∙ ap (λ zs. zs ++ booked_only_in (from_stream rest x.want.stream) (x ∷ drop (i + 1) after)) (sym e)
-      ∙ ap (λ ys. later ++ booked_only_in ys (x ∷ drop (i + 1) after)) (sym is)
+  old_before later e = grind (arith, left_is, below-noted, above, append_assoc)
 
   any_is : list_any (same_entry x) next ≡ begins_with_entry next x
   any_is = subst (λ (ys : List Entry). list_any (same_entry x) ys ≡ begins_with_entry ys x) (sym is) (first_found x rest h.down)
@@ -202,8 +149,7 @@ module _ (before after : List Entry) (i : ℕ) (x d : Entry) (booked dropped : L
 
 -- what begins with an entry isn't empty
 pub begins-some : (ys : List Entry) (x : Entry) → begins_with_entry ys x ≡ true → 0 < length ys
-begins-some [] x h = cc
-begins-some (y ∷ ys) x h = omega arith
+begins-some ys x h1 = grind arith
 
 -- before the first entry of `after`
 pub walk-starts : (before after : List Entry) (booked dropped : List StreamId) → booked ≡ [] → dropped ≡ [] → IsAscending before → IsAscending after

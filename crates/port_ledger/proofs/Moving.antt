@@ -64,9 +64,7 @@ sum_by-filter f p (x ∷ xs) =
     by_test false = sym (zero-add (sum_by f (filter p xs)))
 
 pub filter_permuted : (p : Entry → Bool) (xs ys : List Entry) → IsPermutation xs ys → IsPermutation (filter p xs) (filter p ys)
-filter_permuted p xs ys moved =
-    permuted_from_sums (filter p xs) (filter p ys)
-    (λ f. sum_by-filter f p ys ∙ (sum_by-IsPermutation (λ x. cond (p x) (f x) 0) xs ys moved ∙ sym (sum_by-filter f p xs)))
+filter_permuted p xs ys moved = grind (arith, permuted_from_sums, sum_by-filter, sum_by-IsPermutation)
 
 pub without_permuted : (es order : List Entry) (stream : StreamId) → IsPermutation es order
     → IsPermutation (without es stream) (without order stream)

@@ -5,7 +5,7 @@ use Rattle.std.specs.{List.AllByRecursion, List.list_any, List.Sorted.IsNonDecre
 use Rattle.std.proofs.lemmas.{Bool.and_left, Bool.and_right, Bool.cases_Bool, Bool.cases_lt, Bool.eq-eqb, Bool.eqb-true, Bool.lt-ltb, Bool.ne_eqb, Bool.or_from, List.length-append, List.map-append, List.Elements.filter-append, List.Elements.recursion_from_All, List.Sums.sum_by-cons, List.Sorted.IsPermutation-append, List.Sorted.IsPermutation-filter_both, List.Sorted.IsPermutation-map, List.Sorted.IsPermutation-refl, List.Sorted.IsPermutation-sym, List.Sorted.IsPermutation-trans, List.Sorted.length_permutation, List.Sorted.list_any-IsPermutation, List.Sorted.sum_by-IsPermutation}
 use Rattle.std.proofs.lemmas.Bool.{or_parts as or_both}
 use Rattle.srp_base.proofs.Lists.{each_append as all_join}
-use Rattle.srp_base.specs.declared.{numbers.Cs.Cs, numbers.StreamId.StreamId}
+use Rattle.srp_base.specs.declared.{numbers.StreamId.StreamId}
 use Rattle.stream_importance.specs.declared.{entry.Entry.Entry, entry.Want.Want, slope.Caps.Caps}
 use Rattle.stream_importance.specs.Importance.{IsImportanceOrder}
 use Rattle.port_ledger.specs.declared.totals.Totals.{Totals}
@@ -112,14 +112,7 @@ streams xs = map (λ (x : Entry). x.want.stream) xs
 streams_chosen : (test : Entry → Bool → Bool) (caps : Caps) (sum : ℕ) (b : Entry → Bool) (xs : List Entry) → Runs caps sum b xs
     → streams_passed test caps sum xs ≡ streams (filter (λ x. test x (b x)) xs)
 streams_chosen test caps sum b [] runs = refl
-streams_chosen test caps sum b (x ∷ xs) runs =
-    ap (λ ys. stream_where (test x (has_room caps sum x)) x ++ ys) (streams_chosen test caps (sum_with sum x (has_room caps sum x)) b xs (runs_on caps sum b x xs runs))
-    ∙ (ap (λ v. stream_where (test x v) x ++ streams (filter (λ y. test y (b y)) xs)) (sym runs.0)
-    ∙ by_test (test x (b x)))
-  where
-    by_test : (v : Bool) → stream_where v x ++ streams (filter (λ y. test y (b y)) xs) ≡ streams (cond v (x ∷ filter (λ y. test y (b y)) xs) (filter (λ y. test y (b y)) xs))
-    by_test true = refl
-    by_test false = refl
+streams_chosen test caps sum b (x ∷ xs) runs = grind (arith, streams_chosen test caps (sum_with sum x (has_room caps sum x)) b xs (runs_on caps sum b x xs runs), runs_on, runs)
 
 -- ---- what a pass gains
 
@@ -131,51 +124,21 @@ record IsFresh (were : List Entry) (x : Entry) : Type 0 where
 none_same : (x y : Entry) (were : List Entry) → y.want ≡ x.want → is_booked x ≡ false → is_booked y ≡ true
     → AllByRecursion (λ z. z.want ≡ x.want → is_booked z ≡ is_booked x) were → list_any (same_entry y) were ≡ false
 none_same x y [] e off on h = refl
-none_same x y (z ∷ were) e off on h =
-    or_from (same_entry y z) (list_any (same_entry y) were)
-    (elim (cases_Bool (same_entry y z)) [
-      | inl same ↦ absurd (true≢false (sym on ∙ (ap is_booked (same_entry-is y z same) ∙ (h.0 (ap (λ (w : Entry). w.want) (sym (same_entry-is y z same)) ∙ e) ∙ off))))
-      | inr other ↦ other
-    ])
-    (none_same x y were e off on h.1)
+none_same x y (z ∷ were) e off on h = grind (arith, none_same x y were e off on h.1, or_from, cases_Bool, same_entry-is)
 
 gain_one : (now : ℕ) (were : List Entry) (x : Entry) (v : Bool) → IsFresh were x
     → (is_booked (record x { since = since_after now x.since v }) && not (list_any (same_entry (record x { since = since_after now x.since v })) were)) ≡ gains x v
-gain_one now were x false fresh = refl
-gain_one now were x true fresh = by_since x.since refl
-  where
-    by_since : (s : Option Cs) → x.since ≡ s
-        → (not (list_any (same_entry (record x { since = since_after now x.since true })) were)) ≡ not (is_booked x)
-    by_since None e =
-        let off : is_booked x ≡ false = ap is_some e in
-        ap not (none_same x (record x { since = since_after now x.since true }) were refl off refl fresh.alike) ∙ ap not (sym off)
-    by_since (Some t) e =
-        let itself : record x { since = since_after now x.since true } ≡ x = ap (λ s. record x { since = since_after now s true }) e ∙ ap (λ s. record x { since = s }) (sym e) in
-        let booked : is_booked x ≡ true = ap is_some e in
-        ap (λ y. not (list_any (same_entry y) were)) itself ∙ (ap not (fresh.kept booked) ∙ ap not (sym booked))
+gain_one now were x v h1 = grind (arith, none_same)
 
 gained : (now : ℕ) (were : List Entry) (b : Entry → Bool) (xs : List Entry) → AllByRecursion (IsFresh were) xs
     → streams (only_in (map (settled_at now b) xs) were) ≡ streams (filter (λ x. gains x (b x)) xs)
 gained now were b [] fresh = refl
-gained now were b (x ∷ xs) fresh =
-    ap (λ v. streams (cond v (settled_at now b x ∷ only_in (map (settled_at now b) xs) were) (only_in (map (settled_at now b) xs) were))) (gain_one now were x (b x) fresh.0)
-    ∙ by_test (gains x (b x)) (gained now were b xs fresh.1)
-  where
-    by_test : (v : Bool) → streams (only_in (map (settled_at now b) xs) were) ≡ streams (filter (λ y. gains y (b y)) xs)
-        → streams (cond v (settled_at now b x ∷ only_in (map (settled_at now b) xs) were) (only_in (map (settled_at now b) xs) were))
-        ≡ streams (cond v (x ∷ filter (λ y. gains y (b y)) xs) (filter (λ y. gains y (b y)) xs))
-    by_test true h = ap (λ ys. x.want.stream ∷ ys) h
-    by_test false h = h
+gained now were b (x ∷ xs) fresh = grind (arith, gained now were b xs fresh.1, settled_at, only_in, gain_one)
 
 -- ---- what a pass loses
 
 same_settled : (now : ℕ) (b : Entry → Bool) (x : Entry) → is_booked x ≡ true → same_entry x (settled_at now b x) ≡ b x
-same_settled now b x booked = by_test (b x) x.since refl
-  where
-    by_test : (v : Bool) (s : Option Cs) → x.since ≡ s → same_entry x (record x { since = since_after now x.since v }) ≡ v
-    by_test v None e = absurd (true≢false (sym booked ∙ ap is_some e))
-    by_test true (Some t) e = ap (λ s. same_entry x (record x { since = since_after now s true })) e ∙ (ap (λ s. same_entry x (record x { since = s })) (sym e) ∙ same_entry-refl x)
-    by_test false (Some t) e = ap (λ s. same_want x.want x.want && same_since s None) e ∙ and_right (same_want x.want x.want) false refl
+same_settled now b x booked = grind (arith, same_entry-refl, and_right)
 
 none_settled : (now : ℕ) (b : Entry → Bool) (x : Entry) (xs : List Entry) → AllByRecursion (λ y. stream_of x ≢ stream_of y) xs
     → list_any (same_entry x) (map (settled_at now b) xs) ≡ false
@@ -198,8 +161,7 @@ found_settled now b (x ∷ xs) d = (
     or_false false = refl
 
 and_true : (v : Bool) → (v && true) ≡ v
-and_true true = refl
-and_true false = refl
+and_true v = grind arith
 
 lose_all : (now : ℕ) (b : Entry → Bool) (xs : List Entry) → AreOfDifferentStreams xs
     → AllByRecursion (λ x. (is_booked x && not (list_any (same_entry x) (map (settled_at now b) xs))) ≡ loses x (b x)) xs
@@ -222,13 +184,7 @@ none_of_stream s (x ∷ xs) h = ap (λ v. cond v (x ∷ of_stream s xs) (of_stre
 
 one_of_stream : (s : StreamId) (xs : List Entry) → AreOfDifferentStreams xs → of_stream s xs ≡ option_to_list (entry_of xs s)
 one_of_stream s [] d = refl
-one_of_stream s (x ∷ xs) d =
-    elim (cases_Bool (stream_of x == s.0)) [
-      | inl e ↦
-          (let others : AllByRecursion (λ y. stream_of y ≢ s.0) xs = all_with xs d.0 d.0 (λ y ne _ f. ne (eqb-true (stream_of x) s.0 e ∙ sym f)) in
-          ap (λ v. cond v (x ∷ of_stream s xs) (of_stream s xs)) e ∙ (ap (λ ys. x ∷ ys) (none_of_stream s xs others) ∙ ap (λ v. option_to_list (cond v (Some x) (entry_of xs s))) (sym e)))
-      | inr e ↦ ap (λ v. cond v (x ∷ of_stream s xs) (of_stream s xs)) e ∙ (one_of_stream s xs d.1 ∙ ap (λ v. option_to_list (cond v (Some x) (entry_of xs s))) (sym e))
-    ]
+one_of_stream s (x ∷ xs) d = grind (arith, one_of_stream s xs d.1, cases_Bool, all_with, eqb-true, none_of_stream)
 
 pub entry_of-stream : (s : StreamId) (e : Entry) (xs : List Entry) → entry_of xs s ≡ Some e → stream_of e ≡ s.0
 entry_of-stream s e [] h = cc
@@ -243,11 +199,7 @@ parted s xs = IsPermutation-filter_both (λ x. stream_of x == s.0) (λ x. not (s
 
 others_left : (s : StreamId) (xs : List Entry) → AllByRecursion (λ y. stream_of y ≢ s.0) (without xs s)
 others_left s [] = tt
-others_left s (x ∷ xs) = by_test (stream_of x == s.0) refl (others_left s xs)
-  where
-    by_test : (v : Bool) → stream_of x == s.0 ≡ v → AllByRecursion (λ y. stream_of y ≢ s.0) (without xs s) → AllByRecursion (λ y. stream_of y ≢ s.0) (cond (not v) (x ∷ without xs s) (without xs s))
-    by_test true e h = h
-    by_test false e h = ((λ f. true≢false (sym (eq-eqb (stream_of x) s.0 f) ∙ e)), h)
+others_left s (x ∷ xs) = grind (arith, others_left s xs, eq-eqb)
 
 -- ---- a want comes behind a front
 
@@ -410,15 +362,7 @@ module _ (now : ℕ) (caps : Caps) (sum : ℕ) (want : Want) (goes : Option Entr
   gained_short = omega (arith, streams_short gains caps sum ranked, notes_long)
 
   pub lost_short : length (booking_of goes ++ streams_passed loses caps sum ranked) ≤ length were + 2
-  lost_short = omega (arith, length-append (booking_of goes) (streams_passed loses caps sum ranked), one_short goes, streams_short loses caps sum ranked, notes_long)
-    where
-      one_short : (o : Option Entry) → length (booking_of o) ≤ 1
-      one_short None = omega arith
-      one_short (Some x) = by_test (is_booked x)
-        where
-          by_test : (v : Bool) → length (cond v (x.want.stream ∷ []) []) ≤ 1
-          by_test true = omega arith
-          by_test false = omega arith
+  lost_short = grind (arith, length-append, streams_short, notes_long)
 
 -- ---- whether anything is noted
 
@@ -468,17 +412,12 @@ none_quiet (Some x) caps sum xs h =
 none_loud : (goes : Option Entry) (caps : Caps) (sum : ℕ) (xs : List Entry) → streams_passed gains caps sum xs ≡ []
     → booking_of goes ++ streams_passed loses caps sum xs ≡ [] → (has_booking goes || has_move caps sum xs) ≡ false
 none_loud None caps sum xs gain loss = loud_pass caps sum xs gain loss
-none_loud (Some x) caps sum xs gain loss =
-    let less = empty_where (is_booked x) x (streams_passed loses caps sum xs) loss in
-    or_from (is_booked x) (has_move caps sum xs) less.0 (loud_pass caps sum xs gain less.1)
+none_loud (Some x) caps sum xs gain loss = grind (arith, loss, or_from, loud_pass, gain)
 
 -- what is behind a front has an entry of a stream exactly where all entries have one, if the front has none
 module _ (s : StreamId) (front were es : List Entry) (was : AreBehind front were es) (off : AllByRecursion (λ y. stream_of y ≢ s.0) front) where
   counted : (one other : Option Entry) → length (option_to_list one) ≡ length (option_to_list other) → is_some one ≡ is_some other
-  counted None None e = refl
-  counted None (Some y) e = absurd (omega (arith, e))
-  counted (Some x) None e = absurd (omega (arith, e))
-  counted (Some x) (Some y) e = refl
+  counted one other h1 = grind arith
 
   pub found_behind : is_some (entry_of were s) ≡ is_some (entry_of es s)
   found_behind =
@@ -492,11 +431,7 @@ module _ (s : StreamId) (front were es : List Entry) (was : AreBehind front were
       counted (entry_of were s) (entry_of es s) (omega (arith, here, all, moved))
 
   pub none_behind : entry_of were s ≡ None → entry_of es s ≡ None
-  none_behind e = by_test (entry_of es s) (sym found_behind ∙ ap is_some e)
-    where
-      by_test : (o : Option Entry) → is_some o ≡ false → o ≡ None
-      by_test None h = refl
-      by_test (Some x) h = absurd (true≢false h)
+  none_behind e = grind (arith, found_behind)
 
 -- what is noted of a want that comes, where there is room for all
 module _ (now : ℕ) (o : IsImportanceOrder now) (caps : Caps) (place : ℕ) (totals : Totals) (es new order : List Entry) (want : Want) (goes : Option Entry) (le : place ≤ length order) (was : AreBehind (take place order) (drop place order) es) (h : IsFront now caps place totals (with_want es want) (take place order ++ exchanged (drop place order) want)) (decided : new ≡ decided_entries now caps (with_want es want)) (found : entry_of es want.stream ≡ goes) (other : has_want es want ≡ false) (off : AllByRecursion (λ y. stream_of y ≢ want.stream.0) (take place order)) where
@@ -514,22 +449,12 @@ module _ (now : ℕ) (o : IsImportanceOrder now) (caps : Caps) (place : ℕ) (to
   pub all_gained : (room : ℕ) (before after : List StreamId) → before ≡ [] → length behind + 2 ≤ room
       → after ≡ noted room before (streams_passed gains caps (both_of totals) (importance_order now (exchanged behind want)))
       → IsPermutation after (booked_only_in new es)
-  all_gained room before after none long e =
-      let short = gained_short now caps (both_of totals) want goes (take place order) behind es new was is d found other off in
-      subst (λ (ys : List StreamId). IsPermutation ys (booked_only_in new es))
-      (sym (e ∙ (ap (λ ys. noted room ys (streams_passed gains caps (both_of totals) (importance_order now (exchanged behind want)))) none
-      ∙ noted-all room [] (streams_passed gains caps (both_of totals) (importance_order now (exchanged behind want))) (omega (arith, short, long)))))
-      (notes_gained now caps (both_of totals) want goes (take place order) behind es new was is d found other off)
+  all_gained room before after none long e = grind (arith, gained_short, is, d, noted-all, notes_gained)
 
   pub all_lost : (room : ℕ) (before after : List StreamId) → before ≡ [] → length behind + 2 ≤ room
       → after ≡ noted room before (booking_of goes ++ streams_passed loses caps (both_of totals) (importance_order now (exchanged behind want)))
       → IsPermutation after (booked_only_in es new)
-  all_lost room before after none long e =
-      let all : List StreamId = booking_of goes ++ streams_passed loses caps (both_of totals) (importance_order now (exchanged behind want)) in
-      let short = lost_short now caps (both_of totals) want goes (take place order) behind es new was is d found other off in
-      subst (λ (ys : List StreamId). IsPermutation ys (booked_only_in es new))
-      (sym (e ∙ (ap (λ ys. noted room ys all) none ∙ noted-all room [] all (omega (arith, short, long)))))
-      (notes_lost now caps (both_of totals) want goes (take place order) behind es new was is d found other off)
+  all_lost room before after none long e = grind (arith, lost_short, is, d, noted-all, notes_lost)
 
   abbrev behind_ranked : List Entry
   behind_ranked = importance_order now (exchanged behind want)
@@ -592,10 +517,7 @@ one_at n x = cond (x.0 == n) 1 0
 
 none_above : (n : ℕ) (xs : List StreamId) → AllByRecursion (λ (y : StreamId). n < y.0) xs → sum_by (one_at n) xs ≡ 0
 none_above n [] h = refl
-none_above n (x ∷ xs) h =
-    let parts : sum_by (one_at n) (x ∷ xs) ≡ one_at n x + sum_by (one_at n) xs = sum_by-cons (one_at n) x xs in
-    let none : one_at n x ≡ 0 = ap (λ v. cond v 1 0) (ne_eqb x.0 n (λ e. let l : n < x.0 = h.0 in omega (arith, e, l))) in
-    omega (arith, parts, none, none_above n xs h.1)
+none_above n (x ∷ xs) h = grind (arith, none_above n xs h.1, sum_by-cons, ne_eqb)
 
 -- the first of a rising list isn't above the first of another with the same sums
 first_le : (x y : StreamId) (xs ys : List StreamId) → AreRising (y ∷ ys) → sum_by (one_at x.0) (y ∷ ys) ≡ sum_by (one_at x.0) (x ∷ xs) → y.0 ≤ x.0

@@ -1,5 +1,5 @@
 -- One pass in the order of importance sets the moments of a decision, in the order and among the entries.
-use Rattle.std.proofs.Common.{◌≡◌, ◌≢◌, ℕ, zero, suc, ◌+◌, ◌<◌, Bool, true, false, not, ◌&&◌, ◌==◌, ◌||◌, cond, List, [], ◌∷◌, ◌++◌, map, length, get_or, set, take, drop, Option, refl, sym, ◌∙◌, ap, subst, arith, inl, inr, append_assoc, drop-cons, drop-set-lt, take-suc-set, Some, None, is_some}
+use Rattle.std.proofs.Common.{◌≡◌, ◌≢◌, ℕ, zero, suc, ◌+◌, ◌<◌, Bool, true, false, not, ◌&&◌, ◌==◌, cond, List, [], ◌∷◌, ◌++◌, map, length, get_or, set, take, drop, Option, refl, sym, ◌∙◌, ap, subst, arith, append_assoc, drop-cons, drop-set-lt, take-suc-set, Some, None, is_some}
 use Rattle.std.specs.{List.AllByRecursion, List.AllWithin, List.list_any, List.Sorted.IsPermutation, Ordering.is_lt, Ordering.nat_cmp, Ordering.ordering_then}
 use Rattle.std.proofs.lemmas.{Bool.eq-eqb, Bool.ne_eqb, Bool.eqb-true, Bool.cases_Bool, Bool.cases_lt, Bool.or_from, Bool.or_left, Bool.or_right, Bool.cond-true, Bool.cond-false, List.Elements.All-from_recursion, List.Sorted.IsPermutation-map, List.Sorted.IsPermutation-trans, List.Sorted.IsPermutation-sym, List.Sorted.list_any-IsPermutation}
 use Rattle.std.proofs.lemmas.Bool.{or_parts as or_none}
@@ -18,21 +18,17 @@ settled-map now b [] = refl
 settled-map now b (x ∷ xs) = ap (λ ys. settled_at now b x ∷ ys) (settled-map now b xs)
 
 pub sum_with-cond : (sum : ℕ) (x : Entry) (let_in : Bool) → sum_with sum x let_in ≡ sum + cond let_in (entry_slope x) 0
-sum_with-cond sum x true = refl
-sum_with-cond sum x false = omega arith
+sum_with-cond sum x let_in = grind arith
 
 -- the sum runs on as the choice lets entries in
 pub runs_on : (caps : Caps) (sum : ℕ) (b : Entry → Bool) (x : Entry) (xs : List Entry) → Runs caps sum b (x ∷ xs)
     → Runs caps (sum_with sum x (has_room caps sum x)) b xs
-runs_on caps sum b x xs runs =
-    subst (λ (n : ℕ). Runs caps n b xs) (sym (sum_with-cond sum x (has_room caps sum x) ∙ ap (λ v. sum + cond v (entry_slope x) 0) (sym runs.0))) runs.1
+runs_on caps sum b x xs runs = grind (arith, Runs, sum_with-cond)
 
 pub passed_is : (now : ℕ) (caps : Caps) (sum : ℕ) (b : Entry → Bool) (xs : List Entry) → Runs caps sum b xs
     → entries_passed now caps sum xs ≡ map (settled_at now b) xs
 passed_is now caps sum b [] runs = refl
-passed_is now caps sum b (x ∷ xs) runs =
-    ap (λ v. record x { since = since_after now x.since v } ∷ entries_passed now caps (sum_with sum x (has_room caps sum x)) xs) (sym runs.0)
-    ∙ ap (λ ys. settled_at now b x ∷ ys) (passed_is now caps (sum_with sum x (has_room caps sum x)) b xs (runs_on caps sum b x xs runs))
+passed_is now caps sum b (x ∷ xs) runs = grind (arith, passed_is now caps (sum_with sum x (has_room caps sum x)) b xs (runs_on caps sum b x xs runs), runs_on)
 
 -- whether an entry is of one of these streams
 abbrev is_stream_in : List Entry → Entry → Bool
@@ -48,44 +44,26 @@ map_own (x ∷ xs) = ap (λ ys. x ∷ ys) (map_own xs)
 
 not_in : (x : Entry) (xs : List Entry) → AllByRecursion (λ y. stream_of x ≢ stream_of y) xs → is_stream_in xs x ≡ false
 not_in x [] ne = refl
-not_in x (y ∷ ys) ne =
-    or_from (stream_of y == stream_of x) (is_stream_in ys x) (ne_eqb (stream_of y) (stream_of x) (λ e. ne.0 (sym e))) (not_in x ys ne.1)
+not_in x (y ∷ ys) ne = grind (arith, not_in x ys ne.1, or_from, ne_eqb)
 
 -- one more entry of the order, at one entry
 one_settled : (now : ℕ) (b : Entry → Bool) (x : Entry) (xs : List Entry) (e : Entry)
     → AllByRecursion (λ y. stream_of x ≢ stream_of y) xs → (stream_of e ≡ stream_of x → e ≡ x)
     → settled_in now b xs (cond (stream_of e == stream_of x) (record e { since = since_after now x.since (b x) }) e)
     ≡ settled_in now b (x ∷ xs) e
-one_settled now b x xs e ne only =
-    elim (cases_Bool (stream_of e == stream_of x)) [
-      | inl h ↦ subst (λ (y : Entry). settled_in now b xs (cond (stream_of y == stream_of x) (record y { since = since_after now x.since (b x) }) y) ≡ settled_in now b (x ∷ xs) y)
-          (sym (only (eqb-true (stream_of e) (stream_of x) h)))
-          (ap (λ v. settled_in now b xs (cond v (settled_at now b x) x)) (eq-eqb (stream_of x) (stream_of x) refl)
-          ∙ (cond-false (is_stream_in xs x) (settled_at now b (settled_at now b x)) (settled_at now b x) (not_in x xs ne)
-          ∙ sym (cond-true (is_stream_in (x ∷ xs) x) (settled_at now b x) x (or_left (stream_of x == stream_of x) (is_stream_in xs x) (eq-eqb (stream_of x) (stream_of x) refl)))))
-      | inr h ↦ ap (λ v. settled_in now b xs (cond v (record e { since = since_after now x.since (b x) }) e)) h
-          ∙ ap (λ v. cond (v || is_stream_in xs e) (settled_at now b e) e)
-          (sym (ne_eqb (stream_of x) (stream_of e) (λ k. absurd (let l : false ≡ true = sym h ∙ eq-eqb (stream_of e) (stream_of x) (sym k) in cc))))
-    ]
+one_settled now b x xs e ne only = grind (arith, cases_Bool, only, eqb-true, eq-eqb, cond-false, not_in, cond-true, or_left, ne_eqb)
 
 all_settled : (now : ℕ) (b : Entry → Bool) (x : Entry) (xs es : List Entry)
     → AllByRecursion (λ y. stream_of x ≢ stream_of y) xs → IsOnlyIn es x
     → map (settled_in now b xs) (with_since es x (since_after now x.since (b x))) ≡ map (settled_in now b (x ∷ xs)) es
 all_settled now b x xs [] ne only = refl
-all_settled now b x xs (e ∷ es) ne only =
-    ap (λ y. y ∷ map (settled_in now b xs) (with_since es x (since_after now x.since (b x)))) (one_settled now b x xs e ne only.0)
-    ∙ ap (λ ys. settled_in now b (x ∷ xs) e ∷ ys) (all_settled now b x xs es ne only.1)
+all_settled now b x xs (e ∷ es) ne only = grind (arith, all_settled now b x xs es ne only.1, one_settled)
 
 -- setting a moment leaves the other streams as they were
 only-with_since : (es : List Entry) (x y : Entry) (since : Option Cs) → stream_of x ≢ stream_of y → IsOnlyIn es y
     → IsOnlyIn (with_since es x since) y
 only-with_since [] x y since ne only = tt
-only-with_since (e ∷ es) x y since ne only = (by_test (stream_of e == stream_of x) refl, only-with_since es x y since ne only.1)
-  where
-    by_test : (v : Bool) → stream_of e == stream_of x ≡ v → stream_of (cond v (record e { since = since }) e) ≡ stream_of y
-        → cond v (record e { since = since }) e ≡ y
-    by_test true h same = absurd (ne (sym (eqb-true (stream_of e) (stream_of x) h) ∙ same))
-    by_test false h same = only.0 same
+only-with_since (e ∷ es) x y since ne only = grind (arith, only-with_since es x y since ne only.1, eqb-true)
 
 pub with_pass_is : (now : ℕ) (caps : Caps) (sum : ℕ) (b : Entry → Bool) (xs es : List Entry) → Runs caps sum b xs
     → AreOfDifferentStreams xs → AllByRecursion (IsOnlyIn es) xs
@@ -108,10 +86,7 @@ only_own (x ∷ xs) different = (
 
 in_own : (xs : List Entry) → AllByRecursion (λ e. is_stream_in xs e ≡ true) xs
 in_own [] = tt
-in_own (x ∷ xs) = (
-  or_left (stream_of x == stream_of x) (is_stream_in xs x) (eq-eqb (stream_of x) (stream_of x) refl),
-  all_with xs (in_own xs) (in_own xs) (λ y h _. or_right (stream_of x == stream_of y) (is_stream_in xs y) h),
-)
+in_own (x ∷ xs) = grind (arith, in_own xs, or_left, eq-eqb, all_with, or_right)
 
 -- the choice that a pass makes
 abbrev choice_of : ℕ → Caps → List Entry → Entry → Bool
@@ -171,21 +146,14 @@ pass_keeps now o caps es order up p =
 with_since-above : (es : List Entry) (x : Entry) (since : Option Cs) → AllByRecursion (λ y. stream_of x < stream_of y) es
     → es ≡ with_since es x since
 with_since-above [] x since h = refl
-with_since-above (e ∷ es) x since h =
-    ap (λ ys. e ∷ ys) (with_since-above es x since h.1)
-    ∙ ap (λ v. cond v (record e { since = since }) e ∷ with_since es x since) (sym (ne_eqb (stream_of e) (stream_of x) (λ k. let l : stream_of x < stream_of e = h.0 in omega (arith, k, l))))
+with_since-above (e ∷ es) x since h = grind (arith, with_since-above es x since h.1, ne_eqb)
 
 pub with_since-found : (es : List Entry) (x : Entry) (since : Option Cs) (i : ℕ) (d : Entry) → IsAscending es
     → i < length es → stream_of (get_or es i d) ≡ stream_of x
     → set es i (record (get_or es i d) { since = since }) ≡ with_since es x since
 with_since-found [] x since i d up l e = absurd (omega (arith, l))
-with_since-found (y ∷ ys) x since zero d up l e =
-    ap (λ zs. record y { since = since } ∷ zs) (with_since-above ys x since (all_with ys up.0 up.0 (λ z k _. omega (arith, e, k))))
-    ∙ ap (λ v. cond v (record y { since = since }) y ∷ with_since ys x since) (sym (eq-eqb (stream_of y) (stream_of x) e))
-with_since-found (y ∷ ys) x since (suc i) d up l e =
-    let below : stream_of y < stream_of (get_or ys i d) = All-from_recursion (λ z. stream_of y < stream_of z) ys up.0 i d (omega (arith, l)) in
-    ap (λ zs. y ∷ zs) (with_since-found ys x since i d up.1 (omega (arith, l)) e)
-    ∙ ap (λ v. cond v (record y { since = since }) y ∷ with_since ys x since) (sym (ne_eqb (stream_of y) (stream_of x) (λ k. omega (arith, k, e, below))))
+with_since-found (y ∷ ys) x since zero d up l e = grind (arith, with_since-above, all_with, eq-eqb)
+with_since-found (y ∷ ys) x since (suc i) d up l e = grind (arith, with_since-found ys x since i d up.1 (omega (arith, l)) e, All-from_recursion, ne_eqb)
 
 with_since-none : (es : List Entry) (x : Entry) (since : Option Cs)
     → ((k : ℕ) (d : Entry) → k < length es → stream_of (get_or es k d) ≢ stream_of x) → es ≡ with_since es x since
@@ -197,20 +165,13 @@ with_since-none (e ∷ es) x since h =
 pub with_since-missing : (es : List Entry) (x : Entry) (since : Option Cs) (i : ℕ)
     → AllWithin (λ y. stream_of y < stream_of x) es 0 i
     → AllWithin (λ y. stream_of x < stream_of y) es i (length es) → es ≡ with_since es x since
-with_since-missing es x since i low high =
-    with_since-none es x since
-    (λ k d l e. elim (cases_lt k i) [ inl below ↦ omega (arith, low k d (omega arith) below, e) | inr over ↦ omega (arith, high k d over l, e) ])
+with_since-missing es x since i low high = grind (arith, with_since-none, cases_lt)
 
 -- a moment that is the entry's own changes nothing
 pub with_since-own : (es : List Entry) (x : Entry) (since : Option Cs) → x.since ≡ since → IsOnlyIn es x
     → es ≡ with_since es x since
 with_since-own [] x since same only = refl
-with_since-own (e ∷ es) x since same only =
-    ap (λ y. y ∷ es) (by_test (stream_of e == stream_of x) refl) ∙ ap (λ ys. cond (stream_of e == stream_of x) (record e { since = since }) e ∷ ys) (with_since-own es x since same only.1)
-  where
-    by_test : (v : Bool) → stream_of e == stream_of x ≡ v → e ≡ cond v (record e { since = since }) e
-    by_test true h = ap (λ s. record e { since = s }) (ap (λ (y : Entry). y.since) (only.0 (eqb-true (stream_of e) (stream_of x) h)) ∙ same)
-    by_test false h = refl
+with_since-own (e ∷ es) x since same only = grind (arith, with_since-own es x since same only.1, eqb-true)
 
 -- what a pass keeps, at its i-th entry
 pub record PassesAt (now : ℕ) (caps : Caps) (start : ℕ) (first before : List Entry) (sum i : ℕ) (order es : List Entry) : Type 0 where
@@ -327,10 +288,7 @@ after_at m n y x =
 
 -- a pass moves the moment of an entry from none to this one, or not at all, where it ends no booking
 moment_stays : (now : ℕ) (x : Entry) (s : Option Cs) (v : Bool) → x.since ≡ s → loses x v ≡ false → moment_or now (since_after now s v) ≡ moment_or now s
-moment_stays now x None true e h = refl
-moment_stays now x None false e h = refl
-moment_stays now x (Some t) true e h = refl
-moment_stays now x (Some t) false e h = absurd (let lost : true ≡ false = sym (ap is_some e) ∙ h in cc)
+moment_stays now x s v h1 h2 = grind arith
 
 module _ (now : ℕ) (caps : Caps) where
   all_passed : (x : Entry) (v : Bool) (sum : ℕ) (ys : List Entry) → loses x v ≡ false → AllByRecursion (λ y. comes_after now y x ≡ true) ys → has_loss caps sum ys ≡ false

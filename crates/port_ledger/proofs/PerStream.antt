@@ -1,12 +1,12 @@
 -- What a ledger's calls make of the entry of one stream.
-use Rattle.std.proofs.Common.{◌≡◌, ◌≢◌, ◌↔◌, ℕ, ◌<◌, Bool, true, false, ◌==◌, ◌&&◌, cond, List, [], ◌∷◌, map, Option, Some, None, option_map, option_and_then, IfSome, IsSome, refl, sym, ◌∙◌, ap, subst, arith, inl, inr}
+use Rattle.std.proofs.Common.{◌≡◌, ◌≢◌, ◌↔◌, ℕ, ◌<◌, Bool, true, false, ◌==◌, cond, List, [], ◌∷◌, map, Option, Some, None, option_map, option_and_then, IfSome, IsSome, refl, sym, ◌∙◌, ap, subst, arith, inl, inr}
 use Rattle.std.specs.Prelude.{find}
 use Rattle.std.specs.List.{AllByRecursion}
 use Rattle.std.proofs.lemmas.Bool.{eq-eqb, ne_eqb, and_parts, and_from, cases_order, cases_Bool, cond-true, cond-false, eqb-true, eqb-false}
-use Rattle.srp_base.specs.declared.{numbers.Cs.Cs, numbers.StreamId.StreamId, bandwidth.Class.Class, bandwidth.Class.TheVariants.A, bandwidth.Class.TheVariants.B, bandwidth.Rank.Rank, bandwidth.Rank.TheVariants.Emergency, bandwidth.Rank.TheVariants.Normal}
+use Rattle.srp_base.specs.declared.{numbers.Cs.Cs, numbers.StreamId.StreamId, bandwidth.Class.Class, bandwidth.Rank.Rank}
 use Rattle.stream_importance.specs.declared.{entry.Entry.Entry, entry.Want.Want, entry.Fit.Fit, entry.Fit.TheVariants.Fits, entry.Fit.TheVariants.TooLittle, slope.Caps.Caps}
 use Rattle.stream_importance.specs.{Bandwidth.cap_of, Importance.class_number, Importance.rank_number, Importance.IsImportanceOrder}
-use Rattle.port_ledger.specs.{stream_of, decided_entries, decided_set, booked_of, is_booked, does_fit, above, marks_of, with_moments, since_after, IsAscending, IsDecision, Decides, entry_of, entry_with, want_of, since_of, since_if_same, same_entry, same_since, same_want, unbooked_entry, with_want, tested_entry, fit_in, code_of}
+use Rattle.port_ledger.specs.{stream_of, decided_entries, decided_set, booked_of, is_booked, does_fit, above, marks_of, with_moments, IsAscending, IsDecision, Decides, entry_of, entry_with, want_of, since_of, since_if_same, same_entry, same_since, same_want, unbooked_entry, with_want, tested_entry, fit_in, code_of}
 use Rattle.port_ledger.proofs.{Finding.with_want-lower, Finding.with_want-same, Finding.with_want-higher, Marking.marked-map, Marking.decision_unique, Marking.different_from_ascending, Running.all_with, Standing.settled-own}
 
 -- where two functions agree on a list, they agree on what is found in it
@@ -26,82 +26,41 @@ one_booked now caps xs s d =
 
 -- wants are the same where each part is
 same_class : (a b : Class) → class_number a ≡ class_number b → a ≡ b
-same_class A A e = refl
-same_class A B e = absurd (omega (arith, e))
-same_class B A e = absurd (omega (arith, e))
-same_class B B e = refl
+same_class a b h1 = grind arith
 
 same_rank : (a b : Rank) → rank_number a ≡ rank_number b → a ≡ b
-same_rank Emergency Emergency e = refl
-same_rank Emergency Normal e = absurd (omega (arith, e))
-same_rank Normal Emergency e = absurd (omega (arith, e))
-same_rank Normal Normal e = refl
+same_rank a b h1 = grind arith
 
 pub same_want-refl : (a : Want) → same_want a a ≡ true
-same_want-refl a =
-    let streams : Bool = a.stream.0 == a.stream.0 in
-    let classes : Bool = class_number a.class == class_number a.class in
-    let ranks : Bool = rank_number a.rank == rank_number a.rank in
-    and_from (streams && classes && ranks) (a.slope == a.slope)
-    (and_from (streams && classes) ranks
-    (and_from streams classes (eq-eqb a.stream.0 a.stream.0 refl) (eq-eqb (class_number a.class) (class_number a.class) refl))
-    (eq-eqb (rank_number a.rank) (rank_number a.rank) refl))
-    (eq-eqb a.slope a.slope refl)
+same_want-refl a = grind (arith, and_from, eq-eqb)
 
 pub same_want-is : (a b : Want) → same_want a b ≡ true → a ≡ b
-same_want-is a b h =
-    let streams : Bool = a.stream.0 == b.stream.0 in
-    let classes : Bool = class_number a.class == class_number b.class in
-    let ranks : Bool = rank_number a.rank == rank_number b.rank in
-    let all = and_parts (streams && classes && ranks) (a.slope == b.slope) h in
-    let three = and_parts (streams && classes) ranks all.0 in
-    let two = and_parts streams classes three.0 in
-    let stream : a.stream.0 ≡ b.stream.0 = eqb-true a.stream.0 b.stream.0 two.0 in
-    let class : a.class ≡ b.class = same_class a.class b.class (eqb-true (class_number a.class) (class_number b.class) two.1) in
-    let rank : a.rank ≡ b.rank = same_rank a.rank b.rank (eqb-true (rank_number a.rank) (rank_number b.rank) three.1) in
-    let slope : a.slope ≡ b.slope = eqb-true a.slope b.slope all.1 in
-    ap (λ n. record { stream = record { 0 = n }; class = a.class; rank = a.rank; slope = a.slope }) stream
-    ∙ (ap (λ c. record { stream = b.stream; class = c; rank = a.rank; slope = a.slope }) class
-    ∙ (ap (λ r. record { stream = b.stream; class = b.class; rank = r; slope = a.slope }) rank
-    ∙ ap (λ n. record { stream = b.stream; class = b.class; rank = b.rank; slope = n }) slope))
+same_want-is a b h = grind (arith, and_parts, eqb-true, same_class, same_rank)
 
 -- so are moments
 pub same_since-is : (a b : Option Cs) → same_since a b ≡ true → a ≡ b
-same_since-is None None h = refl
-same_since-is None (Some b) h = cc
-same_since-is (Some a) None h = cc
-same_since-is (Some a) (Some b) h = ap (λ n. Some (record { 0 = n })) (eqb-true a.0 b.0 h)
+same_since-is a b h1 = grind (arith, eqb-true)
 
 same_since-refl : (a : Option Cs) → same_since a a ≡ true
-same_since-refl None = refl
-same_since-refl (Some a) = eq-eqb a.0 a.0 refl
+same_since-refl a = grind (arith, eq-eqb)
 
 -- and entries
 pub same_entry-is : (x y : Entry) → same_entry x y ≡ true → x ≡ y
-same_entry-is x y h =
-    let both = and_parts (same_want x.want y.want) (same_since x.since y.since) h in
-    ap (λ w. record { want = w; since = x.since }) (same_want-is x.want y.want both.0)
-    ∙ ap (λ s. record { want = y.want; since = s }) (same_since-is x.since y.since both.1)
+same_entry-is x y h = grind (arith, and_parts, same_want-is, same_since-is)
 
 pub same_entry-refl : (x : Entry) → same_entry x x ≡ true
 same_entry-refl x = and_from (same_want x.want x.want) (same_since x.since x.since) (same_want-refl x.want) (same_since-refl x.since)
 
 -- the entry that stands in an entry's place has the want
 want-entry_with : (x : Entry) (want : Want) → (entry_with x want).want ≡ want
-want-entry_with x want = by_test (same_want x.want want) (same_want-is x.want want)
-  where
-    by_test : (b : Bool) → (b ≡ true → x.want ≡ want) → (cond b x (unbooked_entry want)).want ≡ want
-    by_test true f = f refl
-    by_test false f = refl
+want-entry_with x want = grind (arith, same_want-is)
 
 -- the first entry is that of the stream, or the stream's entry is further on
 pub want_of-here : (x : Entry) (xs : List Entry) (s : StreamId) → stream_of x ≡ s.0 → want_of (x ∷ xs) s ≡ Some x.want
-want_of-here x xs s e =
-    ap (λ v. option_map (λ (y : Entry). y.want) (cond v (Some x) (entry_of xs s))) (eq-eqb (stream_of x) s.0 e)
+want_of-here x xs s e = grind (arith, option_map, eq-eqb)
 
 pub want_of-past : (x : Entry) (xs : List Entry) (s : StreamId) → stream_of x ≢ s.0 → want_of (x ∷ xs) s ≡ want_of xs s
-want_of-past x xs s ne =
-    ap (λ v. option_map (λ (y : Entry). y.want) (cond v (Some x) (entry_of xs s))) (ne_eqb (stream_of x) s.0 ne)
+want_of-past x xs s ne = grind (arith, option_map, ne_eqb)
 
 stream_of-entry_with : (x : Entry) (want : Want) → stream_of (entry_with x want) ≡ want.stream.0
 stream_of-entry_with x want = ap (λ (w : Want). w.stream.0) (want-entry_with x want)
@@ -152,24 +111,16 @@ want_of-other want (x ∷ xs) s ne =
 pub want_of-settled : (now : ℕ) (b : Entry → Bool) (xs : List Entry) (s : StreamId)
     → want_of (with_moments now xs (map b xs)) s ≡ want_of xs s
 want_of-settled now b [] s = refl
-want_of-settled now b (x ∷ xs) s =
-    elim (stream_of x == s.0)
-    as (λ v. option_map (λ (y : Entry). y.want) (cond v (Some (record x { since = since_after now x.since (b x) })) (entry_of (with_moments now xs (map b xs)) s))
-    ≡ option_map (λ (y : Entry). y.want) (cond v (Some x) (entry_of xs s))) [ true ↦ refl | false ↦ want_of-settled now b xs s ]
+want_of-settled now b (x ∷ xs) s = grind (arith, want_of-settled now b xs s, option_map)
 
 want_of-decided : (now : ℕ) (caps : Caps) (before after : List Entry) (s : StreamId)
     → Decides now caps before after → want_of after s ≡ want_of before s
-want_of-decided now caps before after s d =
-    ap (λ ys. want_of ys s) (d.moments ∙ ap (with_moments now before) d.decision) ∙ want_of-settled now _ before s
+want_of-decided now caps before after s d = grind (arith, want_of-settled)
 
 -- of its own stream the want, and of each other stream the want that it had
 want_of-with_want : (want : Want) (old : List Entry) (s : StreamId)
     → want_of (with_want old want) s ≡ cond (s.0 == want.stream.0) (Some want) (want_of old s)
-want_of-with_want want old s =
-    elim (cases_Bool (s.0 == want.stream.0)) [
-      | inl h ↦ want_of-own want old s (eqb-true s.0 want.stream.0 h) ∙ sym (cond-true (s.0 == want.stream.0) (Some want) (want_of old s) h)
-      | inr h ↦ want_of-other want old s (eqb-false s.0 want.stream.0 h) ∙ sym (cond-false (s.0 == want.stream.0) (Some want) (want_of old s) h)
-    ]
+want_of-with_want want old s = grind (arith, cases_Bool, want_of-own, eqb-true, cond-true, want_of-other, eqb-false, cond-false)
 
 pub wants_wanted : (now : ℕ) (caps : Caps) (old : List Entry) (want : Want) (s : StreamId)
     → want_of (decided_entries now caps (with_want old want)) s ≡ cond (s.0 == want.stream.0) (Some want) (want_of old s)
@@ -213,16 +164,12 @@ with_want-again want (x ∷ xs) up h =
 -- entries that are decided already are left as they are
 pub decided_again : (now : ℕ) (o : IsImportanceOrder now) (caps : Caps) (xs ys : List Entry) → IsAscending xs
     → IsDecision now caps xs (marks_of xs) → Decides now caps xs ys → ys ≡ xs
-decided_again now o caps xs ys up d decides =
-    decides.moments
-    ∙ (ap (with_moments now xs) (decision_unique now o caps xs (different_from_ascending xs up) (marks_of ys) (marks_of xs) decides.decision d)
-    ∙ settled-own now xs)
+decided_again now o caps xs ys up d decides = grind (arith, decision_unique, different_from_ascending, settled-own)
 
 pub same_again : (now : ℕ) (o : IsImportanceOrder now) (caps : Caps) (old new : List Entry) (want : Want)
     → IsAscending old
     → IsDecision now caps old (marks_of old) → Decides now caps (with_want old want) new → want_of old want.stream ≡ Some want → new ≡ old
-same_again now o caps old new want up d decides h =
-    decided_again now o caps old new up d (subst (λ ys. Decides now caps ys new) (with_want-again want old up h) decides)
+same_again now o caps old new want up d decides h = grind (arith, decided_again, with_want-again)
 
 -- a want that is kept is tested as its entry, so it fits exactly where it is booked
 pub kept_fits : (now : ℕ) (caps : Caps) (entries : List Entry) (want : Want) (fit : Fit)

@@ -19,11 +19,7 @@ goes_either_way now o x y ne =
 
 goes_far : (now : ℕ) (o : IsImportanceOrder now) (x y z : Entry) → stream_of x ≢ stream_of z
     → comes_after now y x ≡ true → comes_after now z y ≡ true → comes_after now z x ≡ true
-goes_far now o x y z ne h k =
-    and_from (not (stream_of x == stream_of z)) (is_more_important now x z)
-    (not_from_false (stream_of x == stream_of z) (ne_eqb (stream_of x) (stream_of z) ne))
-    (o.transitive x y z (and_parts (not (stream_of x == stream_of y)) (is_more_important now x y) h).1
-    (and_parts (not (stream_of y == stream_of z)) (is_more_important now y z) k).1)
+goes_far now o x y z ne h k = grind (arith, and_from, not_from_false, ne_eqb, and_parts)
 
 -- what is placed is among the others
 IsPermutation-place : (now : ℕ) (x : Entry) (ys : List Entry) → IsPermutation (x ∷ ys) (place now x ys)
@@ -78,15 +74,11 @@ copies stream (x ∷ xs) = one_if (stream_of x == stream) + copies stream xs
 
 copies-none : (stream : ℕ) (xs : List Entry) → AllByRecursion (λ y. stream ≢ stream_of y) xs → copies stream xs ≡ 0
 copies-none stream [] ne = refl
-copies-none stream (x ∷ xs) ne =
-    ap (λ v. one_if v + copies stream xs) (ne_eqb (stream_of x) stream (λ e. ne.0 (sym e))) ∙ (zero-add (copies stream xs) ∙ copies-none stream xs ne.1)
+copies-none stream (x ∷ xs) ne = grind (arith, copies-none stream xs ne.1, ne_eqb, zero-add)
 
 none_from_copies : (stream : ℕ) (xs : List Entry) → copies stream xs ≡ 0 → AllByRecursion (λ y. stream ≢ stream_of y) xs
 none_from_copies stream [] h = tt
-none_from_copies stream (x ∷ xs) h = (
-  (λ e. let one : one_if (stream_of x == stream) ≡ 1 = ap one_if (eq-eqb (stream_of x) stream (sym e)) in omega (arith, one, h)),
-  none_from_copies stream xs (omega (arith, h)),
-)
+none_from_copies stream (x ∷ xs) h = grind (arith, none_from_copies stream xs (omega (arith, h)), eq-eqb)
 
 copies_at_most : (xs : List Entry) → AreOfDifferentStreams xs → (stream : ℕ) → copies stream xs ≤ 1
 copies_at_most [] different stream = omega arith
@@ -104,11 +96,7 @@ copies_at_most (x ∷ xs) different stream =
 
 different_from_copies : (xs : List Entry) → ((stream : ℕ) → copies stream xs ≤ 1) → AreOfDifferentStreams xs
 different_from_copies [] h = tt
-different_from_copies (x ∷ xs) h =
-    let one : one_if (stream_of x == stream_of x) ≡ 1 = ap one_if (eq-eqb (stream_of x) (stream_of x) refl) in (
-      none_from_copies (stream_of x) xs (omega (arith, one, h (stream_of x))),
-      different_from_copies xs (λ s. omega (arith, h s)),
-    )
+different_from_copies (x ∷ xs) h = grind (arith, different_from_copies xs (λ s. omega (arith, h s)), eq-eqb, none_from_copies)
 
 pub different_permuted : (xs ys : List Entry) → IsPermutation xs ys → AreOfDifferentStreams xs
     → AreOfDifferentStreams ys

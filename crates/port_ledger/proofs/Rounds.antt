@@ -28,10 +28,7 @@ FollowsFrom now caps sum b c set x = c x ≡ nat_le (sum + total b now x set + e
 first_same : (now : ℕ) (o : IsImportanceOrder now) (caps : Caps) (s t : ℕ) (b c d : Entry → Bool) (x : Entry) (xs : List Entry)
     → s ≡ t → IsRanked now (x ∷ xs) → FollowsFrom now caps s b c (x ∷ xs) x → Holds now caps t d (x ∷ xs) x
     → c x ≡ d x
-first_same now o caps s t b c d x xs same order follows holds =
-    let sums : s + total b now x (x ∷ xs) ≡ t + total d now x (x ∷ xs) =
-    omega (arith, same, total-head b now o x xs order.0, total-head d now o x xs order.0) in
-    follows ∙ (ap (λ k. nat_le (k + entry_slope x) (cap_of caps x.want.class)) sums ∙ sym holds)
+first_same now o caps s t b c d x xs same order follows holds = grind (arith, total, total-head)
 
 -- after each round one more entry is judged as the decided set judges it
 one_more : (now : ℕ) (o : IsImportanceOrder now) (caps : Caps) (n s t : ℕ) (b c d : Entry → Bool) (xs : List Entry)
@@ -112,10 +109,7 @@ decided_by_choice now o caps b xs different holds =
 -- of one decision there is one outcome
 pub decided_only : (now : ℕ) (o : IsImportanceOrder now) (caps : Caps) (before after : List Entry)
     → AreOfDifferentStreams before → Decides now caps before after → after ≡ decided_entries now caps before
-decided_only now o caps before after different d =
-    d.moments
-    ∙ (ap (with_moments now before) d.decision
-    ∙ sym (decided_by_choice now o caps (choice now caps before (marks_of after)) before different (holds_from_decision now caps before (marks_of after) d.decision)))
+decided_only now o caps before after different d = grind (arith, decided_by_choice, choice, holds_from_decision)
 
 pub decides_by_choice : (now : ℕ) (o : IsImportanceOrder now) (caps : Caps) (b : Entry → Bool) (xs after : List Entry)
     → AllByRecursion (Holds now caps 0 b xs) xs → after ≡ with_moments now xs (map b xs) → Decides now caps xs after

@@ -1,12 +1,12 @@
 -- Going through the entries in the order of importance with a running sum meets the condition on the set,
 -- and whatever meets the condition comes of going so.
-use Rattle.std.proofs.Common.{◌≡◌, ℕ, ◌+◌, Bool, true, false, not, ◌==◌, cond, List, [], ◌∷◌, filter, sum_by, refl, sym, ◌∙◌, ap, arith, zero-add}
+use Rattle.std.proofs.Common.{◌≡◌, ℕ, ◌+◌, Bool, true, false, cond, List, [], ◌∷◌, filter, sum_by, refl, sym, ◌∙◌, ap, arith, zero-add}
 use Rattle.std.specs.Prelude.{nat_le}
 use Rattle.std.specs.List.{AllByRecursion}
 use Rattle.std.proofs.lemmas.{List.Sums.sum_by-cons, Bool.eq-eqb, Bool.and_parts, Bool.and_left, Bool.and_right, Bool.false_from_ne_true, Bool.not_from_true, Bool.cond-false, Bool.cond-true}
 use Rattle.stream_importance.specs.declared.{entry.Entry.Entry, slope.Caps.Caps}
-use Rattle.stream_importance.specs.{Bandwidth.cap_of, Importance.is_more_important, Importance.IsImportanceOrder}
-use Rattle.port_ledger.specs.{stream_of, entry_slope, comes_after, above}
+use Rattle.stream_importance.specs.{Bandwidth.cap_of, Importance.IsImportanceOrder}
+use Rattle.port_ledger.specs.{entry_slope, comes_after, above}
 pub use Rattle.port_ledger.specs.Front.{IsRanked, Runs}
 
 -- what the chosen entries of one kind take, as a sum over all entries
@@ -27,11 +27,7 @@ sum-filter-cons kind e es =
 pub sum-filter : (b kind : Entry → Bool) (es : List Entry)
     → sum_by entry_slope (filter kind (filter b es)) ≡ part b kind es
 sum-filter b kind [] = refl
-sum-filter b kind (e ∷ es) =
-    elim (b e) as (λ v. sum_by entry_slope (filter kind (cond v (e ∷ filter b es) (filter b es))) ≡ cond v (cond (kind e) (entry_slope e) 0) 0 + part b kind es) [
-      | true ↦ sum-filter-cons kind e (filter b es) ∙ ap (λ n. cond (kind e) (entry_slope e) 0 + n) (sum-filter b kind es)
-      | false ↦ sum-filter b kind es ∙ sym (zero-add (part b kind es))
-    ]
+sum-filter b kind (e ∷ es) = grind (arith, sum-filter b kind es, sum-filter-cons, zero-add)
 
 pub above-filter : (b : Entry → Bool) (now : ℕ) (x : Entry) (es : List Entry)
     → above now x (filter b es) ≡ total b now x es
@@ -49,49 +45,34 @@ all_with (x ∷ xs) p q f = (f x p.0 q.0, all_with xs p.1 q.1 f)
 -- of two entries one goes before the other at most
 goes_one_way : (now : ℕ) (o : IsImportanceOrder now) (x y : Entry) → comes_after now y x ≡ true
     → comes_after now x y ≡ false
-goes_one_way now o x y h =
-    and_right (not (stream_of y == stream_of x)) (is_more_important now y x)
-    (false_from_ne_true (is_more_important now y x)
-    (λ k. o.strict x y (and_parts (not (stream_of x == stream_of y)) (is_more_important now x y) h).1 k))
+goes_one_way now o x y h = grind (arith, and_right, false_from_ne_true, and_parts)
 
 not_itself : (now : ℕ) (x : Entry) → comes_after now x x ≡ false
-not_itself now x =
-    and_left (not (stream_of x == stream_of x)) (is_more_important now x x)
-    (not_from_true (stream_of x == stream_of x) (eq-eqb (stream_of x) (stream_of x) refl))
+not_itself now x = grind (arith, and_left, not_from_true, eq-eqb)
 
 -- an entry that goes before x counts where it is chosen, and another doesn't
 pub weight-no : (b g : Bool) (s : ℕ) → g ≡ false → cond b (cond g s 0) 0 ≡ 0
-weight-no true g s h = cond-false g s 0 h
-weight-no false g s h = refl
+weight-no b g s h1 = grind (arith, cond-false)
 
 pub weight-yes : (b g : Bool) (s : ℕ) → g ≡ true → cond b (cond g s 0) 0 ≡ cond b s 0
-weight-yes true g s h = cond-true g s 0 h
-weight-yes false g s h = refl
+weight-yes b g s h1 = grind (arith, cond-true)
 
 -- nothing that goes after x goes before it
 total-none : (b : Entry → Bool) (now : ℕ) (o : IsImportanceOrder now) (x : Entry) (es : List Entry)
     → AllByRecursion (λ y. comes_after now y x ≡ true) es → total b now x es ≡ 0
 total-none b now o x [] h = refl
-total-none b now o x (e ∷ es) h =
-    let w : cond (b e) (cond (comes_after now x e) (entry_slope e) 0) 0 ≡ 0 = weight-no (b e) (comes_after now x e) (entry_slope e) (goes_one_way now o x e h.0) in
-    let r : total b now x es ≡ 0 = total-none b now o x es h.1 in
-    omega (arith, w, r)
+total-none b now o x (e ∷ es) h = grind (arith, total-none b now o x es h.1, weight-no, goes_one_way)
 
 -- at the head nothing goes before
 pub total-head : (b : Entry → Bool) (now : ℕ) (o : IsImportanceOrder now) (x : Entry) (xs : List Entry)
     → AllByRecursion (λ y. comes_after now y x ≡ true) xs → total b now x (x ∷ xs) ≡ 0
-total-head b now o x xs h =
-    let w : cond (b x) (cond (comes_after now x x) (entry_slope x) 0) 0 ≡ 0 = weight-no (b x) (comes_after now x x) (entry_slope x) (not_itself now x) in
-    let r : total b now x xs ≡ 0 = total-none b now o x xs h in
-    omega (arith, w, r)
+total-head b now o x xs h = grind (arith, weight-no, not_itself, total-none)
 
 -- further on the head counts where it is chosen
 pub total-tail : (b : Entry → Bool) (now : ℕ) (x y : Entry) (xs : List Entry) (sum : ℕ)
     → comes_after now y x ≡ true
     → sum + cond (b x) (entry_slope x) 0 + total b now y xs ≡ sum + total b now y (x ∷ xs)
-total-tail b now x y xs sum h =
-    let w : cond (b x) (cond (comes_after now y x) (entry_slope x) 0) 0 ≡ cond (b x) (entry_slope x) 0 = weight-yes (b x) (comes_after now y x) (entry_slope x) h in
-    omega (arith, w)
+total-tail b now x y xs sum h = grind (arith, weight-yes)
 
 pub holds_from_runs : (now : ℕ) (o : IsImportanceOrder now) (caps : Caps) (sum : ℕ) (b : Entry → Bool) (xs : List Entry)
     → IsRanked now xs → Runs caps sum b xs → AllByRecursion (Holds now caps sum b xs) xs

@@ -6,7 +6,7 @@ use Rattle.std.proofs.lemmas.{Bool.and_cases, Bool.and_from, Bool.and_left, Bool
 use Rattle.srp_base.proofs.Lists.{each_append as all_join, all_taken}
 use Rattle.stream_importance.specs.declared.{entry.Entry.Entry, slope.Caps.Caps}
 use Rattle.stream_importance.specs.{Bandwidth.cap_of, Importance.IsImportanceOrder}
-use Rattle.port_ledger.specs.{entry_slope, comes_after, is_booked, AreLasting, first_booked, first_level, has_level, is_of_level, is_prior_to, level_of, IsAhead, IsBehind, IsSettled, same_level, settled_front, settled_levels, stays_after, stays_behind, place, importance_order}
+use Rattle.port_ledger.specs.{entry_slope, comes_after, is_booked, AreLasting, first_booked, first_level, has_level, is_of_level, is_prior_to, IsAhead, IsBehind, IsSettled, same_level, settled_front, settled_levels, stays_after, stays_behind, place, importance_order}
 use Rattle.port_ledger.proofs.{Levels.after_behind, Levels.after_later, Levels.after_parts, Levels.behind_later, Levels.behind_parts, Levels.below_from, Levels.comes_level, Levels.differ, Levels.level, Levels.not_same, Levels.prior_back, Levels.prior_beyond, Levels.same_is, Marking.all_of, Running.all_with, Running.Holds, Running.IsRanked, Running.Runs, Running.total, Running.total-head, Running.total-tail}
 
 -- ---- lists of facts
@@ -41,10 +41,6 @@ dropped_within P (suc n) (x ∷ xs) h = dropped_within P n xs (λ k d le l. h (s
 
 -- ---- an order that lasts
 
-pub lasting_ranked : (now : ℕ) (xs : List Entry) → AreLasting now xs → IsRanked now xs
-lasting_ranked now [] h = tt
-lasting_ranked now (x ∷ xs) h = (all_with xs h.0 h.0 (λ y k _. (after_parts now x y k).0), lasting_ranked now xs h.1)
-
 lasting_later : (now later : ℕ) (xs : List Entry) → now ≤ later → AreLasting now xs → AreLasting later xs
 lasting_later now later [] up h = tt
 lasting_later now later (x ∷ xs) up h = (all_with xs h.0 h.0 (λ y k _. after_later now later x y up k), lasting_later now later xs up h.1)
@@ -77,10 +73,7 @@ ahead_ranked now (x ∷ front) rest a r = (ahead_first now x front rest a, ahead
 -- a front grows by what is ahead of the others behind it
 lasting_join : (now : ℕ) (f g : List Entry) → AreLasting now f → AllByRecursion (IsBehind now f) g → AreLasting now g → AreLasting now (f ++ g)
 lasting_join now [] g a b c = c
-lasting_join now (x ∷ f) g a b c = (
-  all_join (λ y. stays_after now y x ≡ true) f g a.0 (all_with g b b (λ y h _. after_behind now x y h.0)),
-  lasting_join now f g a.1 (all_with g b b (λ y h _. h.1)) c,
-)
+lasting_join now (x ∷ f) g a b c = grind (arith, lasting_join now f g a.1 (all_with g b b (λ y h _. h.1)) c, all_join, all_with, after_behind)
 
 ahead_more : (now : ℕ) (f g r : List Entry) → IsAhead now f (g ++ r) → IsAhead now g r → IsAhead now (f ++ g) r
 ahead_more now f g r a b = record {
@@ -90,12 +83,7 @@ ahead_more now f g r a b = record {
 
 -- what is ahead of the others is settled
 pub settled_seam : (now n : ℕ) (f r : List Entry) → length f ≡ n → IsAhead now f r → IsSettled now n (f ++ r)
-settled_seam now n f r e a = record {
-  within = omega (arith, e, length-append f r);
-  ahead =
-      subst (λ (xs : List Entry). IsAhead now xs (drop n (f ++ r))) (sym (take_at f r n e))
-      (subst (λ (xs : List Entry). IsAhead now f xs) (sym (drop_at f r n e)) a);
-}
+settled_seam now n f r e a = grind (arith, length-append, take_at, drop_at)
 
 pub ahead_settled : (now k n : ℕ) (f r : List Entry) → IsAhead now f r → k ≤ length r → IsAhead now (take k r) (drop k r) → n ≡ length f + k
     → IsSettled now n (f ++ r)
@@ -110,27 +98,15 @@ ahead_settled now k n f r a le b e =
 -- what is counted by the levels alone is the settled front
 level_same : (x : Entry) (xs : List Entry) → is_of_level x (first_level xs) ≡ has_level x (first_booked xs)
 level_same x [] = refl
-level_same x (y ∷ ys) = by_test (is_booked y) (level_same x ys)
-  where
-    by_test : (v : Bool) → is_of_level x (first_level ys) ≡ has_level x (first_booked ys)
-        → is_of_level x (cond v (Some (level_of y)) (first_level ys)) ≡ has_level x (cond v (Some y) (first_booked ys))
-    by_test true h = refl
-    by_test false h = h
+level_same x (y ∷ ys) = grind (arith, level_same x ys)
 
 pub levels_settled : (xs : List Entry) → settled_levels xs ≡ settled_front xs
 levels_settled [] = refl
-levels_settled (x ∷ xs) =
-    ap (λ v. cond (not (is_booked x) && v) 0 (suc (settled_levels xs))) (level_same x xs)
-    ∙ ap (λ n. cond (not (is_booked x) && has_level x (first_booked xs)) 0 (suc n)) (levels_settled xs)
+levels_settled (x ∷ xs) = grind (arith, levels_settled xs, level_same)
 
 pub settled_short : (xs : List Entry) → settled_front xs ≤ length xs
 settled_short [] = omega arith
-settled_short (x ∷ xs) =
-    let rest = settled_short xs in
-    elim (not (is_booked x) && has_level x (first_booked xs)) as (λ v. cond v 0 (suc (settled_front xs)) ≤ suc (length xs)) [
-      | true ↦ omega arith
-      | false ↦ omega (arith, rest)
-    ]
+settled_short (x ∷ xs) = grind (arith, settled_short xs)
 
 -- no entry behind x that is booked is of its level
 abbrev NoneBooked : Entry → List Entry → Type 0
@@ -183,10 +159,7 @@ far_behind now x (y ∷ ys) c r n =
 
 one_more : (now k : ℕ) (x : Entry) (xs : List Entry) → AllByRecursion (λ y. stays_after now y x ≡ true) xs → AllByRecursion (λ z. stays_behind now z x ≡ true) (drop k xs)
     → IsAhead now (take k xs) (drop k xs) → IsAhead now (x ∷ take k xs) (drop k xs)
-one_more now k x xs after behind a = record {
-  lasting = (all_taken (λ y. stays_after now y x ≡ true) k xs after, a.lasting);
-  behind = all_with (drop k xs) behind a.behind (λ y h g. (h, g));
-}
+one_more now k x xs after behind a = grind (arith, all_taken, all_with)
 
 pub ranked_settled : (now : ℕ) (xs : List Entry) → IsRanked now xs → IsAhead now (take (settled_front xs) xs) (drop (settled_front xs) xs)
 ranked_settled now [] r = nothing_ahead now []
@@ -265,12 +238,7 @@ prior_parted now o goes comes xs r i j d le within h =
 -- an entry behind the cut is of no level that waits before it
 cut_behind : (now : ℕ) (goes comes : Option Entry) (y z : Entry) → stays_after now z y ≡ true → is_prior_to_both now goes comes y ≡ true
     → is_prior_to_both now goes comes z ≡ false → stays_behind now z y ≡ true
-cut_behind now goes comes y z s h k =
-    let parts = and_parts (is_prior_to now goes y) (is_prior_to now comes y) h in
-    elim (and_cases (is_prior_to now goes z) (is_prior_to now comes z) k) [
-      | inl g ↦ prior_beyond now goes y z s parts.0 g
-      | inr g ↦ prior_beyond now comes y z s parts.1 g
-    ]
+cut_behind now goes comes y z s h k = grind (arith, and_parts, and_cases, prior_beyond)
 
 cut_ahead : (now n : ℕ) (goes comes : Option Entry) (xs : List Entry) → AreLasting now xs → AllByRecursion (λ y. is_prior_to_both now goes comes y ≡ true) (take n xs)
     → AllByRecursion (λ y. is_prior_to_both now goes comes y ≡ false) (drop n xs) → IsAhead now (take n xs) (drop n xs)

@@ -1,12 +1,12 @@
 -- The booked slopes stay within the caps.
-use Rattle.std.proofs.Common.{◌≡◌, ◌⊎◌, ℕ, ◌+◌, ◌≤◌, Bool, true, false, not, ◌==◌, cond, List, [], ◌∷◌, filter, sum_by, refl, sym, ◌∙◌, ap, subst, arith, inl, inr}
+use Rattle.std.proofs.Common.{◌≡◌, ◌⊎◌, ℕ, ◌+◌, ◌≤◌, Bool, true, ◌==◌, cond, List, [], ◌∷◌, refl, ap, arith, inl, inr}
 use Rattle.std.specs.Prelude.{nat_le}
-use Rattle.std.specs.{declared.cmp.Ordering.Ordering, declared.cmp.Ordering.TheVariants.Less, declared.cmp.Ordering.TheVariants.Equal, declared.cmp.Ordering.TheVariants.Greater, Ordering.nat_cmp, Ordering.is_lt, Ordering.ordering_then, List.AllByRecursion}
+use Rattle.std.specs.{List.AllByRecursion}
 use Rattle.std.proofs.lemmas.Bool.{and_parts, leb-true}
 use Rattle.srp_base.specs.declared.{bandwidth.Class.Class, bandwidth.Class.TheVariants.A, bandwidth.Class.TheVariants.B}
-use Rattle.stream_importance.specs.declared.{entry.Entry.Entry, entry.Fit.Fit, entry.Fit.TheVariants.Fits, entry.Fit.TheVariants.TooLittle, slope.Caps.Caps}
-use Rattle.stream_importance.specs.{Bandwidth.cap_of, Importance.class_number, Importance.rank_number, Importance.moment_or, Importance.is_more_important, Importance.IsImportanceOrder}
-use Rattle.port_ledger.specs.{stream_of, entry_slope, above, does_fit, comes_after, is_booked, booked_of, marks_of, IsDecision, AreOfDifferentStreams, IsKept, IsFitWithin, booked_slope, code_of, fit_in, importance_order}
+use Rattle.stream_importance.specs.declared.{entry.Entry.Entry, entry.Fit.Fit, slope.Caps.Caps}
+use Rattle.stream_importance.specs.{Bandwidth.cap_of, Importance.class_number, Importance.IsImportanceOrder}
+use Rattle.port_ledger.specs.{entry_slope, above, comes_after, booked_of, marks_of, IsDecision, AreOfDifferentStreams, IsKept, IsFitWithin, booked_slope, fit_in, importance_order}
 use Rattle.port_ledger.specs.Book.{Book}
 use Rattle.port_ledger.proofs.{Running.part, Running.sum-filter, Running.weight-no, Running.weight-yes, Running.IsRanked, Running.Runs, Running.all_with, Ranking.ranked_is_ranked, Ranking.IsPermutation-ranked, Ranking.part-IsPermutation, Marking.choice, Marking.different_from_ascending, Marking.marked-map, Marking.marked-choice, Marking.holds_from_decision, Marking.ranked_runs}
 
@@ -17,20 +17,15 @@ is_of class x = class_number x.want.class == class_number class
 -- of each entry one class has the slope
 pub class_parts : (class : Class) (slope : ℕ) (chosen : Bool)
     → cond chosen (cond (class_number class == 0) slope 0) 0 + cond chosen (cond (class_number class == 1) slope 0) 0 ≡ cond chosen slope 0
-class_parts A slope true = omega arith
-class_parts A slope false = omega arith
-class_parts B slope true = omega arith
-class_parts B slope false = omega arith
+class_parts class slope chosen = grind arith
 
 -- a chosen one stays within its cap, so what is let in stays within the larger cap
 cap_within : (caps : Caps) (class : Class) → caps.class_a ≤ caps.both → cap_of caps class ≤ caps.both
-cap_within caps A h = h
-cap_within caps B h = omega arith
+cap_within caps class h1 = grind arith
 
 step_within : (chosen : Bool) (sum slope cap most : ℕ) → chosen ≡ nat_le (sum + slope) cap → cap ≤ most
     → sum ≤ most → sum + cond chosen slope 0 ≤ most
-step_within true sum slope cap most e h k = omega (arith, leb-true (sum + slope) cap (sym e))
-step_within false sum slope cap most e h k = omega arith
+step_within chosen sum slope cap most h1 h2 h3 = grind (arith, leb-true)
 
 pub runs_both : (caps : Caps) (sum : ℕ) (b : Entry → Bool) (xs : List Entry) → caps.class_a ≤ caps.both
     → sum ≤ caps.both → Runs caps sum b xs → sum + (part b (is_of A) xs + part b (is_of B) xs) ≤ caps.both
@@ -43,25 +38,11 @@ runs_both caps sum b (x ∷ xs) shares h runs =
 -- after an entry of class B come only such
 not_a_after_b : (now : ℕ) (x y : Entry) (class other : Class) → x.want.class ≡ class → y.want.class ≡ other
     → class ≡ B → comes_after now y x ≡ true → other ≡ B
-not_a_after_b now x y class B e f g h = refl
-not_a_after_b now x y class A e f g h =
-    let lt : is_more_important now x y ≡ true = (and_parts (not (stream_of x == stream_of y)) (is_more_important now x y) h).1 in
-    let first : nat_cmp (class_number x.want.class) (class_number y.want.class) ≡ Greater =
-    ap (λ c. nat_cmp (class_number c) (class_number y.want.class)) (e ∙ g) ∙ ap (λ c. nat_cmp (class_number B) (class_number c)) f in
-    absurd (greater_isnt_less (nat_cmp (class_number x.want.class) (class_number y.want.class))
-    (ordering_then (nat_cmp (rank_number x.want.rank) (rank_number y.want.rank))
-    (ordering_then (nat_cmp (moment_or now x.since) (moment_or now y.since)) (nat_cmp (stream_of x) (stream_of y)))) first lt)
-  where
-    greater_isnt_less : (o rest : Ordering) → o ≡ Greater → is_lt (ordering_then o rest) ≡ true → ⊥
-    greater_isnt_less Less rest e h = cc
-    greater_isnt_less Equal rest e h = cc
-    greater_isnt_less Greater rest e h = cc
+not_a_after_b now x y class other h1 h2 h3 h4 = grind (arith, and_parts)
 
 none_of_a : (b : Entry → Bool) (xs : List Entry) → AllByRecursion (λ y. y.want.class ≡ B) xs → part b (is_of A) xs ≡ 0
 none_of_a b [] h = refl
-none_of_a b (x ∷ xs) h =
-    let w : cond (b x) (cond (is_of A x) (entry_slope x) 0) 0 ≡ 0 = weight-no (b x) (is_of A x) (entry_slope x) (ap (λ c. class_number c == 0) h.0) in
-    omega (arith, w, none_of_a b xs h.1)
+none_of_a b (x ∷ xs) h = grind (arith, none_of_a b xs h.1, weight-no)
 
 either_class : (class : Class) → (class ≡ A) ⊎ (class ≡ B)
 either_class A = inl refl
@@ -91,11 +72,7 @@ runs_a now caps sum b (x ∷ xs) importance_order h runs =
 booked_slope-ranked : (now : ℕ) (caps : Caps) (xs : List Entry) (class : Class)
     → IsDecision now caps xs (marks_of xs)
     → booked_slope xs class ≡ part (choice now caps xs (marks_of xs)) (is_of class) (importance_order now xs)
-booked_slope-ranked now caps xs class d =
-    let b : Entry → Bool = choice now caps xs (marks_of xs) in
-    let set : booked_of xs ≡ filter b xs = sym (marked-map is_booked xs) ∙ marked-choice now caps xs (marks_of xs) d in
-    ap (λ ys. sum_by entry_slope (filter (is_of class) ys)) set
-    ∙ (sum-filter b (is_of class) xs ∙ sym (part-IsPermutation b (is_of class) xs (importance_order now xs) (IsPermutation-ranked now xs)))
+booked_slope-ranked now caps xs class d = grind (arith, choice, marked-map, marked-choice, sum-filter, part-IsPermutation, IsPermutation-ranked)
 
 pub record IsWithin (caps : Caps) (xs : List Entry) : Type 0 where
   pub class_a : booked_slope xs A ≤ caps.class_a
@@ -119,34 +96,18 @@ book_within book o kept = within_caps book.moment o book.caps book.entries (diff
 
 -- chosen entries of a kind take no more than those of both classes
 weight_within : (b kind : Bool) (slope : ℕ) → cond b (cond kind slope 0) 0 ≤ cond b slope 0
-weight_within true true slope = omega arith
-weight_within true false slope = omega arith
-weight_within false kind slope = omega arith
+weight_within b kind slope = grind arith
 
 part_within : (b kind : Entry → Bool) (xs : List Entry) → part b kind xs ≤ part b (is_of A) xs + part b (is_of B) xs
 part_within b kind [] = omega arith
-part_within b kind (x ∷ xs) =
-    omega (arith, weight_within (b x) (kind x) (entry_slope x), class_parts x.want.class (entry_slope x) (b x), part_within b kind xs)
+part_within b kind (x ∷ xs) = grind (arith, part_within b kind xs, weight_within, class_parts)
 
 -- what goes before an entry is a part of what is booked
 above_within : (now : ℕ) (x : Entry) (xs : List Entry)
     → above now x (booked_of xs) ≤ booked_slope xs A + booked_slope xs B
-above_within now x xs =
-    omega (
-      arith,
-      part_within is_booked (comes_after now x) xs,
-      sum-filter is_booked (comes_after now x) xs,
-      sum-filter is_booked (is_of A) xs,
-      sum-filter is_booked (is_of B) xs,
-    )
+above_within now x xs = grind (arith, part_within, sum-filter)
 
 pub fit_within : (now : ℕ) (caps : Caps) (xs : List Entry) (x : Entry) (fit : Fit)
     → fit ≡ fit_in now caps (booked_of xs) x → caps.class_a ≤ caps.both
     → booked_slope xs A + booked_slope xs B ≤ caps.both → IsFitWithin caps.both fit
-fit_within now caps xs x fit e shares within =
-    subst (λ (f : Fit). IsFitWithin caps.both f) (sym e) (by_test (does_fit now caps (booked_of xs) x))
-  where
-    by_test : (b : Bool)
-        → IsFitWithin caps.both (cond b Fits (TooLittle (above now x (booked_of xs)) (cap_of caps x.want.class) (code_of now caps (booked_of xs) x)))
-    by_test true = tt
-    by_test false = (omega (arith, above_within now x xs, within), cap_within caps x.want.class shares)
+fit_within now caps xs x fit e shares within = grind (arith, above_within, cap_within)

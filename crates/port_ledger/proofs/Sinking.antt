@@ -1,5 +1,5 @@
 -- How the code puts the entries into the order of importance.
-use Rattle.std.proofs.Common.{◌≡◌, ℕ, zero, suc, ◌+◌, ◌-◌, ◌<◌, ◌≤◌, true, false, cond, List, [], ◌∷◌, ◌++◌, length, get_or, set, take, drop, refl, sym, ◌∙◌, ap, subst, arith, append-nil, take_all}
+use Rattle.std.proofs.Common.{◌≡◌, ℕ, zero, suc, ◌+◌, ◌-◌, ◌<◌, ◌≤◌, true, false, cond, List, [], ◌∷◌, ◌++◌, length, get_or, take, drop, refl, sym, ◌∙◌, ap, arith, append-nil, take_all}
 use Rattle.std.specs.List.{swap}
 use Rattle.std.proofs.lemmas.List.{drop_all, get_or_default}
 use borrow.Rule.Slice.PartMut.{mid_of, put_mid}
@@ -9,10 +9,7 @@ use Rattle.port_ledger.specs.{comes_after, place, place_first, importance_order}
 -- an exchange behind the first entry
 swap_cons : (e : Entry) (xs : List Entry) (i j : ℕ) → i < length xs → j < length xs
     → swap (e ∷ xs) (suc i) (suc j) ≡ e ∷ swap xs i j
-swap_cons e [] i j l k = absurd (omega (arith, l))
-swap_cons e (x ∷ xs) i j l k =
-    ap (λ y. e ∷ set (set (x ∷ xs) i y) j (get_or (x ∷ xs) i e)) (get_or_default (x ∷ xs) j e x k)
-    ∙ ap (λ y. e ∷ set (set (x ∷ xs) i (get_or (x ∷ xs) j x)) j y) (get_or_default (x ∷ xs) i e x l)
+swap_cons e xs i j h1 h2 = grind (arith, get_or_default)
 
 -- the first entry, moved on by one
 pub sink_step : (now : ℕ) (xs : List Entry) (i : ℕ) (d : Entry) → suc i < length xs
@@ -47,16 +44,11 @@ rank_more : (now n k : ℕ) (xs ys : List Entry) → n < length xs
     → take n (take (suc n) xs ++ importance_order now (drop (suc n) xs)) ++ (ys ++ drop k (drop n (take (suc n) xs ++ importance_order now (drop (suc n) xs))))
     ≡ take n xs ++ importance_order now (drop n xs)
 rank_more now n k [] ys l long e = absurd (omega (arith, l))
-rank_more now zero k (x ∷ xs) ys l long e =
-    ap (λ zs. ys ++ zs) (drop_all k (x ∷ importance_order now xs) (omega (arith, long)))
-    ∙ (append-nil ys ∙ (e ∙ ap (place_first now) (take_all k (x ∷ importance_order now xs) (omega (arith, long)))))
+rank_more now zero k (x ∷ xs) ys l long e = grind (arith, drop_all, append-nil, take_all)
 rank_more now (suc n) k (x ∷ xs) ys l long e = ap (λ zs. x ∷ zs) (rank_more now n k xs ys (omega (arith, l)) (omega (arith, long)) e)
 
 pub rank_step : (now n : ℕ) (xs es ys : List Entry) → n < length xs
     → es ≡ take (suc n) xs ++ importance_order now (drop (suc n) xs)
     → ys ≡ place_first now (mid_of n (length es - n) es)
     → put_mid n (length es - n) es ys ≡ take n xs ++ importance_order now (drop n xs)
-rank_step now n xs es ys l e h =
-    let whole : List Entry = take (suc n) xs ++ importance_order now (drop (suc n) xs) in
-    subst (λ (zs : List Entry). ys ≡ place_first now (mid_of n (length zs - n) zs) → put_mid n (length zs - n) zs ys ≡ take n xs ++ importance_order now (drop n xs)) (sym e)
-    (λ k. rank_more now n (length whole - n) xs ys l (omega arith) k) h
+rank_step now n xs es ys l e h = grind (arith, rank_more)

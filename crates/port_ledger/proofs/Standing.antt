@@ -1,12 +1,11 @@
 -- A decision stands when moments are set and time passes.
-use Rattle.std.proofs.Common.{◌≡◌, ℕ, ◌+◌, ◌<◌, ◌≤◌, Bool, true, false, not, ◌==◌, cond, List, [], ◌∷◌, map, Option, Some, None, is_some, refl, sym, ◌∙◌, ap, subst, arith, inl, inr}
-use Rattle.std.specs.Prelude.{nat_le}
-use Rattle.std.specs.{declared.cmp.Ordering.Ordering, declared.cmp.Ordering.TheVariants.Less, declared.cmp.Ordering.TheVariants.Equal, declared.cmp.Ordering.TheVariants.Greater, Ordering.nat_cmp, Ordering.is_lt, Ordering.ordering_then, List.AllByRecursion}
+use Rattle.std.proofs.Common.{◌≡◌, ℕ, ◌+◌, ◌<◌, ◌≤◌, Bool, true, false, not, ◌==◌, cond, List, [], ◌∷◌, map, Option, is_some, refl, sym, ◌∙◌, ap, subst, arith}
+use Rattle.std.specs.{declared.cmp.Ordering.Ordering, declared.cmp.Ordering.TheVariants.Greater, Ordering.nat_cmp, Ordering.is_lt, Ordering.ordering_then, List.AllByRecursion}
 use Rattle.std.proofs.lemmas.{Bool.and_parts, Bool.and_from, Bool.cases_order, Bool.leb-false, Bool.lt-leb, Bool.Decides.nat_tests}
 use Rattle.srp_base.proofs.Arithmetic.{less_is_below, same_is_equal}
 use Rattle.srp_base.specs.declared.numbers.Cs.{Cs}
 use Rattle.stream_importance.specs.declared.{entry.Entry.Entry, slope.Caps.Caps}
-use Rattle.stream_importance.specs.{Bandwidth.cap_of, Importance.class_number, Importance.rank_number, Importance.moment_or, Importance.is_more_important}
+use Rattle.stream_importance.specs.{Importance.class_number, Importance.rank_number, Importance.moment_or, Importance.is_more_important}
 use Rattle.port_ledger.specs.{stream_of, entry_slope, comes_after, above, does_fit, marked_set, IsDecision, marks_of, since_after, with_moments, Decides, IsKept}
 use Rattle.port_ledger.specs.Book.{Book}
 use Rattle.port_ledger.proofs.Running.{sum-filter-cons}
@@ -16,29 +15,12 @@ above_is_greater p q h = grind (arith, nat_tests)
 
 still_before : (p q later : ℕ) (rest : Ordering) → q ≤ later → is_lt (ordering_then (nat_cmp p q) rest) ≡ true
     → is_lt (ordering_then (nat_cmp p later) rest) ≡ true
-still_before p q later rest up h =
-    elim (cases_order p q) [
-      | inl e ↦ elim (cases_order p later) [
-        | inl f ↦ ap (λ o. is_lt (ordering_then o rest)) (same_is_equal p later f ∙ sym (same_is_equal p q e)) ∙ h
-        | inr c ↦ elim c [
-          | inl f ↦ ap (λ o. is_lt (ordering_then o rest)) (less_is_below p later f)
-          | inr f ↦ absurd (omega (arith, e, f, up))
-        ]
-      ]
-      | inr c ↦ elim c [
-        | inl e ↦ (let f : p < later = omega (arith, e, up) in ap (λ o. is_lt (ordering_then o rest)) (less_is_below p later f))
-        | inr e ↦ (let k : is_lt (ordering_then (nat_cmp p q) rest) ≡ false = ap (λ o. is_lt (ordering_then o rest)) (above_is_greater p q e) in cc)
-      ]
-    ]
+still_before p q later rest up h = grind (arith, cases_order, same_is_equal, less_is_below, above_is_greater)
 
 pub still_first : (first second rest : Ordering) (p q later : ℕ) → q ≤ later
     → is_lt (ordering_then first (ordering_then second (ordering_then (nat_cmp p q) rest))) ≡ true
     → is_lt (ordering_then first (ordering_then second (ordering_then (nat_cmp p later) rest))) ≡ true
-still_first Less second rest p q later up h = refl
-still_first Equal Less rest p q later up h = refl
-still_first Equal Equal rest p q later up h = still_before p q later rest up h
-still_first Equal Greater rest p q later up h = cc
-still_first Greater second rest p q later up h = cc
+still_first first second rest p q later h1 h2 = grind (arith, still_before)
 
 -- a booked entry, with its moment, and one that isn't booked
 abbrev pub kept : ℕ → Entry → Entry
@@ -64,9 +46,7 @@ above-kept now later x (e ∷ es) =
     ∙ (ap (λ n. cond (comes_after now x e) (entry_slope e) 0 + n) (above-kept now later x es) ∙ sym (sum-filter-cons (comes_after now x) e es))
 
 weight_grows : (g h : Bool) (slope : ℕ) → (g ≡ true → h ≡ true) → cond g slope 0 ≤ cond h slope 0
-weight_grows true true slope f = omega arith
-weight_grows true false slope f = absurd (let k : false ≡ true = f refl in cc)
-weight_grows false h slope f = omega arith
+weight_grows g h slope h1 = grind arith
 
 goes_still : (now later : ℕ) (x e : Entry) → moment_or now x.since ≤ later → comes_after now x e ≡ true
     → comes_after later (left_out now x) (kept now e) ≡ true
@@ -93,10 +73,7 @@ above_grows now later x (e ∷ es) up =
 
 one_stands : (now later : ℕ) (caps : Caps) (set : List Entry) (x : Entry) (mark : Bool) → moment_or now x.since ≤ later → mark ≡ does_fit now caps set x
     → mark ≡ does_fit later caps (map (kept now) set) (record x { since = since_after now x.since mark })
-one_stands now later caps set x true up h = h ∙ ap (λ n. nat_le (n + entry_slope x) (cap_of caps x.want.class)) (sym (above-kept now later x set))
-one_stands now later caps set x false up h =
-    let over : cap_of caps x.want.class < above now x set + entry_slope x = leb-false (above now x set + entry_slope x) (cap_of caps x.want.class) (sym h) in
-    sym (lt-leb (above later (left_out now x) (map (kept now) set) + entry_slope x) (cap_of caps x.want.class) (omega (arith, over, above_grows now later x set up)))
+one_stands now later caps set x mark h1 h2 = grind (arith, above-kept, leb-false, lt-leb, above_grows)
 
 fits_stand : (now later : ℕ) (caps : Caps) (set xs : List Entry) (marks : List Bool)
     → AllByRecursion (λ x. moment_or now x.since ≤ later) xs → marks ≡ map (does_fit now caps set) xs
@@ -112,19 +89,15 @@ fits_stand now later caps set (x ∷ xs) (mark ∷ marks) up h =
 pub decision_stands : (now later : ℕ) (caps : Caps) (xs : List Entry) (marks : List Bool)
     → AllByRecursion (λ x. moment_or now x.since ≤ later) xs → IsDecision now caps xs marks
     → IsDecision later caps (with_moments now xs marks) marks
-decision_stands now later caps xs marks up d =
-    fits_stand now later caps (marked_set xs marks) xs marks up d
-    ∙ ap (λ set. map (does_fit later caps set) (with_moments now xs marks)) (sym (marked-settled now xs marks))
+decision_stands now later caps xs marks up d = grind (arith, fits_stand, marked-settled)
 
 -- entries that are booked where they have a moment are settled already
 pub since_own : (now : ℕ) (since : Option Cs) → since_after now since (is_some since) ≡ since
-since_own now None = refl
-since_own now (Some moment) = refl
+since_own now since = grind arith
 
 pub settled-own : (now : ℕ) (xs : List Entry) → with_moments now xs (marks_of xs) ≡ xs
 settled-own now [] = refl
-settled-own now (x ∷ xs) =
-    ap (λ s. record x { since = s } ∷ with_moments now xs (marks_of xs)) (since_own now x.since) ∙ ap (λ ys. x ∷ ys) (settled-own now xs)
+settled-own now (x ∷ xs) = grind (arith, settled-own now xs, since_own)
 
 pub moments_before : (now later : ℕ) (xs : List Entry) → now ≤ later
     → AllByRecursion (λ x. moment_or now x.since ≤ now) xs
@@ -143,8 +116,7 @@ decision_later now later caps xs up h d =
 pub decision_settled : (now : ℕ) (caps : Caps) (before after : List Entry)
     → AllByRecursion (λ x. moment_or now x.since ≤ now) before → Decides now caps before after
     → IsDecision now caps after (marks_of after)
-decision_settled now caps before after h d =
-    subst (λ (ys : List Entry). IsDecision now caps ys (marks_of after)) (sym d.moments) (decision_stands now now caps before (marks_of after) h d.decision)
+decision_settled now caps before after h d = grind (arith, decision_stands)
 
 -- the booked set of a ledger is decided at every later moment
 pub book_stands : (book : Book) → IsKept book → (later : ℕ) → book.moment ≤ later

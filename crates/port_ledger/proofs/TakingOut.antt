@@ -1,6 +1,6 @@
 -- What is left once a stream's entry is taken out.
-use Rattle.std.proofs.Common.{◌≡◌, ◌≢◌, ℕ, zero, suc, ◌+◌, ◌<◌, ◌≤◌, not, ◌==◌, cond, List, [], ◌∷◌, ◌++◌, length, take, drop, get_or, Some, None, refl, sym, ◌∙◌, ap, arith, inl, inr, is_some, false, true≢false}
-use Rattle.std.specs.Prelude.{nat_lt, position, remove}
+use Rattle.std.proofs.Common.{◌≡◌, ◌≢◌, ℕ, zero, suc, ◌+◌, ◌<◌, ◌≤◌, not, ◌==◌, cond, List, [], ◌∷◌, ◌++◌, length, take, drop, get_or, Some, None, refl, sym, ◌∙◌, ap, arith, inl, inr, is_some, false}
+use Rattle.std.specs.Prelude.{position, remove}
 use Rattle.std.specs.List.{AllByRecursion, position_or_len}
 use Rattle.std.proofs.lemmas.{Bool.eq-eqb, Bool.ne_eqb, Bool.eqb-true, Bool.cases_Bool, Bool.ltb-false, List.take-append-drop, List.Elements.All-from_recursion, List.Quantifiers.position-Some}
 use Rattle.srp_base.specs.declared.numbers.StreamId.{StreamId}
@@ -11,9 +11,7 @@ use Rattle.port_ledger.proofs.Finding.{blank}
 -- entries of other streams are left
 pub without-others : (stream : StreamId) (xs : List Entry) → AllByRecursion (λ x. stream_of x ≢ stream.0) xs → xs ≡ without xs stream
 without-others stream [] h = refl
-without-others stream (x ∷ xs) h =
-    ap (λ ys. x ∷ ys) (without-others stream xs h.1)
-    ∙ ap (λ v. cond (not v) (x ∷ without xs stream) (without xs stream)) (sym (ne_eqb (stream_of x) stream.0 h.0))
+without-others stream (x ∷ xs) h = grind (arith, without-others stream xs h.1, ne_eqb)
 
 others_along : (n m : ℕ) (xs : List Entry) → n ≡ m → AllByRecursion (λ y. n ≢ stream_of y) xs
     → AllByRecursion (λ y. stream_of y ≢ m) xs
@@ -26,10 +24,7 @@ without-at [] stream i d different l e = absurd (omega (arith, l))
 without-at (x ∷ xs) stream zero d different l e =
     without-others stream xs (others_along (stream_of x) stream.0 xs e different.0)
     ∙ ap (λ v. cond (not v) (x ∷ without xs stream) (without xs stream)) (sym (eq-eqb (stream_of x) stream.0 e))
-without-at (x ∷ xs) stream (suc i) d different l e =
-    let other : stream_of x ≢ stream_of (get_or xs i d) = All-from_recursion (λ y. stream_of x ≢ stream_of y) xs different.0 i d (omega (arith, l)) in
-    ap (λ ys. x ∷ ys) (without-at xs stream i d different.1 (omega (arith, l)) e)
-    ∙ ap (λ v. cond (not v) (x ∷ without xs stream) (without xs stream)) (sym (ne_eqb (stream_of x) stream.0 (λ k. other (k ∙ sym e))))
+without-at (x ∷ xs) stream (suc i) d different l e = grind (arith, without-at xs stream i d different.1 (omega (arith, l)) e, All-from_recursion, ne_eqb)
 
 pub without_found : (xs : List Entry) (stream : StreamId) (i : ℕ) → AreOfDifferentStreams xs
     → position (λ x. stream_of x == stream.0) xs ≡ Some i → remove xs i ≡ without xs stream
@@ -53,14 +48,7 @@ without-past (x ∷ xs) stream h =
 
 pub without_missing : (xs : List Entry) (stream : StreamId) → position (λ x. stream_of x == stream.0) xs ≡ None
     → xs ≡ without xs stream
-without_missing xs stream h =
-    elim (cases_Bool (nat_lt (position_or_len (λ x. stream_of x == stream.0) xs) (length xs))) [
-      | inl e ↦
-          (let found : position (λ x. stream_of x == stream.0) xs ≡ Some (position_or_len (λ x. stream_of x == stream.0) xs) =
-          ap (λ v. cond v (Some (position_or_len (λ x. stream_of x == stream.0) xs)) None) e in
-          cc)
-      | inr e ↦ without-past xs stream (ltb-false (position_or_len (λ x. stream_of x == stream.0) xs) (length xs) e)
-    ]
+without_missing xs stream h = grind (arith, cases_Bool, without-past, ltb-false)
 
 -- the same behind a place
 remove_behind : (n m i : ℕ) (xs : List Entry) → m ≡ n + i → n ≤ length xs → remove xs m ≡ take n xs ++ remove (drop n xs) i
@@ -94,11 +82,4 @@ past-none (x ∷ xs) stream le =
     ]
 
 pub nowhere-none : (xs : List Entry) (stream : StreamId) → position (λ x. stream_of x == stream.0) xs ≡ None → is_some (entry_of xs stream) ≡ false
-nowhere-none xs stream h =
-    elim (cases_Bool (nat_lt (position_or_len (λ x. stream_of x == stream.0) xs) (length xs))) [
-      | inl e ↦
-          (let found : position (λ x. stream_of x == stream.0) xs ≡ Some (position_or_len (λ x. stream_of x == stream.0) xs) =
-          ap (λ v. cond v (Some (position_or_len (λ x. stream_of x == stream.0) xs)) None) e in
-          absurd (true≢false (ap is_some (sym found ∙ h))))
-      | inr e ↦ past-none xs stream (ltb-false (position_or_len (λ x. stream_of x == stream.0) xs) (length xs) e)
-    ]
+nowhere-none xs stream h = grind (arith, cases_Bool, past-none, ltb-false)

@@ -1,5 +1,5 @@
 -- The totals of a ledger's entries: one entry more, and a later moment.
-use Rattle.std.proofs.Common.{◌≡◌, ℕ, suc, ◌+◌, ◌<◌, ◌≤◌, ◌^◌, Bool, true, false, ◌&&◌, ◌||◌, ◌==◌, if◌then◌else◌, List, [], ◌∷◌, ◌++◌, filter, sum_by, take, drop, drop-cons, get_or, length, zero-add, Option, Some, None, refl, sym, ap, ◌∙◌, arith}
+use Rattle.std.proofs.Common.{◌≡◌, ℕ, ◌+◌, ◌<◌, ◌≤◌, ◌^◌, Bool, true, false, ◌&&◌, ◌||◌, ◌==◌, if◌then◌else◌, List, [], ◌∷◌, ◌++◌, filter, sum_by, take, drop, drop-cons, get_or, length, zero-add, Option, refl, sym, ap, ◌∙◌, arith}
 use Rattle.std.specs.Prelude.{nat_lt}
 use Rattle.std.specs.{List.AllByRecursion, List.list_any, List.Sorted.IsPermutation}
 use Rattle.std.proofs.lemmas.{Bool.lt-ltb, Bool.Decides.nat_tests, List.Sorted.sum_by-IsPermutation, List.drop_all, List.take-append-drop, List.Sums.sum_by-cons}
@@ -39,15 +39,10 @@ pub record WalksAt (moment : ℕ) (xs : List Entry) (class_a class_b new_count i
 
 module _ (xs : List Entry) (i : ℕ) (x : Entry) (below : i < length xs) (at : x ≡ get_or xs i x) where
   rest_is : drop i xs ≡ x ∷ drop (i + 1) xs
-  rest_is =
-      let next : suc i ≡ i + 1 = omega arith in
-      drop-cons xs i x below ∙ ap (λ y. y ∷ drop (suc i) xs) (sym at) ∙ ap (λ n. x ∷ drop n xs) next
+  rest_is = grind (arith, drop-cons)
 
   slope-step : (class : Class) (sum : ℕ) → booked_slope xs class ≡ sum + booked_slope (drop i xs) class → booked_slope xs class ≡ (sum + slope_within x class) + booked_slope (drop (i + 1) xs) class
-  slope-step class sum h =
-      let here : booked_slope (drop i xs) class ≡ slope_within x class + booked_slope (drop (i + 1) xs) class =
-      ap (λ ys. booked_slope ys class) rest_is ∙ slope-cons x (drop (i + 1) xs) class in
-      omega (arith, h, here)
+  slope-step class sum h = grind (arith, rest_is, slope-cons)
 
   pub slope-room : (class : Class) (sum : ℕ) → booked_slope xs class ≡ sum + booked_slope (drop i xs) class → sum + slope_within x class ≤ booked_slope xs class
   slope-room class sum h = let more = slope-step class sum h in omega (arith, more)
@@ -88,31 +83,22 @@ totals_fit book o kept range = let both = (book_within book o kept).both in omeg
 -- ---- time
 
 none_new : (now : ℕ) (since : Option Cs) (moment : ℕ) → moment_or moment since ≤ moment → moment < now → is_since now since ≡ false
-none_new now None moment h up = refl
-none_new now (Some c) moment h up = grind (arith, nat_tests)
+none_new now since moment h1 h2 = grind (arith, nat_tests)
 
 -- no booking is of a moment after the ledger's
 none_later : (moment now : ℕ) (xs : List Entry) → AllByRecursion (λ x. moment_or moment x.since ≤ moment) xs → moment < now → sum_by (new_within now) xs ≡ 0
 none_later moment now [] h up = refl
-none_later moment now (x ∷ xs) h up =
-    let here : new_within now x ≡ 0 = ap (λ v. if v then 1 else 0) (none_new now x.since moment h.0 up) in
-    let rest = none_later moment now xs h.1 up in
-    let both = sum_by-cons (new_within now) x xs in
-    omega (arith, here, rest, both)
+none_later moment now (x ∷ xs) h up = grind (arith, none_later moment now xs h.1 up, none_new, sum_by-cons)
 
 new_later : (moment now : ℕ) (xs : List Entry) (b : Bool) → nat_lt moment now ≡ b → AllByRecursion (λ x. moment_or moment x.since ≤ moment) xs → moment ≤ now
     → (if b then 0 else sum_by (new_within moment) xs) ≡ sum_by (new_within now) xs
-new_later moment now xs true e h up = sym (none_later moment now xs h (grind (arith, nat_tests)))
-new_later moment now xs false e h up =
-    let same : moment ≡ now = grind (arith, nat_tests) in
-    ap (λ m. sum_by (new_within m) xs) same
+new_later moment now xs b h1 h2 h3 = grind (arith, none_later, nat_tests)
 
 -- the totals at a later moment
 pub totals_later : (moment now : ℕ) (xs : List Entry) (t : Totals) (moved : Bool) → t ≡ totals_of moment xs → moved ≡ nat_lt moment now
     → AllByRecursion (λ x. moment_or moment x.since ≤ moment) xs → moment ≤ now
     → later_totals moved t ≡ totals_of now xs
-totals_later moment now xs t moved is moves h up =
-    ap (later_totals moved) is ∙ ap (λ n. totals (booked_slope xs A) (booked_slope xs B) n) (new_later moment now xs moved (sym moves) h up)
+totals_later moment now xs t moved is moves h up = grind (arith, new_later)
 
 -- some booking is of a moment exactly where they are counted
 pub new_any : (moment : ℕ) (xs : List Entry) → nat_lt 0 (sum_by (new_within moment) xs) ≡ list_any (λ x. is_since moment x.since) xs
@@ -129,11 +115,7 @@ new_any moment (x ∷ xs) =
 
 pub slope-join : (xs ys : List Entry) (class : Class) → booked_slope (xs ++ ys) class ≡ booked_slope xs class + booked_slope ys class
 slope-join [] ys class = sym (zero-add (booked_slope ys class))
-slope-join (x ∷ xs) ys class =
-    let one = slope-cons x (xs ++ ys) class in
-    let own = slope-cons x xs class in
-    let rest = slope-join xs ys class in
-    omega (arith, one, own, rest)
+slope-join (x ∷ xs) ys class = grind (arith, slope-join xs ys class, slope-cons)
 
 new-join : (moment : ℕ) (xs ys : List Entry) → sum_by (new_within moment) (xs ++ ys) ≡ sum_by (new_within moment) xs + sum_by (new_within moment) ys
 new-join moment [] ys = sym (zero-add (sum_by (new_within moment) ys))
@@ -147,25 +129,14 @@ pub totals-join : (moment : ℕ) (xs ys : List Entry) → totals_of moment (xs +
 totals-join moment xs ys = made_of _ _ _ _ _ _ (slope-join xs ys A) (slope-join xs ys B) (new-join moment xs ys)
 
 pub slope-permuted : (xs ys : List Entry) (class : Class) → IsPermutation xs ys → booked_slope ys class ≡ booked_slope xs class
-slope-permuted xs ys class p =
-    sum_by-IsPermutation entry_slope (filter (is_of class) (filter is_booked xs)) (filter (is_of class) (filter is_booked ys))
-    (filter_permuted (is_of class) (filter is_booked xs) (filter is_booked ys) (filter_permuted is_booked xs ys p))
+slope-permuted xs ys class p = grind (arith, sum_by-IsPermutation, is_of, filter_permuted)
 
 pub totals-permuted : (moment : ℕ) (xs ys : List Entry) → IsPermutation xs ys → totals_of moment ys ≡ totals_of moment xs
-totals-permuted moment xs ys p =
-    made_of _ _ _ _ _ _ (slope-permuted xs ys A p) (slope-permuted xs ys B p) (sum_by-IsPermutation (new_within moment) xs ys p)
+totals-permuted moment xs ys p = grind (arith, made_of, slope-permuted, sum_by-IsPermutation)
 
 -- what is left of a whole without a part
 pub less-is : (whole front part rest : Totals) → together front part ≡ whole → whole ≡ together rest part → front ≡ rest
-less-is whole front part rest h k =
-    let both : together front part ≡ together rest part = h ∙ k in
-    let a : front.class_a + part.class_a ≡ rest.class_a + part.class_a = ap (λ (t : Totals). t.class_a) both in
-    let b : front.class_b + part.class_b ≡ rest.class_b + part.class_b = ap (λ (t : Totals). t.class_b) both in
-    let c : front.new_count + part.new_count ≡ rest.new_count + part.new_count = ap (λ (t : Totals). t.new_count) both in
-    let same_a : front.class_a ≡ rest.class_a = omega (arith, a) in
-    let same_b : front.class_b ≡ rest.class_b = omega (arith, b) in
-    let same_c : front.new_count ≡ rest.new_count = omega (arith, c) in
-    made_of _ _ _ _ _ _ same_a same_b same_c
+less-is whole front part rest h k = grind (arith, made_of)
 
 -- there are no more new ones than entries
 pub new-few : (moment : ℕ) (xs : List Entry) → sum_by (new_within moment) xs ≤ length xs
@@ -229,6 +200,4 @@ part-within moment n xs ys whole part w p e =
 
 pub front-is : (moment n : ℕ) (xs ys : List Entry) (whole front part : Totals) → whole ≡ totals_of moment xs → part ≡ totals_of moment ys → ys ≡ drop n xs
     → together front part ≡ whole → front ≡ totals_of moment (take n xs)
-front-is moment n xs ys whole front part w p e h =
-    less-is whole front part (totals_of moment (take n xs)) h
-    (w ∙ (sym (totals-parts moment n xs) ∙ ap (together (totals_of moment (take n xs))) (sym (p ∙ ap (totals_of moment) e))))
+front-is moment n xs ys whole front part w p e h = grind (arith, less-is, totals-parts)

@@ -41,10 +41,4 @@ still_booked (x ∷ xs) those s up out h = by (stream_of x == s.0) refl (is_book
 
 pub unmoved : (before after : List Entry) (s : StreamId) → IsAscending before → IsAscending after → is_among s (booked_only_in after before) ≡ false → is_among s (booked_only_in before after) ≡ false
     → is_some (since_of after s) ≡ is_some (since_of before s)
-unmoved before after s up down one two = by (is_some (since_of after s)) refl (is_some (since_of before s)) refl
-  where
-    by : (a : Bool) → is_some (since_of after s) ≡ a → (b : Bool) → is_some (since_of before s) ≡ b → a ≡ b
-    by true e true f = refl
-    by false e false f = refl
-    by true e false f = let there = still_booked after before s up one e in cc
-    by false e true f = let there = still_booked before after s down two f in cc
+unmoved before after s up down one two = grind (arith, still_booked)

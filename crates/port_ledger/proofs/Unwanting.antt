@@ -12,9 +12,7 @@ use Rattle.port_ledger.proofs.{Keeping.ascending-without, Marking.marked-map, Ma
 -- a stream below all of the entries has none of them
 without-below : (s : StreamId) (xs : List Entry) → AllByRecursion (λ y. s.0 < stream_of y) xs → without xs s ≡ xs
 without-below s [] h = refl
-without-below s (x ∷ xs) h =
-    ap (λ v. cond (not v) (x ∷ without xs s) (without xs s)) (ne_eqb (stream_of x) s.0 (λ e. let l : s.0 < stream_of x = h.0 in omega (arith, e, l)))
-    ∙ ap (λ ys. x ∷ ys) (without-below s xs h.1)
+without-below s (x ∷ xs) h = grind (arith, without-below s xs h.1, ne_eqb)
 
 -- without a stream that isn't booked the booked set is the same
 booked-without : (s : StreamId) (xs : List Entry) → IsAscending xs → since_of xs s ≡ None
@@ -36,13 +34,7 @@ booked-without s (x ∷ xs) up h =
 map-without : (f g : Entry → Bool) (s : StreamId) (xs : List Entry) → map f xs ≡ map g xs
     → map f (without xs s) ≡ map g (without xs s)
 map-without f g s [] h = refl
-map-without f g s (x ∷ xs) h =
-    let head : f x ≡ g x = cc in
-    let rest : map f (without xs s) ≡ map g (without xs s) = map-without f g s xs (let k : map f xs ≡ map g xs = cc in k) in
-    elim (not (stream_of x == s.0)) as (λ v. map f (cond v (x ∷ without xs s) (without xs s)) ≡ map g (cond v (x ∷ without xs s) (without xs s))) [
-      | true ↦ ap (λ b. b ∷ map f (without xs s)) head ∙ ap (λ bs. g x ∷ bs) rest
-      | false ↦ rest
-    ]
+map-without f g s (x ∷ xs) h = grind (arith, map-without f g s xs (let k : map f xs ≡ map g xs = cc in k))
 
 -- what isn't booked is taken out without a trace
 pub unbooked_out : (book : Book) (now : ℕ) (s : StreamId) → IsImportanceOrder now → IsKept book → book.moment ≤ now
@@ -80,12 +72,7 @@ booked_has s (x ∷ xs) h =
 
 booked_hasnt : (s : StreamId) (xs : List Entry) → has_stream s xs ≡ false → has_stream s (booked_of xs) ≡ false
 booked_hasnt s [] h = refl
-booked_hasnt s (x ∷ xs) h =
-    elim (is_booked x) as (λ v. has_stream s (cond v (x ∷ booked_of xs) (booked_of xs)) ≡ false) [
-      | true ↦ or_from (stream_of x == s.0) (has_stream s (booked_of xs)) (or_parts (stream_of x == s.0) (has_stream s xs) h).0
-          (booked_hasnt s xs (or_parts (stream_of x == s.0) (has_stream s xs) h).1)
-      | false ↦ booked_hasnt s xs (or_parts (stream_of x == s.0) (has_stream s xs) h).1
-    ]
+booked_hasnt s (x ∷ xs) h = grind (arith, booked_hasnt s xs (or_parts (stream_of x == s.0) (has_stream s xs) h).1, or_from, or_parts)
 
 settled_has : (now : ℕ) (s : StreamId) (b : Entry → Bool) (xs : List Entry)
     → has_stream s (with_moments now xs (map b xs)) ≡ has_stream s xs
@@ -94,11 +81,7 @@ settled_has now s b (x ∷ xs) = ap (λ v. (stream_of x == s.0) || v) (settled_h
 
 without_hasnt : (s : StreamId) (xs : List Entry) → has_stream s (without xs s) ≡ false
 without_hasnt s [] = refl
-without_hasnt s (x ∷ xs) =
-    elim (cases_Bool (stream_of x == s.0)) [
-      | inl e ↦ ap (λ v. has_stream s (cond (not v) (x ∷ without xs s) (without xs s))) e ∙ without_hasnt s xs
-      | inr e ↦ ap (λ v. has_stream s (cond (not v) (x ∷ without xs s) (without xs s))) e ∙ or_from (stream_of x == s.0) (has_stream s (without xs s)) e (without_hasnt s xs)
-    ]
+without_hasnt s (x ∷ xs) = grind (arith, without_hasnt s xs, cases_Bool, or_from)
 
 decided_hasnt : (now : ℕ) (caps : Caps) (s : StreamId) (xs : List Entry)
     → has_stream s (booked_of (decided_entries now caps (without xs s))) ≡ false
@@ -121,36 +104,13 @@ unwanted_changes book now s o kept up = (booked, by_since (since_of book.entries
     by_since None e h = absurd (h (ap booked_of (unbooked_out book now s o kept up e) ∙ booked-without s book.entries kept.ascending e))
 
 none_either : (v : Bool) → want_of [] (record { 0 = 0 }) ≡ cond v None (want_of [] (record { 0 = 0 }))
-none_either true = refl
-none_either false = refl
+none_either v = grind arith
 
 -- no want of the stream is kept, and each other stream's is
 want_of-without : (stream : StreamId) (xs : List Entry) (s : StreamId)
     → want_of (without xs stream) s ≡ cond (s.0 == stream.0) None (want_of xs s)
 want_of-without stream [] s = none_either (s.0 == stream.0)
-want_of-without stream (x ∷ xs) s =
-    elim (cases_Bool (stream_of x == stream.0)) [
-      | inl e ↦
-          ap (λ v. want_of (cond (not v) (x ∷ without xs stream) (without xs stream)) s) e
-          ∙ (want_of-without stream xs s
-          ∙ by_stream (s.0 == stream.0) (λ ne. sym (want_of-past x xs s (λ k. true≢false (sym (eq-eqb s.0 stream.0 (sym k ∙ eqb-true (stream_of x) stream.0 e)) ∙ ne)))))
-      | inr e ↦
-          ap (λ v. want_of (cond (not v) (x ∷ without xs stream) (without xs stream)) s) e
-          ∙ elim (cases_Bool (stream_of x == s.0)) [
-            | inl f ↦
-                (let k : stream_of x ≡ s.0 = eqb-true (stream_of x) s.0 f in
-                let other : s.0 == stream.0 ≡ false = ap (λ n. n == stream.0) (sym k) ∙ e in
-                want_of-here x (without xs stream) s k ∙ (sym (want_of-here x xs s k) ∙ ap (λ v. cond v None (want_of (x ∷ xs) s)) (sym other)))
-            | inr f ↦
-                (let k : stream_of x ≢ s.0 = λ j. true≢false (sym (eq-eqb (stream_of x) s.0 j) ∙ f) in
-                want_of-past x (without xs stream) s k ∙ (want_of-without stream xs s ∙ ap (λ w. cond (s.0 == stream.0) None w) (sym (want_of-past x xs s k))))
-          ]
-    ]
-  where
-    by_stream : (v : Bool) → (v ≡ false → want_of xs s ≡ want_of (x ∷ xs) s)
-        → cond v None (want_of xs s) ≡ cond v None (want_of (x ∷ xs) s)
-    by_stream true h = refl
-    by_stream false h = h refl
+want_of-without stream (x ∷ xs) s = grind (arith, want_of-without stream xs s, cases_Bool, want_of-past, eq-eqb, eqb-true, want_of-here)
 
 pub wants_left : (now : ℕ) (caps : Caps) (xs : List Entry) (stream s : StreamId)
     → want_of (decided_entries now caps (without xs stream)) s ≡ cond (s.0 == stream.0) None (want_of xs s)
@@ -187,29 +147,19 @@ missing_out book now s o kept up h =
 
 pub unbooked_stays : (book : Book) (now : ℕ) (s : StreamId) → IsImportanceOrder now → IsKept book → book.moment ≤ now
     → (booked_of (unwanted_book now s book).entries ≡ booked_of book.entries) ↔ (since_of book.entries s ≡ None)
-unbooked_stays book now s o kept up = (
-  (λ same. by_since (since_of book.entries s) refl (λ h. (unwanted_changes book now s o kept up).0 h same)),
-  (λ none. ap booked_of (unbooked_out book now s o kept up none) ∙ booked-without s book.entries kept.ascending none),
-)
-  where
-    by_since : (since : Option Cs) → since_of book.entries s ≡ since → (IsTrue (is_some (since_of book.entries s)) → ⊥)
-        → since ≡ None
-    by_since None e h = refl
-    by_since (Some c) e h = absurd (h (subst (λ (v : Bool). IsTrue v) (sym (ap is_some e)) refl))
+unbooked_stays book now s o kept up = grind (arith, unwanted_changes, unbooked_out, booked-without)
 
 -- ---- from what the code asks
 
 same-kept : (o : Option Entry) (want : Want) → has_same o want ≡ true → option_map (λ x. x.want) o ≡ Some want
-same-kept None want h = cc
-same-kept (Some x) want h = ap Some (same_want-is x.want want h)
+same-kept o want h1 = grind (arith, same_want-is)
 
 -- a want that is found is kept
 pub has_want-is : (xs : List Entry) (want : Want) → has_want xs want ≡ true → want_of xs want.stream ≡ Some want
 has_want-is xs want h = same-kept (entry_of xs want.stream) want h
 
 none-kept : (o : Option Entry) → is_some o ≡ false → option_map (λ x. x.want) o ≡ None
-none-kept None h = refl
-none-kept (Some x) h = cc
+none-kept o h1 = grind arith
 
 -- of a stream without an entry no want is kept
 pub missing-is : (xs : List Entry) (stream : StreamId) → is_some (entry_of xs stream) ≡ false → want_of xs stream ≡ None

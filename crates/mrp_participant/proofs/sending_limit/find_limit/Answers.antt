@@ -1,4 +1,4 @@
-use Rattle.std.proofs.Common.{◌≡◌, ℕ, Bool, List, [], ◌++◌, ap, sym, ◌∙◌}
+use Rattle.std.proofs.Common.{◌≡◌, ℕ, Bool, List, [], ◌++◌, ap, sym, ◌∙◌, arith}
 use Rattle.std.proofs.lemmas.List.{append-nil}
 use Rattle.std.specs.declared.option.Option.{Option}
 use Rattle.mrp_participant.specs.declared.row.Row.{Row}
@@ -14,9 +14,7 @@ rounds : {K C : Type 0} (leave_all : Bool) (octets : C
     → ((rest : List (Row K C)) → first_limit leave_all octets used (y ++ rest)
     ≡ first_limit leave_all octets more rest) → first_limit leave_all octets more (z ++ []) ≡ limit
     → limit ≡ first_limit leave_all octets base (x ++ (y ++ z))
-rounds leave_all octets start base used more x y z limit is first second third =
-    sym (ap (λ b. first_limit leave_all octets b (x ++ (y ++ z))) (sym is) ∙ first (y ++ z) ∙ second z
-    ∙ ap (first_limit leave_all octets more) (sym (append-nil z)) ∙ third)
+rounds leave_all octets start base used more x y z limit is first second third = grind (arith, append-nil)
 
 pub returns-in-Ok-fill-2 : goal.returns-in-Ok-fill-2
 returns-in-Ok-fill-2 g c =

@@ -1,4 +1,4 @@
-use Rattle.std.proofs.Common.{◌≡◌, ◌≤◌, ◌+◌, ◌-◌, ◌++◌, drop, length, vec_capacity, vec_len}
+use Rattle.std.proofs.Common.{◌≡◌, ◌≤◌, ◌+◌, ◌++◌, drop, vec_capacity, vec_len}
 use Rattle.port_ledger.specs.{booked_only_in}
 use Rattle.port_ledger.proofs.changed.push_only_in.Given as goal
 

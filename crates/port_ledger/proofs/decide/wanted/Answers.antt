@@ -8,20 +8,11 @@ use Rattle.port_ledger.proofs.decide.wanted.Goals as goal
 
 -- what is known of the cut, told of the entries and the order themselves
 was : (c : goal.After-changed) → AreBehind (take c.cut_for-front.result.place c.args.order.now.items) (drop c.cut_for-front.result.place c.args.order.now.items) c.args.entries.now.items
-was c =
-    subst (λ (xs : List Entry). AreBehind (take c.cut_for-front.result.place xs) (drop c.cut_for-front.result.place xs) c.args.entries.now.items) c.deref-3.ensures.value
-    (subst (λ (es : List Entry). AreBehind (take c.cut_for-front.result.place c.deref-3.result.now) (drop c.cut_for-front.result.place c.deref-3.result.now) es)
-    c.deref-2.ensures.value c.cut_for-front.ensures.behind)
+was c = grind (arith)
 
 whole : (c : goal.After-changed) → IsFront c.args.now.0 c.args.caps.now c.cut_for-front.result.place c.cut_for-front.result.totals (with_want c.args.entries.now.items c.args.want)
     (take c.cut_for-front.result.place c.args.order.now.items ++ exchanged (drop c.cut_for-front.result.place c.args.order.now.items) c.args.want)
-whole c =
-    subst (λ (xs : List Entry). IsFront c.args.now.0 c.args.caps.now c.cut_for-front.result.place c.cut_for-front.result.totals
-    (with_want c.args.entries.now.items c.args.want) (take c.cut_for-front.result.place xs ++ exchanged (drop c.cut_for-front.result.place xs) c.args.want))
-    c.deref-3.ensures.value
-    (subst (λ (es : List Entry). IsFront c.args.now.0 c.args.caps.now c.cut_for-front.result.place c.cut_for-front.result.totals (with_want es c.args.want)
-    (take c.cut_for-front.result.place c.deref-3.result.now ++ exchanged (drop c.cut_for-front.result.place c.deref-3.result.now) c.args.want))
-    c.deref-2.ensures.value c.cut_for-front.ensures.front)
+whole c = grind (arith)
 
 within : (c : goal.After-changed) → c.cut_for-front.result.place ≤ length c.args.order.now.items
 within c = subst (λ (xs : List Entry). c.cut_for-front.result.place ≤ length xs) c.deref-3.ensures.value c.cut_for-front.ensures.place
@@ -36,9 +27,7 @@ decided : (c : goal.After-changed) → c.entered-next.new.entries.items ≡ deci
 decided c = c.entered-next.ensures.decided ∙ ap (λ es. decided_entries c.args.now.0 c.args.caps.now (with_want es c.args.want)) c.reserve.ensures.items
 
 up : (c : goal.After-changed) → IsAscending c.entered-next.new.entries.items
-up c =
-    subst (λ (es : List Entry). IsAscending es) (sym (decided c))
-    (ascending_wanted c.args.now.0 c.args.caps.now c.args.entries.now.items c.args.want (c.importance_is_an_order.ensures c.args.now.0) c.requires.book.kept.ascending)
+up c = grind (arith, decided, ascending_wanted)
 
 room : (c : goal.After-changed) → length (drop c.cut_for-front.result.place c.args.order.now.items) + 2 ≤ c.len.result - c.cut_for-front.result.place + 2
 room c = omega (arith, within c, length-drop c.cut_for-front.result.place c.args.order.now.items, c.len.ensures)

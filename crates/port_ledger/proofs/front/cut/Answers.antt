@@ -37,9 +37,7 @@ returns-clause-totals c =
 
 -- the place lies within what is settled
 place_within : (c : goal.After-less) → c.prior_to_both-place.result ≤ c.args.standing.now.settled
-place_within c =
-    let long : length c.ahead.result.now ≡ c.args.standing.now.settled = ap length c.ahead.ensures ∙ length-take-le c.args.standing.now.settled c.args.order.now c.requires.settled.within in
-    omega (arith, c.prior_to_both-place.ensures.bound, long)
+place_within c = grind (arith, length-take-le)
 
 -- the entries before it are prior to both
 prior : (c : goal.After-less) → AllByRecursion (λ y. is_prior_to_both c.args.now.0 c.args.goes c.args.comes y ≡ true) (take c.prior_to_both-place.result c.args.order.now)

@@ -1,4 +1,4 @@
-use Rattle.std.proofs.Common.{◌≡◌, Bool, if◌then◌else◌, List, ap, ◌∙◌, refl, subst, sym}
+use Rattle.std.proofs.Common.{◌≡◌, Bool, if◌then◌else◌, List, ap, ◌∙◌, refl, subst, sym, arith}
 use Rattle.std.specs.declared.cmp.Ordering.{Ordering}
 use Rattle.srp_base.specs.declared.{numbers.Cs.Cs, mrp.MrpEvent.MrpEvent}
 use Rattle.leaveall.specs.declared.{LeaveAll.LeaveAll, LaEvent.TheVariants.Rx}
@@ -51,15 +51,7 @@ received : {K C : Type 0} (cmp : K → K → Ordering) (now : Cs) (s : State K C
     → machine ≡ (if leave_all then table Rx s.leave_all else s.leave_all)
     → next ≡ (if leave_all then after now s.period else s.next_leave_all)
     → record s { rows = rows; leave_all = machine; next_leave_all = next } ≡ received_state cmp now leave_all events s
-received cmp now s events slice rows is leave_all machine next rows_are machine_is next_is =
-    ap (λ l. record s { rows = l; leave_all = machine; next_leave_all = next })
-    (rows_are ∙ ap (λ e. rows_after_receive cmp (after now s.leave_time) leave_all e s.rows) is)
-    ∙ ap (λ m. record s { rows = rows_after_receive cmp (after now s.leave_time) leave_all events s.rows; leave_all = m; next_leave_all = next }) machine_is
-    ∙ ap (λ n. record s {
-      rows = rows_after_receive cmp (after now s.leave_time) leave_all events s.rows;
-      leave_all = if leave_all then table Rx s.leave_all else s.leave_all;
-      next_leave_all = n;
-    }) next_is
+received cmp now s events slice rows is leave_all machine next rows_are machine_is next_is = grind arith
 
 pub returns-clause-after : goal.returns-clause-after
 returns-clause-after g c =
