@@ -42,7 +42,7 @@ book_is at talks listens ports p ks asked is =
 -- ---- what the port declares
 
 -- what a port states looks at no booking of its own but through its ledger
-own_ledger : (at : ℕ) (talks : List Talker) (listens : List StreamId) (ports : List PortState) (p q : PortState) → slice_get ports at ≡ Some p → q.part ≡ p.part → (key : MsrpKey)
+pub own_ledger : (at : ℕ) (talks : List Talker) (listens : List StreamId) (ports : List PortState) (p q : PortState) → slice_get ports at ≡ Some p → q.part ≡ p.part → (key : MsrpKey)
     → stated_at at q (registrations_of talks listens (slice_set ports at q)) key ≡ stated_at at q (registrations_of talks listens ports) key
 own_ledger at talks listens ports p q here same = by
   where

@@ -8,6 +8,7 @@ pub mod KeyLemmas
 pub mod InPlace
 pub mod Ledgers
 pub mod Marking
+pub mod NewRows
 pub mod NewSide
 pub mod OneSettling
 pub mod OtherStreams

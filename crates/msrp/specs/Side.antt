@@ -225,6 +225,13 @@ abbrev pub is_talk : Option Talker → Talker → Bool
 is_talk None talker = false
 is_talk (Some was) talker = same_talker was talker
 
+-- whether what the application asks for is so already
+abbrev pub is_asked_already : SrpRequest → Streams → Bool
+is_asked_already (Talk talker) side = is_talk (talk_of talker.stream side.talks) talker
+is_asked_already (Hush stream) side = not (has_talk stream side)
+is_asked_already (Listen stream) side = has_listen stream side
+is_asked_already (Unlisten stream) side = not (has_listen stream side)
+
 -- what the application asks for: to talk with a Talker, which takes the place of its stream's, to
 -- talk a stream no more, to listen to one, or to listen no more; where that is so already, nothing
 -- changes

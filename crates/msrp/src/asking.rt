@@ -1,10 +1,10 @@
 //! What the application of a station asks for.
 
-ghost use Rattle.std.specs.Prelude.{◌≡◌, ◌∷◌, ◌≤◌, ◌<◌, false, vec_capacity, vec_len, OnOk, OnErr};
+ghost use Rattle.std.specs.Prelude.{◌≡◌, ◌∷◌, ◌≤◌, ◌<◌, true, false, vec_capacity, vec_len, IsOk, OnOk, OnErr};
 ghost use Rattle.attribute_propagation.specs.Ports.{keys_in, marked_everywhere};
 ghost use Rattle.msrp.specs.Part.{key_cmp};
 ghost use Rattle.msrp.specs.Settling.{keys_of};
-ghost use Rattle.msrp.specs.Side.{is_talk, same_talker, listens_without, requested_streams, talks_without, with_asks};
+ghost use Rattle.msrp.specs.Side.{is_asked_already, is_talk, same_talker, listens_without, requested_streams, talks_without, with_asks};
 ghost use Rattle.msrp.specs.declared.asking.SrpRequest.TheVariants.{Talk, Hush, Listen, Unlisten};
 
 use crate::side::MsrpSide;
@@ -32,11 +32,16 @@ pub enum SrpRequest {
 impl MsrpSide {
     /// Does what the application asks for: it talks a stream or not, and listens to one or not
     /// (IEEE Std 802.1Q-2018, 35.2.3.1). Where that changes what the application has asked for, the
-    /// Talker key and the Listener key of the stream await at every link port.
+    /// Talker key and the Listener key of the stream await at every link port; where it doesn't,
+    /// nothing changes, readiness either, and no memory is taken.
     pub fn request(&mut self, request: SrpRequest) -> Result<(), NoMemory>
         ensures ok { OnOk result (self.new.state ≡ requested_streams request self.old.state) }
         ensures err { OnErr result (self.new.state ≡ self.old.state) }
-        ensures ready { OnOk result (self.new.ready ≡ false) }
+        // Want of memory comes only where something is to change, and that alone ends readiness.
+        ensures none { is_asked_already request self.old.state ≡ true → IsOk result }
+        ensures stays { is_asked_already request self.old.state ≡ true → self.new ≡ self.old }
+        ensures ready { OnOk result (is_asked_already request self.old.state ≡ false
+            → self.new.ready ≡ false) }
     {
         match request {
             SrpRequest::Talk(talker) => self.talk(talker),
@@ -49,9 +54,11 @@ impl MsrpSide {
     fn talk(&mut self, talker: Talker) -> Result<(), NoMemory>
         ensures ok { OnOk result (self.new.state ≡ requested_streams (Talk talker) self.old.state) }
         ensures err { OnErr result (self.new.state ≡ self.old.state) }
-        ensures ready { self.new.ready ≡ false }
+        ensures none { is_asked_already (Talk talker) self.old.state ≡ true → IsOk result }
+        ensures stays { is_asked_already (Talk talker) self.old.state ≡ true → self.new ≡ self.old }
+        ensures ready { is_asked_already (Talk talker) self.old.state ≡ false
+            → self.new.ready ≡ false }
     {
-        self.ready = false;
         if is_talk(talk_of(self.talks.as_slice(), talker.stream), &talker) {
             return Ok(());
         }
@@ -61,9 +68,11 @@ impl MsrpSide {
     fn hush(&mut self, stream: StreamId) -> Result<(), NoMemory>
         ensures ok { OnOk result (self.new.state ≡ requested_streams (Hush stream) self.old.state) }
         ensures err { OnErr result (self.new.state ≡ self.old.state) }
-        ensures ready { self.new.ready ≡ false }
+        ensures none { is_asked_already (Hush stream) self.old.state ≡ true → IsOk result }
+        ensures stays { is_asked_already (Hush stream) self.old.state ≡ true → self.new ≡ self.old }
+        ensures ready { is_asked_already (Hush stream) self.old.state ≡ false
+            → self.new.ready ≡ false }
     {
-        self.ready = false;
         if talk_of(self.talks.as_slice(), stream).is_none() {
             return Ok(());
         }
@@ -74,9 +83,12 @@ impl MsrpSide {
         ensures ok { OnOk result (self.new.state
             ≡ requested_streams (Listen stream) self.old.state) }
         ensures err { OnErr result (self.new.state ≡ self.old.state) }
-        ensures ready { self.new.ready ≡ false }
+        ensures none { is_asked_already (Listen stream) self.old.state ≡ true → IsOk result }
+        ensures stays { is_asked_already (Listen stream) self.old.state ≡ true
+            → self.new ≡ self.old }
+        ensures ready { is_asked_already (Listen stream) self.old.state ≡ false
+            → self.new.ready ≡ false }
     {
-        self.ready = false;
         if is_listened(self.listens.as_slice(), stream) {
             return Ok(());
         }
@@ -87,9 +99,12 @@ impl MsrpSide {
         ensures ok { OnOk result (self.new.state
             ≡ requested_streams (Unlisten stream) self.old.state) }
         ensures err { OnErr result (self.new.state ≡ self.old.state) }
-        ensures ready { self.new.ready ≡ false }
+        ensures none { is_asked_already (Unlisten stream) self.old.state ≡ true → IsOk result }
+        ensures stays { is_asked_already (Unlisten stream) self.old.state ≡ true
+            → self.new ≡ self.old }
+        ensures ready { is_asked_already (Unlisten stream) self.old.state ≡ false
+            → self.new.ready ≡ false }
     {
-        self.ready = false;
         if !is_listened(self.listens.as_slice(), stream) {
             return Ok(());
         }

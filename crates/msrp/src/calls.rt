@@ -1,6 +1,6 @@
 //! What comes in at a link port, and its timers.
 
-ghost use Rattle.std.specs.Prelude.{◌≡◌, ◌<◌, ◌≤◌, ◌^◌, false, length, slice_get, IsOk, IfOk, IfSome, OnOk, OnErr};
+ghost use Rattle.std.specs.Prelude.{◌≡◌, ◌<◌, ◌≤◌, ◌^◌, true, false, length, slice_get, IsOk, IfOk, IfSome, OnOk, OnErr};
 ghost use Rattle.std.specs.List.{AllByRecursion};
 ghost use Rattle.mrp_participant.specs.{Lookup.find, Row.is_leaving_in, State.due_count, State.is_any_due};
 ghost use Rattle.msrp_codec.specs.Content.{Belongs};
@@ -79,7 +79,8 @@ impl MsrpSide {
 
     /// Fires the timers of a link port that are due at the moment `now`, in cs and below 2^62 (IEEE
     /// Std 802.1Q-2018, 10.7.4). Answers their number. Where a Talker or a Listener leaves, both
-    /// keys of its stream await at every link port.
+    /// keys of its stream await at every link port. Where no timer is due nothing changes,
+    /// readiness either, and no memory is taken.
     pub fn due(&mut self, now: Cs, port: PortNo) -> Result<u32, NoMemory>
         requires now { now.0 < 2 ^ 62 }
         requires port { IsLinkPort port (length self.old.state.ports) }
@@ -88,16 +89,18 @@ impl MsrpSide {
         ensures count { IfOk result (λ n. IfSome (slice_get self.old.state.ports (place_of port))
             (λ p. n ≡ count_of (due_count now p.part))) }
         ensures err { OnErr result (self.new.state ≡ self.old.state) }
-        // Want of memory comes only where a timer is due.
+        // Want of memory comes only where a timer is due, and what fires alone ends readiness.
         ensures none { IfSome (slice_get self.old.state.ports (place_of port))
             (λ p. is_any_due now p.part ≡ false → IsOk result) }
-        ensures ready { OnOk result (self.new.ready ≡ false) }
+        ensures stays { IfSome (slice_get self.old.state.ports (place_of port))
+            (λ p. is_any_due now p.part ≡ false → self.new ≡ self.old) }
+        ensures ready { OnOk result (IfSome (slice_get self.old.state.ports (place_of port))
+            (λ p. is_any_due now p.part ≡ true → self.new.ready ≡ false)) }
     {
         each_port_is_told::<MsrpKey>();
         nothing_due_changes_nothing::<MsrpApp>();
         let at = usize::from(port.0) - 1;
         if !port_at(self.ports.as_slice(), at).part().any_due(now) {
-            self.ready = false;
             return Ok(0);
         }
         self.fire(now, at)

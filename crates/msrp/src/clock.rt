@@ -18,8 +18,8 @@ use srp_base::{Cs, NoMemory, Talker};
 
 impl MsrpSide {
     /// Makes the side ready for the clock: afterwards `clock` takes no memory, and all else is as
-    /// before. Each call that may change the side ends its readiness. After want of memory the
-    /// state is as it was.
+    /// before. Each call that changes the side ends its readiness; `due`, `settle`, `send` and
+    /// `request` leave it where they change nothing. After want of memory the state is as it was.
     pub fn clock_room(&mut self) -> Result<(), NoMemory>
         ensures state { self.new.state ≡ self.old.state }
         ensures ready { OnOk result (self.new.ready ≡ true) }

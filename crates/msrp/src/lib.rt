@@ -37,9 +37,10 @@
 //!
 //! No call on a port copies a participant, a ledger or a set of awaiting keys: each takes its
 //! memory first, and then changes all in its place. `clock_room` makes a side ready for the clock,
-//! by counting what is registered: where it is ready, `clock` takes no memory. Each call that may
-//! change the side ends its readiness. A clock that shows nothing takes no memory, ready or not;
-//! nor do `due` where no timer is due, `settle` where nothing awaits, and `leave_now` of a key that
+//! by counting what is registered: where it is ready, `clock` takes no memory. Each call that
+//! changes the side ends its readiness. A clock that shows nothing takes no memory, ready or not;
+//! nor do `due` where no timer is due, `settle` where nothing awaits, `send` where nothing is to be
+//! said, `request` of what is so already, which leave readiness too, and `leave_now` of a key that
 //! doesn't leave.
 //!
 //! `laws` has what a network's laws rest on, over these states alone: a side is proper

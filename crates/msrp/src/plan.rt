@@ -5,15 +5,17 @@ ghost use Rattle.std.specs.Prelude.{◌≡◌, ◌+◌, ◌≤◌, ◌<◌, [], 
 ghost use Rattle.std.specs.List.{filter_map};
 ghost use Rattle.port_ledger.specs.Decision.{IsAscending, booked_of};
 ghost use Rattle.msrp.specs.Holding.{ports_in};
-ghost use Rattle.msrp.specs.Plan.{IsPlan, asked_at};
+ghost use Rattle.msrp.specs.Plan.{IsPlan, asked_at, missing_row, missing_rows};
 ghost use Rattle.msrp.specs.Settling.{stream_in, streams_in, talker_keys};
 
+use crate::app::MsrpApp;
 use crate::port::Port;
 use crate::stream::wanted_at;
 use crate::talker_keys::{sum, talker_count};
 use crate::told::stream_in;
 use crate::view::PortView;
 use attribute_propagation::Dirty;
+use mrp_participant::Participant;
 use msrp_codec::{MsrpContent, MsrpKey};
 use msrp_listener::PortListener;
 use port_ledger::Ledger;
@@ -40,6 +42,8 @@ pub(crate) struct Stated {
 pub(crate) struct Plan {
     // What each stream of which a key awaits wants, ascending.
     pub(crate) asked: Vec<Asked>,
+    // How many of the awaiting keys have no row at the port.
+    pub(crate) missing: usize,
     // The bookings before.
     pub(crate) before: Seq<Entry>,
     // Room for the streams whose booking moves, and for their Listener keys.
@@ -62,12 +66,13 @@ pub(crate) fn plan_of(
         (ports_in view.now.ports.now) keys.now plan port.now.state) }
 {
     let asked = asked_by(alloc, view, port, keys)?;
+    let missing = missing_rows(port.part(), keys)?;
     let before = bookings(port.ledger())?;
     let moving = most_moved(port.ledger(), before.as_slice(), asked.len())?;
     let talkers = talker_count(view.talks, view.ports)?;
     let stating = sum(keys.len(), talkers)?;
     let rows = sum(view.ports.len(), 1)?;
-    lists(alloc, asked, before, moving, rows, stating)
+    lists(alloc, asked, missing, before, moving, rows, stating)
 }
 
 // The booked entries of a ledger.
@@ -87,16 +92,35 @@ fn most_moved(ledger: &Ledger, before: &[Entry], asked: usize) -> Result<usize, 
     sum(sum(ledger.len(), before.len())?, asked)
 }
 
+// How many of these keys have no row.
+fn missing_rows(part: &Participant<MsrpApp>, keys: &[MsrpKey]) -> Result<usize, NoMemory>
+    ensures { IfOk result (λ n. n ≡ missing_rows keys.now part.now.state) }
+{
+    let mut count = 0;
+    for key in keys {
+        count = sum(count, missing_row(part, *key))?;
+    }
+    Ok(count)
+}
+
+fn missing_row(part: &Participant<MsrpApp>, key: MsrpKey) -> usize
+    ensures { result ≡ missing_row key part.now.state }
+{
+    if part.has_row(key) { 0 } else { 1 }
+}
+
 // A plan whose lists have room for so many.
 fn lists(
     alloc: Global,
     asked: Vec<Asked>,
+    missing: usize,
     before: Seq<Entry>,
     moving: usize,
     rows: usize,
     stating: usize,
 ) -> Result<Plan, NoMemory>
     ensures asked { IfOk result (λ p. p.asked.items ≡ asked.items) }
+    ensures missing { IfOk result (λ p. p.missing ≡ missing) }
     ensures before { IfOk result (λ p. p.before ≡ before) }
     ensures moved { IfOk result (λ p. p.moved.items ≡ []) }
     ensures moved_len { IfOk result (λ p. vec_len p.moved ≡ 0) }
@@ -115,6 +139,7 @@ fn lists(
     let stated = Vec::with_capacity(alloc, stating)?;
     Ok(Plan {
         asked,
+        missing,
         before,
         moved,
         told,

@@ -5,7 +5,7 @@ ghost use Rattle.mrp_participant.specs.{Lookup.find, Row.is_leaving_in, State.Is
 ghost use Rattle.attribute_propagation.specs.Ports.{count_of};
 ghost use Rattle.msrp.specs.Part.{Part, key_cmp, same_content, sent_part};
 ghost use Rattle.msrp.specs.Holding.{PortHolding};
-ghost use Rattle.msrp.specs.Plan.{asked_book, stated_part};
+ghost use Rattle.msrp.specs.Plan.{asked_book, new_rows, stated_part};
 ghost use Rattle.port_ledger.specs.{Book.booked_only_in, Decision.IsAscending};
 ghost use Rattle.msrp.specs.Side.{clocked_port, new_port, shows_at, with_part};
 
@@ -204,7 +204,7 @@ impl Port {
 
     // ---- settling
 
-    // Makes room for so many new keys and streams. The state is as it was.
+    // Makes room for so many new rows and streams. The state is as it was.
     pub(crate) fn room(&mut self, rows: usize, wants: usize) -> Result<(), NoMemory>
         ensures state { self.new.state ≡ self.old.state }
         ensures rows { OnOk result (rows ≤ self.new.rows) }
@@ -234,9 +234,10 @@ impl Port {
         self.ledger.push_moved(before, moved);
     }
 
-    // Each of these keys is declared or withdrawn, in this order. There is room for as many.
+    // Each of these keys is declared or withdrawn, in this order. There is room for the rows that
+    // come.
     pub(crate) fn restate(&mut self, stated: &[Stated])
-        requires { length stated.now ≤ self.old.rows }
+        requires { new_rows stated.now self.old.state.part ≤ self.old.rows }
         ensures { self.new.state
             ≡ with_part (stated_part stated.now self.old.state.part) self.old.state }
     {

@@ -1,6 +1,6 @@
 //! What a link port sends.
 
-ghost use Rattle.std.specs.Prelude.{◌≡◌, ◌≢◌, ◌<◌, ◌≤◌, ◌+◌, ◌^◌, false, [], length, sum_by, is_none, IfOk, IfSome, OnOk};
+ghost use Rattle.std.specs.Prelude.{◌≡◌, ◌≢◌, ◌<◌, ◌≤◌, ◌+◌, ◌^◌, true, false, [], length, slice_get, sum_by, is_none, IsOk, IfOk, IfSome, IfNone};
 ghost use Rattle.std.specs.List.{AllByRecursion};
 ghost use Rattle.mrp_participant.specs.State.{AreRows, is_silent};
 ghost use Rattle.msrp_codec.specs.Content.{Belongs, base_octets, octets_of};
@@ -22,23 +22,27 @@ use std::alloc::Global;
 impl MsrpSide {
     /// What a link port sends at the moment `now`, in cs and below 2^62: the octets of its PDU, at
     /// most 1,500 (IEEE Std 802.1Q-2018, 10.7.6, 10.8). None exactly where its participant has
-    /// nothing to say; nothing changes then.
+    /// nothing to say; nothing changes then, readiness either, and no memory is taken.
     pub fn send(&mut self, now: Cs, port: PortNo) -> Result<Option<Seq<u8>>, NoMemory>
         requires now { now.0 < 2 ^ 62 }
         requires port { IsLinkPort port (length self.old.state.ports) }
         ensures sent { HasSent now (place_of port) self.old.state result self.new.state }
-        ensures ready { OnOk result (self.new.ready ≡ false) }
+        // Want of memory comes only where something is to be said, and that alone ends readiness.
+        ensures none { IfSome (slice_get self.old.state.ports (place_of port))
+            (λ p. is_silent p.part ≡ true → IsOk result) }
+        ensures stays { IfOk result (λ said. IfNone said (self.new ≡ self.old)) }
+        ensures ready { IfOk result (λ said. IfSome said (λ _. self.new.ready ≡ false)) }
     {
         every_call_keeps_a_side();
         self.keeps();
         let alloc = *self.ports.allocator();
         let at = usize::from(port.0) - 1;
         let said = said_by(alloc, port_at(self.ports.as_slice(), at).part(), now)?;
-        self.ready = false;
         let octets = match said {
             Some(octets) => octets,
             None => return Ok(None),
         };
+        self.ready = false;
         sent_at(&mut self.ports, at, now);
         Ok(Some(octets))
     }
@@ -52,6 +56,7 @@ fn said_by(alloc: Global, part: &Participant<MsrpApp>, now: Cs) -> Result<Option
     ensures silent { IfOk result (λ said. is_none said ≡ is_silent part.now.state) }
     ensures written { IfOk result (λ said. IfSome said (λ octets.
         IsWritten (pdu_sent now part.now.state) octets)) }
+    ensures none { is_silent part.now.state ≡ true → IsOk result }
 {
     what_is_sent_is_declared::<MsrpApp>();
     match part.plan(now)? {

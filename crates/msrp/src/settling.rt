@@ -1,14 +1,16 @@
 //! Settling the keys that await at a link port.
 
-ghost use Rattle.std.specs.Prelude.{◌≡◌, ◌+◌, ◌≤◌, ◌<◌, ◌++◌, ℕ, [], length, map, slice_get, vec_capacity, vec_len, false, IsOk, IfOk, IfSome, OnOk, OnErr};
+ghost use Rattle.std.specs.Prelude.{◌≡◌, ◌≢◌, ◌+◌, ◌≤◌, ◌<◌, ◌++◌, ℕ, List, Some, [], length, map, slice_get, vec_capacity, vec_len, false, IsOk, IfOk, IfSome, OnOk, OnErr};
 ghost use Rattle.attribute_propagation.specs.Ports.{HasRoom, IsLinkPort, count_of, keys_at, keys_in, marked_elsewhere, place_of};
 ghost use Rattle.mrp_participant.specs.State.{declared_state};
-ghost use Rattle.port_ledger.specs.Book.{entry_of};
+ghost use Rattle.port_ledger.specs.Book.{Book, entry_of};
+ghost use Rattle.msrp_codec.specs.declared.pdu.MsrpKey.{MsrpKey};
+ghost use Rattle.msrp.specs.PortState.{PortState};
 ghost use Rattle.msrp.specs.Part.{key_cmp, same_content, settled_as};
 ghost use Rattle.msrp.specs.Settling.{book_with, book_without, listener_keys, settling_keys, talker_keys};
 ghost use Rattle.msrp.specs.Side.{IsKept, Streams, awaiting_at, settled_streams};
 ghost use Rattle.msrp.specs.Holding.{ports_in, streams_of};
-ghost use Rattle.msrp.specs.Plan.{HasRoomFor, IsPlan, asked_in, asked_out, stated_of, stated_part};
+ghost use Rattle.msrp.specs.Plan.{HasRoomFor, IsPlan, asked_in, asked_out, missing_row, missing_rows, new_row, new_rows, stated_of, stated_part, stated_with};
 ghost use Rattle.msrp.specs.View.{registrations_from};
 
 use crate::app::MsrpApp;
@@ -41,8 +43,9 @@ impl MsrpSide {
     /// withdrawn as what is registered at all ports says: those whose keys await, and where the
     /// booked set changed the Talkers of all streams. Answers how many keys awaited; none does
     /// afterwards. The Listener keys of the streams that were booked or dropped await at every
-    /// other link port. All memory is taken before anything changes. `now`, in cs, is the moment of
-    /// the last clock, or 0 before the first.
+    /// other link port. All memory is taken before anything changes; where no key awaits none is
+    /// taken, and nothing changes, readiness either. `now`, in cs, is the moment of the last clock,
+    /// or 0 before the first.
     pub fn settle(&mut self, now: Cs, port: PortNo) -> Result<u32, NoMemory>
         requires now { now.0 ≡ self.old.state.moment }
         requires port { IsLinkPort port (length self.old.state.ports) }
@@ -52,14 +55,16 @@ impl MsrpSide {
             ≡ count_of (length (awaiting_at (place_of port) self.old.state))) }
         ensures err { OnErr result (self.new.state ≡ self.old.state) }
         ensures none { awaiting_at (place_of port) self.old.state ≡ [] → IsOk result }
-        ensures ready { OnOk result (self.new.ready ≡ false) }
+        // What settles ends readiness, and nothing else does.
+        ensures stays { awaiting_at (place_of port) self.old.state ≡ [] → self.new ≡ self.old }
+        ensures ready { OnOk result (awaiting_at (place_of port) self.old.state ≢ []
+            → self.new.ready ≡ false) }
     {
         self.keeps();
         each_port_is_told::<MsrpKey>();
         nothing_changed_where_both_lists_are_empty();
         let at = usize::from(port.0) - 1;
         if set_at(self.awaiting.as_slice(), at).is_empty() {
-            self.ready = false;
             return Ok(0);
         }
         self.settle_keys(at)
@@ -104,6 +109,19 @@ pub(crate) fn settling_keeps_a_side()
     nothing_changed_where_both_lists_are_empty();
 }
 
+// A row comes only for a key that awaits and has none: what is declared of a key that doesn't await
+// has its row.
+fn rows_come_for_awaiting_keys()
+    ensures { (at : ℕ) (side : Streams) (port : PortState) (keys : List MsrpKey)
+        → IsKept side → slice_get side.ports at ≡ Some port → slice_get side.awaiting at ≡ Some keys
+        → (book : Book) (tried : List MsrpKey)
+        → new_rows (stated_with at side (record port { ledger = book }) tried) port.part
+        ≤ missing_rows keys port.part }
+{
+    rows_stay_rows::<MsrpApp>();
+    one_key_changes::<MsrpApp>();
+}
+
 // The keys that await at a place are settled, and none awaits there afterwards. Answers how many
 // there were. After want of memory all are as they were.
 fn settle_at(
@@ -115,6 +133,8 @@ fn settle_at(
 ) -> Result<u32, NoMemory>
     requires place { at < length ports.old.items }
     requires sets { length sets.old.items ≡ length ports.old.items }
+    requires kept { (moment : ℕ) × IsKept
+        (streams_of ports.old.items sets.old.items talks.now listens.now moment) }
     ensures after { OnOk result ((moment : ℕ)
         → streams_of ports.new.items sets.new.items talks.now listens.now moment
         ≡ settled_streams at
@@ -138,7 +158,7 @@ fn settle_at(
     Ok(count)
 }
 
-// Makes room for so many new keys and streams at the port at a place. No state changes.
+// Makes room for so many new rows and streams at the port at a place. No state changes.
 fn port_room(ports: &mut Vec<Port>, at: usize, rows: usize, wants: usize) -> Result<(), NoMemory>
     requires { at < length ports.old.items }
     ensures ports { ports_in ports.new.items ≡ ports_in ports.old.items }
@@ -173,7 +193,7 @@ fn room_at(
     ensures room { OnOk result (HasRoomFor at plan.now ports.new.items sets.new.items) }
 {
     let own = sum(plan.stated.capacity(), plan.moved.capacity())?;
-    port_room(ports, at, plan.stated.capacity(), plan.asked.len())?;
+    port_room(ports, at, plan.missing, plan.asked.len())?;
     room_everywhere(sets, plan.moved.capacity())?;
     set_room(sets, at, own)
 }
@@ -193,11 +213,14 @@ fn carry_out(
         (IsPlan at talks.now (ports_in ports.old.items) (keys_at at (keys_in sets.old.items))
         plan.old) }
     requires room { HasRoomFor at plan.old ports.old.items sets.old.items }
+    requires kept { (moment : ℕ) × IsKept
+        (streams_of ports.old.items sets.old.items talks.now listens.now moment) }
     ensures { (moment : ℕ) → streams_of ports.new.items sets.new.items talks.now listens.now moment
         ≡ settled_streams at
         (streams_of ports.old.items sets.old.items talks.now listens.now moment) }
 {
     nothing_changed_where_both_lists_are_empty();
+    rows_come_for_awaiting_keys();
     ports[at].decide(
         plan.asked.as_slice(),
         plan.before.as_slice(),
@@ -342,12 +365,12 @@ fn state_all(
     }
 }
 
-// A key is declared with a content. There is room for one more row.
+// A key is declared with a content. Where it has no row there is room for one.
 fn declare(part: &mut Participant<MsrpApp>, key: MsrpKey, content: MsrpContent)
-    requires { 1 ≤ part.old.spare }
+    requires { missing_row key part.old.state ≤ part.old.spare }
     ensures state { part.new.state
         ≡ declared_state key_cmp same_content key content part.old.state }
-    ensures spare { part.old.spare ≤ part.new.spare + 1 }
+    ensures spare { part.old.spare ≤ part.new.spare + missing_row key part.old.state }
 {
     match part.declare(key, content) {
         Ok(()) => {}
@@ -355,11 +378,12 @@ fn declare(part: &mut Participant<MsrpApp>, key: MsrpKey, content: MsrpContent)
     }
 }
 
-// A key is declared with a content, or withdrawn where it has none. There is room for one more row.
+// A key is declared with a content, or withdrawn where it has none. There is room for the row that
+// comes.
 fn settle_as(part: &mut Participant<MsrpApp>, key: MsrpKey, content: Option<MsrpContent>)
-    requires { 1 ≤ part.old.spare }
+    requires { new_row key content part.old.state ≤ part.old.spare }
     ensures state { part.new.state ≡ settled_as key content part.old.state }
-    ensures spare { part.old.spare ≤ part.new.spare + 1 }
+    ensures spare { part.old.spare ≤ part.new.spare + new_row key content part.old.state }
 {
     match content {
         Some(content) => declare(part, key, content),
@@ -367,9 +391,9 @@ fn settle_as(part: &mut Participant<MsrpApp>, key: MsrpKey, content: Option<Msrp
     }
 }
 
-// Each of these keys is declared or withdrawn, in this order. There is room for as many rows.
+// Each of these keys is declared or withdrawn, in this order. There is room for the rows that come.
 pub(crate) fn declare_all(part: &mut Participant<MsrpApp>, stated: &[Stated])
-    requires { length stated.now ≤ part.old.spare }
+    requires { new_rows stated.now part.old.state ≤ part.old.spare }
     ensures { part.new.state ≡ stated_part stated.now part.old.state }
 {
     for one in stated {

@@ -396,3 +396,83 @@ fn are_a_million_taken_behind_one(alloc: Global) -> bool {
 fn a_million_streams_come_in_turn_behind_one_that_waits(rt: HostRuntime) {
     assert!(rt; are_a_million_taken_behind_one(rt.alloc()));
 }
+
+/// Enters streams of slope 1 as a node does, each in room that is made for it: from the first up to
+/// the last, each at the moment before its number.
+fn enter_many(ledger: &mut Ledger, class: Class, first: u64, last: u64) -> Result<(), NoMemory>
+    requires first { ledger.old.book.moment + 1 ≤ first }
+    requires last { last < 2 ^ 63 }
+{
+    for stream in first..last + 1 {
+        ledger.room(1)?;
+        ledger.enter(Cs(stream - 1), want_of(stream, class, Rank::Normal, 1));
+    }
+    Ok(())
+}
+
+/// Whether a booked stream leaves, at the moment of the ledger.
+fn leaves(ledger: &mut Ledger, stream: u64) -> bool {
+    let now = ledger.moment();
+    ledger.unwant(now, StreamId(stream))
+}
+
+/// Whether so many booked streams leave, from the last down: each time the one that came last.
+fn many_leave(ledger: &mut Ledger, last: u64, count: u64) -> bool
+    requires { count ≤ last }
+{
+    for gone in 0..count {
+        if !leaves(ledger, last - gone) {
+            return false;
+        }
+    }
+    true
+}
+
+/// Whether so many streams enter in turn and leave again, where what stands before is decided at no
+/// call.
+fn lets_a_million_through(ledger: &mut Ledger, class: Class) -> Result<bool, NoMemory>
+    requires { ledger.old.book.moment ≡ 0 }
+{
+    let before = ledger.len();
+    enter_many(ledger, class, 1, MANY)?;
+    let first_and_last = is_booked(ledger, 1, 0) && is_booked(ledger, MANY, MANY - 1);
+    let all_booked = first_and_last && ledger.slope(class) == u128::from(MANY);
+    let all_left = many_leave(ledger, MANY, MANY) && ledger.slope(class) == 0;
+    Ok(all_booked && all_left && ledger.len() == before)
+}
+
+/// Whether a new ledger of 10 Gb/s and 75 percent lets so many streams through.
+fn are_a_million_let_through(alloc: Global) -> bool {
+    match new_ledger_of(alloc, Rate::G10, 75, 0) {
+        Some(mut ledger) => lets_a_million_through(&mut ledger, Class::A) == Ok(true),
+        None => false,
+    }
+}
+
+#[test]
+fn a_million_streams_enter_and_leave_in_turn(rt: HostRuntime) {
+    assert!(rt; are_a_million_let_through(rt.alloc()));
+}
+
+/// The same behind a stream that doesn't fit, which neither those that enter nor those that leave
+/// make be decided.
+fn lets_a_million_through_behind_one(ledger: &mut Ledger) -> Result<bool, NoMemory>
+    requires { ledger.old.book.moment ≡ 0 }
+{
+    let waiting = want_of(0, Class::A, Rank::Normal, 10_000_000_000);
+    let waits = takes(ledger, Cs(0), waiting, &[])?;
+    let through = lets_a_million_through(ledger, Class::B)?;
+    Ok(waits && through && ledger.booked(StreamId(0)).is_none())
+}
+
+fn are_a_million_let_through_behind_one(alloc: Global) -> bool {
+    match new_ledger_of(alloc, Rate::G10, 25, 50) {
+        Some(mut ledger) => lets_a_million_through_behind_one(&mut ledger) == Ok(true),
+        None => false,
+    }
+}
+
+#[test]
+fn a_million_streams_enter_and_leave_in_turn_behind_one_that_waits(rt: HostRuntime) {
+    assert!(rt; are_a_million_let_through_behind_one(rt.alloc()));
+}

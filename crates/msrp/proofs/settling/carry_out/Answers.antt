@@ -4,9 +4,10 @@ use Rattle.std.proofs.Math.ListN.{length-set}
 use Rattle.srp_base.proofs.{Lists.each-set, Lists.map-set, Lists.mapped_length, Options.opened}
 use Rattle.srp_base.specs.declared.numbers.StreamId.{StreamId}
 use Rattle.port_ledger.specs.Book.{Book, booked_only_in}
-use Rattle.attribute_propagation.specs.{Dirty.KeySet, Ports.keys_in, Ports.keys_or_none, Ports.marked_elsewhere}
+use Rattle.attribute_propagation.specs.{Dirty.KeySet, Ports.keys_at, Ports.keys_in, Ports.keys_or_none, Ports.marked_elsewhere}
 use Rattle.msrp_codec.specs.declared.pdu.MsrpKey.{MsrpKey}
-use Rattle.msrp.specs.{Stated, key_cmp, listener_keys, settling_keys, streams_in, talker_keys, registrations_of, with_part, PortHolding, ports_in, asked_at, asked_book, stated_of, stated_part}
+use Rattle.msrp.specs.{Stated, key_cmp, listener_keys, settling_keys, streams_in, talker_keys, registrations_of, Streams, with_part, PortHolding, ports_in, streams_of, asked_at, asked_book, missing_rows, new_rows, stated_of, stated_part, stated_with}
+use Rattle.msrp.specs.Part.{Part}
 use Rattle.msrp.specs.PortState.{PortState}
 use Rattle.msrp.proofs.{Carried.book_is, Carried.get-set, Carried.keys_is, Carried.keys_set, Carried.marked-many, Carried.moved_fits, Carried.moved_since, Carried.plan_at, Carried.port_has, Carried.read-set, Carried.set_has, Carried.set_is, Carried.stepped_is, Carried.talkers_fit, Carried.tried_fits, InPlace.fewer, InPlace.port_is, InPlace.state_is, InPlace.states-set}
 use Rattle.msrp.proofs.settling.carry_out.Goals as goal
@@ -45,28 +46,39 @@ state_all-requires-clause-room c =
 
 pub restate-requires : goal.restate-requires
 restate-requires c =
+    let at : ℕ = c.args.at in
     let ports : List PortHolding = c.args.ports.now.items in
     let sets : List (KeySet MsrpKey) = c.args.sets.now.items in
-    let below : c.args.at < length sets = omega (arith, c.requires.place, c.requires.sets) in
-    let plan = plan_at c.args.at c.args.talks.now ports _ c.args.plan.now c.index_mut.result.now c.requires.place c.index_mut.ensures.value c.requires.plan in
-    let rows = port_has (λ (p : PortHolding). vec_capacity c.args.plan.now.stated ≤ p.rows) ports c.args.at c.index_mut.result.now c.requires.place c.index_mut.ensures.value c.requires.room.rows in
-    let tried = tried_fits c.args.at c.args.talks.now ports c.as_slice-4.result.now sets c.args.plan.now c.index_mut.result.now c.decide.new.self c.index_mut-2.result.now
-    c.requires.place c.index_mut.ensures.value (set_is sets c.args.at c.index_mut-2.result.now below c.index_mut-2.ensures.value) plan
-    c.as_slice-4.ensures.value (ap (λ (s : PortState). s.part) c.decide.ensures.state) c.as_slice-3.result.now c.as_slice-7.result.now
-    (c.as_slice-7.ensures
-    ∙ (keys_set sets c.args.at c.mark_moved.new.set c.set_at-keys.result.now.keys below (ap (λ xs. slice_get (keys_in xs) c.args.at) (sym c.as_slice-6.ensures.value) ∙ c.set_at-keys.ensures)
-    ∙ c.mark_moved.ensures.keys)) in
+    let x : PortHolding = c.index_mut.result.now in
+    let u : KeySet MsrpKey = c.index_mut-2.result.now in
+    let below : at < length sets = omega (arith, c.requires.place, c.requires.sets) in
+    let plan = plan_at at c.args.talks.now ports _ c.args.plan.now x c.requires.place c.index_mut.ensures.value c.requires.plan in
+    let room = port_has (λ (p : PortHolding). c.args.plan.now.missing ≤ p.rows) ports at x c.requires.place c.index_mut.ensures.value c.requires.room.rows in
+    let book : Book = asked_book c.as_slice.result.now x.state.ledger in
+    let ruled : PortState = record x.state { ledger = book } in
+    let here : slice_get (ports_in ports) at ≡ Some x.state = state_is ports at x (port_is ports at x c.requires.place c.index_mut.ensures.value) in
+    let set : slice_get (keys_in sets) at ≡ Some u.keys = keys_is sets at u (set_is sets at u below c.index_mut-2.ensures.value) in
+    let five : ports_in c.as_slice-5.result.now ≡ slice_set (ports_in ports) at ruled =
+    ap (λ xs. ports_in xs) c.as_slice-5.ensures.value ∙ (states-set ports at c.decide.new.self ∙ ap (λ (s : PortState). slice_set (ports_in ports) at s) c.decide.ensures.state) in
     let regs = registrations_of c.args.talks.now c.args.listens.now (ports_in c.as_slice-5.result.now) in
-    let stated : c.state_all.new.stated.items ≡ c.args.plan.now.stated.items ++ map (stated_of c.args.at c.decide.new.self.state regs) c.as_slice-7.result.now =
-    opened (λ (q : PortHolding). c.state_all.new.stated.items ≡ c.args.plan.now.stated.items ++ map (stated_of c.args.at q.state regs) c.as_slice-7.result.now)
-    (slice_get c.as_slice-5.result.now c.args.at) c.decide.new.self
-    (ap (λ xs. slice_get xs c.args.at) c.as_slice-5.ensures.value ∙ get-set ports c.args.at c.decide.new.self c.requires.place) c.state_all.ensures in
-    let many : length c.as_slice-8.result.now ≡ length c.as_slice-7.result.now =
-    ap (λ (xs : List Stated). length xs)
-    (c.as_slice-8.ensures.value ∙ (stated ∙ ap (λ xs. xs ++ map (stated_of c.args.at c.decide.new.self.state regs) c.as_slice-7.result.now) plan.stated))
-    ∙ mapped_length (stated_of c.args.at c.decide.new.self.state regs) c.as_slice-7.result.now in
-    let port : c.index_mut-3.result.now ≡ c.decide.new.self = read-set ports c.args.at c.index_mut-3.result.now c.decide.new.self c.requires.place c.index_mut-3.ensures.value in
-    omega (arith, rows, many, tried, ap (λ (p : PortHolding). p.rows) port, c.decide.ensures.rows)
+    let stated : c.state_all.new.stated.items ≡ c.args.plan.now.stated.items ++ map (stated_of at c.decide.new.self.state regs) c.as_slice-7.result.now =
+    opened (λ (q : PortHolding). c.state_all.new.stated.items ≡ c.args.plan.now.stated.items ++ map (stated_of at q.state regs) c.as_slice-7.result.now)
+    (slice_get c.as_slice-5.result.now at) c.decide.new.self
+    (ap (λ xs. slice_get xs at) c.as_slice-5.ensures.value ∙ get-set ports at c.decide.new.self c.requires.place) c.state_all.ensures in
+    let side : Streams = streams_of ports sets c.args.talks.now c.args.listens.now c.requires.kept.0 in
+    let all : c.as_slice-8.result.now ≡ stated_with at side ruled c.as_slice-7.result.now =
+    c.as_slice-8.ensures.value
+    ∙ (stated
+    ∙ (ap (λ xs. xs ++ map (stated_of at c.decide.new.self.state regs) c.as_slice-7.result.now) plan.stated
+    ∙ (ap (λ (s : PortState). map (stated_of at s regs) c.as_slice-7.result.now) c.decide.ensures.state
+    ∙ ap (λ (ps : List PortState). map (stated_of at ruled (registrations_of c.args.talks.now c.args.listens.now ps)) c.as_slice-7.result.now) five))) in
+    let port : c.index_mut-3.result.now ≡ c.decide.new.self = read-set ports at c.index_mut-3.result.now c.decide.new.self c.requires.place c.index_mut-3.ensures.value in
+    let part : c.index_mut-3.result.now.state.part ≡ x.state.part = ap (λ (p : PortHolding). p.state.part) port ∙ ap (λ (s : PortState). s.part) c.decide.ensures.state in
+    let few = c.rows_come_for_awaiting_keys.ensures at side x.state u.keys c.requires.kept.1 here set book c.as_slice-7.result.now in
+    let come : new_rows c.as_slice-8.result.now c.index_mut-3.result.now.state.part ≡ new_rows (stated_with at side ruled c.as_slice-7.result.now) x.state.part =
+    ap (λ (xs : List Stated). new_rows xs c.index_mut-3.result.now.state.part) all ∙ ap (λ (s : Part). new_rows (stated_with at side ruled c.as_slice-7.result.now) s) part in
+    let miss : missing_rows (keys_at at (keys_in sets)) x.state.part ≡ missing_rows u.keys x.state.part = ap (λ o. missing_rows (keys_or_none o) x.state.part) set in
+    omega (arith, come, few, miss, plan.missing, room, ap (λ (p : PortHolding). p.rows) port, c.decide.ensures.rows)
 
 pub tell_moved-requires-clause-told : goal.tell_moved-requires-clause-told
 tell_moved-requires-clause-told c =

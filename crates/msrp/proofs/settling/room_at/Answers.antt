@@ -11,8 +11,8 @@ returns-clause-room c =
     let asked : vec_len c.args.plan.now.asked ≡ length c.args.plan.now.asked.items = search rules in
     let own : c.in_ok-own.own ≡ vec_capacity c.args.plan.now.stated + vec_capacity c.args.plan.now.moved = omega (arith, c.in_ok-own.ensures, c.capacity.ensures, c.capacity-2.ensures) in
     on_ok c.set_room.result c.set_room.ensures.room (λ has. record {
-      rows = subst (λ (n : ℕ). IfSome (slice_get c.port_room.new.ports.items c.args.at) (λ (p : PortHolding). n ≤ p.rows)) c.capacity-3.ensures c.in_ok-port_room.ensures.rows;
+      rows = c.in_ok-port_room.ensures.rows;
       wants = subst (λ (n : ℕ). IfSome (slice_get c.port_room.new.ports.items c.args.at) (λ (p : PortHolding). n ≤ p.wants)) (c.len.ensures ∙ asked) c.in_ok-port_room.ensures.wants;
       own = subst (λ (n : ℕ). IfSome (slice_get c.set_room.new.sets.items c.args.at) (λ (set : KeySet MsrpKey). n ≤ set.spare)) own has;
-      others = c.set_room.ensures.others (vec_capacity c.args.plan.now.moved) (subst (λ (n : ℕ). HasRoom n c.room_everywhere.new.sets.items) c.capacity-4.ensures c.in_ok-room_everywhere.ensures.room);
+      others = c.set_room.ensures.others (vec_capacity c.args.plan.now.moved) (subst (λ (n : ℕ). HasRoom n c.room_everywhere.new.sets.items) c.capacity-3.ensures c.in_ok-room_everywhere.ensures.room);
     })

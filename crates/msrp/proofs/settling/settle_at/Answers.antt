@@ -1,9 +1,9 @@
-use Rattle.std.proofs.Common.{◌≡◌, ◌∙◌, List, ap, sym, arith}
+use Rattle.std.proofs.Common.{◌≡◌, ◌∙◌, List, ap, sym, subst, arith}
 use Rattle.std.specs.Prelude.{slice_get, Some}
 use Rattle.srp_base.proofs.Options.{some_is}
 use Rattle.attribute_propagation.specs.{Dirty.KeySet, Ports.keys_at, Ports.keys_in, Ports.keys_or_none}
 use Rattle.msrp_codec.specs.declared.pdu.MsrpKey.{MsrpKey}
-use Rattle.msrp.specs.{Streams, settled_streams, PortHolding, ports_in, IsPlan}
+use Rattle.msrp.specs.{Streams, IsKept, settled_streams, PortHolding, ports_in, IsPlan}
 use Rattle.msrp.proofs.{Carried.same_many, Carried.same_sets, InPlace.same_streams, InPlace.state_is}
 use Rattle.msrp.proofs.settling.settle_at.Goals as goal
 
@@ -25,6 +25,12 @@ carry_out-requires-clause-plan c =
     rw (sym keys, sym c.as_slice-2.ensures.value) c.in_ok-plan.ensures in
     rw (c.room_at.ensures.ports, c.room_at.ensures.sets)
     (some_is (IsPlan c.args.at c.args.talks.now (ports_in ports) (keys_at c.args.at (keys_in sets)) c.in_ok-plan.plan) (slice_get (ports_in ports) c.args.at) c.port.result.now.state here plan)
+
+pub carry_out-requires-clause-kept : goal.carry_out-requires-clause-kept
+carry_out-requires-clause-kept c = (
+  c.requires.kept.0,
+  subst IsKept (sym (same_streams _ _ _ _ c.args.talks.now c.args.listens.now c.requires.kept.0 c.room_at.ensures.ports c.room_at.ensures.sets)) c.requires.kept.1,
+)
 
 pub returns-clause-after : goal.returns-clause-after
 returns-clause-after c = λ moment.

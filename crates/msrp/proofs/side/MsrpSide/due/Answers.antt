@@ -15,8 +15,7 @@ returns-then-not-any_due-clause-after c =
     ∙ (ap (λ xs. slice_get (ports_in xs) (place_of c.args.port)) (sym c.as_slice.ensures.value)
     ∙ (ap (λ n. slice_get (ports_in c.as_slice.result.now) (n - 1)) (sym c.from-at.ensures) ∙ state_is c.as_slice.result.now (c.from-at.result - 1) c.port_at.result.now c.port_at.ensures)) in
     let none : is_any_due c.args.now c.port_at.result.now.state.part ≡ false = ap (λ (s : Part). is_any_due c.args.now s) (sym c.part.ensures) ∙ (sym c.any_due.ensures ∙ c.if-not-any_due.true) in
-    ap (λ (v : SideHolding). v.state) c.self.view_is
-    ∙ sym (none-due c.each_port_is_told.ensures c.args.self.now.state (place_of c.args.port) c.port_at.result.now.state here c.args.now
+    sym (none-due c.each_port_is_told.ensures c.args.self.now.state (place_of c.args.port) c.port_at.result.now.state here c.args.now
     (c.nothing_due_changes_nothing.ensures.state c.port_at.result.now.state.part c.args.now none) (c.nothing_due_changes_nothing.ensures.left c.port_at.result.now.state.part c.args.now none))
 
 pub returns-then-not-any_due-clause-count : goal.returns-then-not-any_due-clause-count

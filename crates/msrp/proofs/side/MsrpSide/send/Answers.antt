@@ -25,8 +25,8 @@ said_by-requires-clause-contents c =
     let P : Part → Type 0 = λ s. HasOwnContents s in
     subst P (sym c.part.ensures) (port_kept c.args.self.now.state c.keeps.ensures (place_of c.args.port) c.port_at.result.now.state here).contents
 
-pub invariant_of-self-2 : goal.invariant_of-self-2
-invariant_of-self-2 c =
+pub invariant_of-self : goal.invariant_of-self
+invariant_of-self c =
     let before : Streams = streams_of c.self.inside.ports.items c.self.inside.awaiting.items c.self.inside.talks.items c.self.inside.listens.items c.self.inside.moment.0 in (
       subst IsKept (sym (c.sent_at.ensures c.self.inside.awaiting.items c.self.inside.talks.items c.self.inside.listens.items c.self.inside.moment.0))
           (c.every_call_keeps_a_side.ensures.send c.args.now (c.from-at.result - 1) before c.self.invariant.0),

@@ -14,5 +14,4 @@ returns-then-is_empty-clause-after c =
     ap (λ (v : SideHolding). slice_get v.state.awaiting (place_of c.args.port)) (sym c.self.view_is)
     ∙ (ap (λ xs. slice_get (keys_in xs) (place_of c.args.port)) (sym c.as_slice.ensures.value)
     ∙ (ap (λ n. slice_get (keys_in c.as_slice.result.now) (n - 1)) (sym c.from-at.ensures) ∙ (c.set_at.ensures ∙ ap Some none))) in
-    ap (λ (v : SideHolding). v.state) c.self.view_is
-    ∙ sym (none-awaits c.each_port_is_told.ensures c.nothing_changed_where_both_lists_are_empty.ensures.empty c.args.self.now.state c.keeps.ensures (place_of c.args.port) set)
+    sym (none-awaits c.each_port_is_told.ensures c.nothing_changed_where_both_lists_are_empty.ensures.empty c.args.self.now.state c.keeps.ensures (place_of c.args.port) set)

@@ -18,6 +18,9 @@ invariant_of-self c =
       tt,
     )
 
+pub settle_at-requires-clause-kept : goal.settle_at-requires-clause-kept
+settle_at-requires-clause-kept c = (c.self.inside.moment.0, rw (c.as_slice.ensures.value, c.as_slice-2.ensures.value) c.self.invariant.0)
+
 pub returns-clause-after : goal.returns-clause-after
 returns-clause-after c =
     let ok : OnOk c.settle_at.result ((moment : ℕ) → streams_of c.settle_at.new.ports.items c.settle_at.new.sets.items c.self.inside.talks.items c.self.inside.listens.items moment
