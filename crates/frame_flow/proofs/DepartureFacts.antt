@@ -3,7 +3,7 @@ use Rattle.std.proofs.Common.{◌≡◌, ◌≢◌, ℕ, inl, inr, Bool, true, f
 use Rattle.std.specs.Prelude.{All, AllPairs, filter, find, ◌==◌}
 use Rattle.std.proofs.lemmas.{Bool.cond-true, Bool.cond-false, Bool.cases_Bool, Bool.eqb-true, Bool.eq-eqb, Bool.ne_eqb, Bool.false≢true, List.Elements.All-nil, List.Elements.All-cons, List.Elements.All-head, List.Elements.All-tail, List.Elements.All-weaker, List.Elements.All-filter, List.Kept.AllPairs-cons, List.Kept.AllPairs-filter}
 use Rattle.credit_shaper.specs.declared.{shaper.Traffic.Traffic, port.Arrival.Arrival, port.Departure.Departure}
-use Rattle.credit_shaper.specs.{Credit.traffic_number, Port.is_of, Departures.departs_as, Departures.DepartInOrder}
+use Rattle.credit_shaper.specs.{Credit.traffic_number, Port.is_of, Departures.departs_as, Departures.IsDepartureOf, Departures.DepartInOrder}
 use Rattle.credit_shaper.proofs.PairLemmas.{pairs-head, pairs-tail, pairs-none}
 use Rattle.frame_flow.proofs.NumberLemmas.{find-here}
 
@@ -127,6 +127,23 @@ pub sent-apart : (xs : List Arrival) (ds : List Departure) (left : Traffic → L
 sent-apart xs ds left apart order =
     all-pairs DifferDepartures (λ d. HasTraffic xs d.frame d.traffic) (traffics-apart xs) ds (sent-known xs ds left apart order)
     (λ t. departed-pairs (filter (is_of t) xs) (filter (departs_as t) ds) (left t) (order t) (AllPairs-filter DifferArrivals (is_of t) xs apart))
+
+-- a departure is that of an arrival of which this is so
+abbrev pub IsOfSome : (Arrival → Type 0) → Departure → Type 0
+IsOfSome P d = (x : Arrival) × P x × IsDepartureOf x d
+
+departed-of : (P : Arrival → Type 0) (xs : List Arrival) (ds : List Departure) (left : List Arrival) → DepartInOrder xs ds left → All P xs → All (IsOfSome P) ds
+departed-of P xs [] left order all = All-nil (IsOfSome P)
+departed-of P [] (d ∷ ds) left order all = absurd order
+departed-of P (x ∷ xs) (d ∷ ds) left order all =
+    All-cons (IsOfSome P) d ds (x, All-head P x xs all, order.0) (departed-of P xs ds left order.1 (All-tail P x xs all))
+
+-- each departure is that of an arrival
+pub sent-of : (P : Arrival → Type 0) (xs : List Arrival) (ds : List Departure) (left : Traffic → List Arrival) → All P xs
+    → ((t : Traffic) → DepartInOrder (filter (is_of t) xs) (filter (departs_as t) ds) (left t)) → All (IsOfSome P) ds
+sent-of P xs ds left all order =
+    all-traffics (IsOfSome P) ds
+    (λ t. departed-of P (filter (is_of t) xs) (filter (departs_as t) ds) (left t) (order t) (All-filter (is_of t) P xs all))
 
 -- ---- of one number
 

@@ -10,5 +10,6 @@ pub mod DepartureFacts
 pub mod FateLemmas
 pub mod ForceLemmas
 pub mod LawLemmas
+pub mod OriginLemmas
 pub mod CapLemmas
 pub mod SayingLemmas

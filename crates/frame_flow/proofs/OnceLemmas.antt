@@ -330,3 +330,9 @@ pub once-copies : (s : Setting) → IsSetting s → HasPortLaws s.tree → (flow
     → AllPairs DifferCopies (arriving s.tree.links s.frames s.ticks flows place)
 once-copies s given laws flows is place port =
     arriving-pairs s given laws flows place port (λ q there less. once-below s given laws flows is (level_at s.tree place.at) q there less)
+
+-- no copy's station lies behind the port
+pub side-copies : (s : Setting) → IsSetting s → HasPortLaws s.tree → (flows : List PortFlow) → IsFlow s flows → (place : Place) → HasPort s.tree place.at
+    → All (λ c. is_behind s.tree.links place.at c.frame.from.0 ≡ false) (arriving s.tree.links s.frames s.ticks flows place)
+side-copies s given laws flows is place port =
+    arriving-side s given laws flows place port (λ q there less. once-below s given laws flows is (level_at s.tree place.at) q there less)

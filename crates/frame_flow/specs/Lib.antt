@@ -7,6 +7,7 @@ pub mod Levels
 pub mod Incoming
 pub mod Steps
 pub mod Laws
+pub mod Origins
 pub use Moments.*
 pub use Force.*
 unfoldable pub use Copies.*
@@ -16,6 +17,7 @@ pub use Levels.*
 pub use Incoming.*
 pub use Steps.*
 pub use Laws.*
+pub use Origins.*
 pub use Rattle.frame_flow.specs.declared.frame.CopyOf.{CopyOf}
 pub use Rattle.frame_flow.specs.declared.frame.Frame.{Frame}
 pub use Rattle.frame_flow.specs.declared.frame.FrameCopy.{FrameCopy}

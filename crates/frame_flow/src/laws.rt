@@ -1,20 +1,23 @@
 //! What is true of every flow, over the definitions that the contract of `flow` cites. Each is a
 //! function that does nothing; calling it brings the law to a proof.
 
-ghost use Rattle.std.specs.Prelude.{◌≡◌, ℕ, ◌<◌, ◌≤◌, List, map, All, AllPairs};
+ghost use Rattle.std.specs.Prelude.{◌≡◌, ℕ, ◌<◌, ◌≤◌, Bool, false, IsTrue, Some, List, map, All, AllPairs};
+ghost use Rattle.std.specs.List.{Contains};
 ghost use Rattle.std.specs.List.Sorted.{IsPermutation};
 ghost use Rattle.srp_base.specs.declared.{numbers.EgressPort.EgressPort, ports.PortChange.PortChange};
-ghost use Rattle.tree_topology.specs.Topology.{HasPort, IsSound};
+ghost use Rattle.tree_topology.specs.{Topology.Topology, Topology.HasPort, Topology.IsSound, Walk.is_behind};
 ghost use Rattle.credit_shaper.specs.{Port.IsPortInput, Port.slopes_at, Bounds.greatest_slope_a, Bounds.IsWindowAWithin};
+ghost use Rattle.frame_flow.specs.declared.result.Fate.TheVariants.{Departed};
 ghost use Rattle.frame_flow.specs.declared.result.PortFlow.{PortFlow};
 ghost use Rattle.frame_flow.specs.declared.place.Place.{Place};
 ghost use Rattle.frame_flow.specs.declared.frame.FrameCopy.{FrameCopy};
 ghost use Rattle.frame_flow.specs.Moments.{bits_of_ticks, tick_at};
 ghost use Rattle.frame_flow.specs.Force.{changes_at, in_force};
-ghost use Rattle.frame_flow.specs.Copies.{all_places, arriving};
-ghost use Rattle.frame_flow.specs.Flow.{Setting, IsFlow, port_input};
+ghost use Rattle.frame_flow.specs.Copies.{all_places, arriving, flow_at};
+ghost use Rattle.frame_flow.specs.Flow.{Setting, IsFlow, port_flow, port_input};
 ghost use Rattle.frame_flow.specs.Given.{IsEarlier, IsSetting, IsInOrder};
 ghost use Rattle.frame_flow.specs.Laws.{arriving_numbers, fate_numbers, AreDifferent, DepartsByArrival, HasOutcomes, HasSlopes, coming, KeepsCapsA, KeepsCaps, HasCaps, SayTheSame};
+ghost use Rattle.frame_flow.specs.Origins.{HasSource, IsFlowOf, IsOfCopy, PassesBefore};
 
 use credit_shaper::laws::{class_a_stays_within_in_every_run, frames_depart_in_order};
 use tree_topology::laws::ports;
@@ -121,4 +124,48 @@ pub fn class_a_windows_stay_within()
         → IsWindowAWithin x.input 0 (greatest_slope_a x.input.slopes) a b) flows }
 {
     class_a_stays_within_in_every_run();
+}
+
+/// Each copy at a port comes from a frame of its station, or from one that departed at a port which
+/// sends into its node over another link.
+pub fn copies_come_from_departures()
+    ensures { (s : Setting) (flows : List PortFlow) (place : Place) → HasPort s.tree place.at
+        → All (HasSource s flows place)
+        (arriving s.tree.links s.frames s.ticks flows place) }
+{}
+
+/// The flow that is found at a port is what the others give it.
+pub fn a_flow_is_that_of_its_place()
+    ensures { (s : Setting) (flows : List PortFlow) (p : EgressPort) (x : PortFlow)
+        → IsFlow s flows → flow_at flows p ≡ Some x → IsFlowOf s flows p x }
+{}
+
+/// A copy that departed had arrived at the port before, could be sent there, and took its own bits.
+pub fn departed_copies_were_carried()
+    ensures { (s : Setting) (flows : List PortFlow) (place : Place) (number start end : ℕ)
+        → IsSetting s → Contains (all_places s.tree.links s.rates) place
+        → Contains (port_flow s flows place).fates (number, Departed start end)
+        → IsOfCopy s flows place number start end }
+{
+    frames_depart_in_order();
+}
+
+/// No frame goes back: its station lies behind no port at which it has a copy.
+pub fn no_copy_goes_back()
+    ensures { (s : Setting) (flows : List PortFlow) (place : Place) → IsSetting s
+        → IsSound s.tree → IsFlow s flows → HasPort s.tree place.at
+        → All (λ c. is_behind s.tree.links place.at c.frame.from.0 ≡ false)
+        (arriving s.tree.links s.frames s.ticks flows place) }
+{
+    ports();
+}
+
+/// Along the way: what holds at a port where it holds at each port that sends into its node over
+/// another link holds at every port.
+pub fn what_is_handed_on_holds_at_every_port()
+    ensures { (tree : Topology) (test : EgressPort → Bool) (p : EgressPort) → IsSound tree
+        → ((q : EgressPort) → HasPort tree q → PassesBefore tree test q → IsTrue (test q))
+        → HasPort tree p → IsTrue (test p) }
+{
+    ports();
 }

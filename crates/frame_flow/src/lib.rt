@@ -34,7 +34,10 @@
 //! what comes to it, in order; what its shaper is given keeps the caps that the changes keep; each
 //! copy has one fate; it departs once where that is its fate, and else never; the copies of one
 //! traffic depart in order of arrival, ties by number; and at every port every window stays within
-//! class A's bound.
+//! class A's bound. For what is to be said of a frame's way: each copy comes from a frame of the
+//! port's station or from what departed over another link of its node, what departed had arrived
+//! and took its own bits, no frame goes back, and what is handed on from port to port holds at each
+//! (`specs/Origins.antt`).
 //!
 //! To extend it: another reason to drop a copy is a variant of `Fate`, a test in `may_send` and
 //! `fate_of` of `specs/Flow.antt`, and a variant of `Verdict` with its arm in `fates`. Another way
