@@ -24,10 +24,12 @@ caps_of_link l = caps_of l.rate l.delta_a l.delta_b
 abbrev pub no_caps : Caps
 no_caps = record { class_a = 0; both = 0 }
 
--- the link of a port: a node's links are those of its ports, in order
+-- the link of a port: a node's links are those of its ports, in order. Ports count from 1; 0, which
+-- no node has, is read as 1
 abbrev pub link_at : Plan → EgressPort → Option LinkEntry
 link_at plan p = slice_get (links_of p.node.0 plan) (p.port.0 - 1)
 
--- what a port may give away, by the entry of its link; where there is no such link, nothing
+-- what a port may give away, by the entry of its link; where there is no such link, nothing. Port 0
+-- is read as port 1
 abbrev pub caps_at : Plan → EgressPort → Caps
 caps_at plan p = option_map_or caps_of_link (link_at plan p) no_caps

@@ -8,9 +8,10 @@ use srp_base::EgressPort;
 use stream_importance::Caps;
 use topology_file::{LinkEntry, Scenario};
 
-/// The link of a port of a scenario's network; None exactly where the network has no such port.
-/// What its entry leaves to class A isn't above what it leaves to both classes, and that is below
-/// its rate (IEEE Std 802.1Q-2018, 34.3).
+/// The link of a port of a scenario's network: that of the node's links, in the order of the file,
+/// which has the port's number. Ports count from 1; 0, which no node has, is read as 1. None
+/// exactly where the node has fewer links than that. What its entry leaves to class A isn't above
+/// what it leaves to both classes, and that is below its rate (IEEE Std 802.1Q-2018, 34.3).
 pub fn link_at(scenario: &Scenario, at: EgressPort) -> Option<LinkEntry>
     ensures link { result ≡ link_at scenario.now at }
     ensures caps { IfSome result (λ l. AreCaps l.rate (caps_of_link l).class_a (caps_of_link l).both) }
@@ -19,8 +20,9 @@ pub fn link_at(scenario: &Scenario, at: EgressPort) -> Option<LinkEntry>
     link_of_port(scenario, at)
 }
 
-/// The caps of a port: what its link's entry leaves to class A and to both classes (IEEE Std
-/// 802.1Q-2018, 34.3); none where the network has no such port.
+/// The caps of a port, in bit/s: what its link's entry leaves to class A and to both classes (IEEE
+/// Std 802.1Q-2018, 34.3). Ports count from 1; 0, which no node has, is read as 1. Where the node
+/// has fewer links than that, both caps are 0.
 pub fn caps_at(scenario: &Scenario, at: EgressPort) -> Caps
     ensures { result ≡ caps_at scenario.now at }
 {
@@ -33,14 +35,14 @@ pub fn caps_at(scenario: &Scenario, at: EgressPort) -> Caps
     }
 }
 
-// The link of a port, if there is one.
+// The link of a port, if there is one; port 0 is read as 1.
 fn link_of_port(scenario: &Scenario, at: EgressPort) -> Option<LinkEntry>
     ensures { result ≡ link_at scenario.now at }
 {
     link_of(scenario.links.as_slice(), at)
 }
 
-// The link of a port: a node's links count in the order of the file.
+// The link of a port: a node's links count from 1, in the order of the file; 0 is read as 1.
 fn link_of(links: &[LinkEntry], at: EgressPort) -> Option<LinkEntry>
     ensures { result ≡ slice_get (filter (is_link_of at.node.0) links.now) (at.port.0 - 1) }
 {

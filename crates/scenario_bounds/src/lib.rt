@@ -1,5 +1,6 @@
 //! Class B at each port of a scenario's flow: its bound, by the rate and the caps of the port's
-//! link, and its longest wait in the flow (IEEE Std 802.1Q-2018, 8.6.8.2, 34.3).
+//! link, and its longest wait in the flow (IEEE Std 802.1Q-2018, 8.6.8.2, 34.3); and what both
+//! classes get there.
 //!
 //! ```text
 //!   a link of the file: rate, delta_a, delta_b ---> caps of its two ports ---> class_b_bound::bound_b ------> wait
@@ -9,7 +10,8 @@
 //!
 //! - `caps`: `link_at`, the link of a port, and `caps_at`, what the port may give away.
 //! - `port`: `PortBound`, and `bound_of_port`.
-//! - `laws`: that class B stays within its bound at every port.
+//! - `laws`: that class B stays within its bound at every port, and that each class which has
+//!   something to send gets its bandwidth (`specs/PortService.antt`).
 //!
 //! A bound asks for caps that are below the rate, and for slopes that keep them. A scenario's links
 //! leave a tenth of their rate at least; that a port's caps are those of the link that its rate is
