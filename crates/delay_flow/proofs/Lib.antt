@@ -1,0 +1,10 @@
+pub mod Sums
+pub mod Arrivals
+pub mod Places
+pub mod Groups
+pub mod Ports
+pub mod Slopes
+pub mod Lines
+pub mod Waits
+pub mod WayLemmas
+pub mod SteadyLemmas

@@ -1,0 +1,10 @@
+pub mod Streams
+pub mod Places
+pub mod Rules
+pub mod Delays
+pub mod Ways
+pub use Streams.*
+pub use Places.*
+pub use Rules.*
+pub use Delays.*
+pub use Ways.*
