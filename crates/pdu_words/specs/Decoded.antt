@@ -1,7 +1,9 @@
 -- A capture of PDUs, line by line, to what each says, by the reading of its application's codec.
-use Rattle.std.specs.Prelude.{ℕ, ◌+◌, ◌/◌, length, if◌then◌else◌, List, [], ◌∷◌, ◌++◌, Result, Ok, Err}
+use Rattle.std.specs.Prelude.{ℕ, ◌+◌, ◌/◌, length, if◌then◌else◌, List, [], ◌∷◌, ◌++◌, codes, Result, Ok, Err}
+use Rattle.std.specs.Fmt.{decimal}
 use Rattle.hex.specs.Hex.{decode_sized}
 use Rattle.hex.specs.declared.error.FromHexError.{FromHexError}
+use Rattle.srp_base.specs.Text.{whole_of}
 use Rattle.mmrp_codec.specs.Meaning.{mmrp_reading}
 use Rattle.mmrp_codec.specs.declared.pdu.GroupPdu.{GroupPdu}
 use Rattle.mrpdu_codec.specs.declared.form.AppForm.{AppForm}
@@ -10,33 +12,37 @@ use Rattle.msrp_codec.specs.Meaning.{msrp_reading}
 use Rattle.msrp_codec.specs.declared.pdu.MsrpPdu.{MsrpPdu}
 use Rattle.mvrp_codec.specs.Meaning.{mvrp_reading}
 use Rattle.mvrp_codec.specs.declared.pdu.MvrpPdu.{MvrpPdu}
-use Rattle.pdu_words.specs.{Capture.lines_of, Capture.digits_of, Capture.is_passed_over, Events.vlan_lines, Events.stream_lines, Events.group_lines, Events.malformed_line, Events.no_octets_line}
+use Rattle.pdu_words.specs.{Capture.lines_of, Capture.digits_of, Capture.is_passed_over, Events.vlan_lines, Events.stream_lines, Events.group_lines, Events.malformed_text, Events.no_octets_text}
 
 -- what octets say of VIDs, or where they break
-abbrev pub vlans_said : ℕ → Result MvrpPdu ℕ → List ℕ
-vlans_said n (Ok pdu) = vlan_lines n pdu
-vlans_said n (Err place) = malformed_line n place
+abbrev pub vlans_said : Result MvrpPdu ℕ → List ℕ
+vlans_said (Ok pdu) = vlan_lines pdu
+vlans_said (Err place) = malformed_text place
 
 -- what octets say of streams and Domains, or where they break
-abbrev pub streams_said : ℕ → Result MsrpPdu ℕ → List ℕ
-streams_said n (Ok pdu) = stream_lines n pdu
-streams_said n (Err place) = malformed_line n place
+abbrev pub streams_said : Result MsrpPdu ℕ → List ℕ
+streams_said (Ok pdu) = stream_lines pdu
+streams_said (Err place) = malformed_text place
 
 -- what octets say of groups, or where they break
-abbrev pub groups_said : ℕ → Result GroupPdu ℕ → List ℕ
-groups_said n (Ok pdu) = group_lines n pdu
-groups_said n (Err place) = malformed_line n place
+abbrev pub groups_said : Result GroupPdu ℕ → List ℕ
+groups_said (Ok pdu) = group_lines pdu
+groups_said (Err place) = malformed_text place
 
 -- what octets say, as a PDU of this application
-abbrev pub octets_said : AppForm → ℕ → List ℕ → List ℕ
-octets_said Mvrp n octets = vlans_said n (mvrp_reading octets)
-octets_said Msrp n octets = streams_said n (msrp_reading octets)
-octets_said Mmrp n octets = groups_said n (mmrp_reading octets)
+abbrev pub octets_said : AppForm → List ℕ → List ℕ
+octets_said Mvrp octets = vlans_said (mvrp_reading octets)
+octets_said Msrp octets = streams_said (msrp_reading octets)
+octets_said Mmrp octets = groups_said (mmrp_reading octets)
+
+-- `line N`: where the PDU was found in a text
+abbrev pub line_front : ℕ → List ℕ
+line_front n = whole_of (codes "line " ∷ decimal n ∷ [])
 
 -- what the octets of some digits say, if they are two hexadecimal digits an octet
 abbrev pub digits_said : AppForm → ℕ → Result (List ℕ) FromHexError → List ℕ
-digits_said form n (Ok octets) = octets_said form n octets
-digits_said form n (Err e) = no_octets_line n
+digits_said form n (Ok octets) = line_front n ++ octets_said form octets
+digits_said form n (Err e) = line_front n ++ no_octets_text
 
 -- the octets that hexadecimal digits of either case spell, two digits an octet
 abbrev pub octets_of : List ℕ → Result (List ℕ) FromHexError

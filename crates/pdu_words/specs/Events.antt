@@ -7,6 +7,8 @@ use Rattle.srp_base.specs.declared.{bandwidth.Rank.Rank, bandwidth.Rank.TheVaria
 use Rattle.srp_base.specs.declared.mrp.MrpEvent.TheVariants.{New, JoinIn, OnlyIn, JoinMt, OnlyMt, Lv}
 use Rattle.srp_base.specs.declared.streams.ListenerKind.TheVariants.{AskingFailed, Ready, ReadyFailed}
 use Rattle.mmrp_codec.specs.declared.pdu.GroupPdu.{GroupPdu}
+use Rattle.mrpdu_codec.specs.declared.form.AppForm.{AppForm}
+use Rattle.mrpdu_codec.specs.declared.form.AppForm.TheVariants.{Mvrp, Msrp, Mmrp}
 use Rattle.msrp_codec.specs.declared.{pdu.MsrpContent.MsrpContent, pdu.MsrpKey.MsrpKey, pdu.MsrpPdu.MsrpPdu}
 use Rattle.msrp_codec.specs.declared.pdu.MsrpContent.TheVariants.{Advertise, Failed, Listener, Domain}
 use Rattle.msrp_codec.specs.declared.pdu.MsrpKey.TheVariants as keys
@@ -38,6 +40,12 @@ rank_digit Normal = codes "1"
 abbrev pub yes_or_no : Bool → List ℕ
 yes_or_no true = codes "yes"
 yes_or_no false = codes "no"
+
+-- an application by its name
+abbrev pub app_name : AppForm → List ℕ
+app_name Mvrp = codes "mvrp"
+app_name Msrp = codes "msrp"
+app_name Mmrp = codes "mmrp"
 
 -- ---- lines
 
@@ -88,29 +96,28 @@ content_text (Domain priority vid) = whole_of (
 abbrev pub declaration_line : MrpEvent × MsrpKey × MsrpContent → List ℕ
 declaration_line x = whole_of (event_name x.0 ∷ key_text x.1 ∷ content_text x.2 ∷ [])
 
--- ---- PDUs; each stands in a line of its own in the capture, which has this number
+-- ---- PDUs; in front of what each says stands where it was found
 
--- `line N leaveall yes` or `line N leaveall no`
-abbrev pub leaveall_line : ℕ → Bool → List ℕ
-leaveall_line n leave_all = whole_of (
-    codes "line " ∷ decimal n ∷ codes " leaveall " ∷ yes_or_no leave_all ∷ codes "\n" ∷ [])
+-- ` leaveall yes` or ` leaveall no`
+abbrev pub leaveall_text : Bool → List ℕ
+leaveall_text leave_all = whole_of (codes " leaveall " ∷ yes_or_no leave_all ∷ codes "\n" ∷ [])
 
--- `line N malformed P`, P being the offset in octets, from 0, at which it breaks
-abbrev pub malformed_line : ℕ → ℕ → List ℕ
-malformed_line n place = whole_of (codes "line " ∷ decimal n ∷ codes " malformed " ∷ decimal place ∷ codes "\n" ∷ [])
+-- ` malformed P`, P being the offset in octets, from 0, at which it breaks
+abbrev pub malformed_text : ℕ → List ℕ
+malformed_text place = whole_of (codes " malformed " ∷ decimal place ∷ codes "\n" ∷ [])
 
--- `line N no octets`: these aren't hexadecimal digits, two an octet
-abbrev pub no_octets_line : ℕ → List ℕ
-no_octets_line n = whole_of (codes "line " ∷ decimal n ∷ codes " no octets\n" ∷ [])
+-- ` no octets`: a text isn't octets in hexadecimal digits, two an octet
+abbrev pub no_octets_text : List ℕ
+no_octets_text = codes " no octets\n"
 
 -- what a PDU of MVRP says
-abbrev pub vlan_lines : ℕ → MvrpPdu → List ℕ
-vlan_lines n pdu = leaveall_line n pdu.leave_all ++ flat_map vid_line pdu.events
+abbrev pub vlan_lines : MvrpPdu → List ℕ
+vlan_lines pdu = leaveall_text pdu.leave_all ++ flat_map vid_line pdu.events
 
 -- what a PDU of MSRP says
-abbrev pub stream_lines : ℕ → MsrpPdu → List ℕ
-stream_lines n pdu = leaveall_line n pdu.leave_all ++ flat_map declaration_line pdu.events
+abbrev pub stream_lines : MsrpPdu → List ℕ
+stream_lines pdu = leaveall_text pdu.leave_all ++ flat_map declaration_line pdu.events
 
 -- what a PDU of MMRP says
-abbrev pub group_lines : ℕ → GroupPdu → List ℕ
-group_lines n pdu = leaveall_line n pdu.leave_all ++ flat_map mac_line pdu.events
+abbrev pub group_lines : GroupPdu → List ℕ
+group_lines pdu = leaveall_text pdu.leave_all ++ flat_map mac_line pdu.events

@@ -1,18 +1,25 @@
-//! MRPDUs in words: a capture of PDUs, a line of hexadecimal digits each, to what each says, one
-//! event a line.
+//! MRPDUs in words: a text of captured PDUs, or a capture file, to what each PDU says, one event a
+//! line.
 //!
 //! ```text
-//!   00:01:02:20:01:00:05:6c:00:00:00:00      -->  line 1 leaveall yes
-//!                                                 joinmt vid 5
-//!   # a remark, which says nothing as an empty line does
-//!   000102 0006 0001 d7                      -->  line 3 malformed 8
-//!   000102 0                                 -->  line 4 no octets
+//! decoded_text     00:01:02:20:01:00:05:6c:00:00:00:00      -->  line 1 leaveall yes
+//!                                                                joinmt vid 5
+//!                  # a remark, which says nothing as an empty line does
+//!                  000102 0006 0001 d7                      -->  line 3 malformed 8
+//!                  000102 0                                 -->  line 4 no octets
+//! captured_text    a file of pcap or pcapng                 -->  frame 1 at 1.000000000 020000000001 mvrp leaveall yes
+//!                                                                joinmt vid 5
+//!                                                                frame 2 at 1.200000000 020000000001 msrp cut 96 of 142
+//!                                                                frames 2 other 0
 //! ```
 //!
 //! Blanks, tabs, colons and a carriage return may stand between the digits (`specs/Capture`). What
 //! octets say is the reading of mvrp_codec, msrp_codec or mmrp_codec and nothing else
 //! (`specs/Decoded`): the laws of those crates join it with the grammar. `specs/Events` has each
-//! printed line once. `decoded_text` has the text of a whole capture as its contract.
+//! printed line once. `decoded_text` has what is said of a whole text as its contract, and
+//! `captured_text` that of a whole capture file, by the readings of capture_file and mrp_frames
+//! (`specs/Captured`): behind where a PDU was found both say the very same of it, as the law
+//! `a_frame_says_what_its_line_says` has it.
 //!
 //! A further application is a case of `octets_said` with its lines in `specs/Events` and its writer
 //! beside `vlans`, `streams` and `groups`; a further kind of attribute of MSRP is a case of
@@ -20,10 +27,14 @@
 #![tactic(auto)]
 
 mod capture;
+mod frames;
 mod groups;
+pub mod laws;
 mod streams;
 mod text;
 mod vlans;
 mod words;
 
+pub use frames::captured_text;
+pub use laws::a_frame_says_what_its_line_says;
 pub use text::decoded_text;

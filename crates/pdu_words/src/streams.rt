@@ -11,30 +11,25 @@ use srp_base::{Failure, ListenerKind, MrpEvent, NoMemory, Talker};
 use std::alloc::{AllocError, Global};
 use std::fmt::Write;
 
-/// What the octets of a line say as a PDU of MSRP, or where they break.
-pub(crate) fn write_octets(
-    alloc: Global,
-    out: &mut String,
-    number: u64,
-    octets: &[u8],
-) -> Result<(), NoMemory>
+/// What octets say as a PDU of MSRP, or where they break.
+pub(crate) fn write_octets(alloc: Global, out: &mut String, octets: &[u8]) -> Result<(), NoMemory>
     requires { length octets.now < 2 ^ 32 }
     ensures { OnOk result (string_bytes out.new
-        ≡ string_bytes out.old ++ streams_said number (msrp_reading octets.now)) }
+        ≡ string_bytes out.old ++ streams_said (msrp_reading octets.now)) }
 {
     match decode(alloc, octets) {
-        Ok(pdu) => Ok(write_pdu(out, number, &pdu)?),
-        Err(DecodeErr::Malformed(place)) => Ok(write_malformed(out, number, place)?),
+        Ok(pdu) => Ok(write_pdu(out, &pdu)?),
+        Err(DecodeErr::Malformed(place)) => Ok(write_malformed(out, place)?),
         Err(DecodeErr::NoMemory) => Err(NoMemory),
     }
 }
 
 // What a PDU says.
-fn write_pdu(out: &mut String, number: u64, pdu: &MsrpPdu) -> Result<(), AllocError>
+fn write_pdu(out: &mut String, pdu: &MsrpPdu) -> Result<(), AllocError>
     ensures { OnOk result (string_bytes out.new
-        ≡ string_bytes out.old ++ stream_lines number pdu.now) }
+        ≡ string_bytes out.old ++ stream_lines pdu.now) }
 {
-    write_leaveall(out, number, pdu.leave_all)?;
+    write_leaveall(out, pdu.leave_all)?;
     write_events(out, pdu.events.as_slice())
 }
 

@@ -9,6 +9,7 @@ use crate::{groups, streams, vlans};
 use mrpdu_codec::AppForm;
 use srp_base::NoMemory;
 use std::alloc::Global;
+use std::fmt::Write;
 
 /// What a capture of PDUs of an application says: of each line, in order, whether its PDU has a
 /// LeaveAll and then its events in the order of the octets, a line each; or the offset in octets,
@@ -61,28 +62,28 @@ fn write_digits(
     ensures { OnOk result (string_bytes out.new
         ≡ string_bytes out.old ++ digits_said form number (octets_of digits.now)) }
 {
+    write!(out, "line {number}")?;
     let mut octets = vec![in alloc; 0; digits.len() / 2]?;
     match hex::decode_to_slice(digits, &mut octets) {
-        Ok(()) => write_octets(alloc, out, form, number, octets.as_slice()),
-        Err(_) => Ok(write_no_octets(out, number)?),
+        Ok(()) => write_octets(alloc, out, form, octets.as_slice()),
+        Err(_) => Ok(write_no_octets(out)?),
     }
 }
 
-// What octets say as a PDU of an application.
-fn write_octets(
+/// What octets say as a PDU of an application.
+pub(crate) fn write_octets(
     alloc: Global,
     out: &mut String,
     form: AppForm,
-    number: u64,
     octets: &[u8],
 ) -> Result<(), NoMemory>
     requires { length octets.now < 2 ^ 32 }
     ensures { OnOk result (string_bytes out.new
-        ≡ string_bytes out.old ++ octets_said form number octets.now) }
+        ≡ string_bytes out.old ++ octets_said form octets.now) }
 {
     match form {
-        AppForm::Mvrp => vlans::write_octets(alloc, out, number, octets),
-        AppForm::Msrp => streams::write_octets(alloc, out, number, octets),
-        AppForm::Mmrp => groups::write_octets(alloc, out, number, octets),
+        AppForm::Mvrp => vlans::write_octets(alloc, out, octets),
+        AppForm::Msrp => streams::write_octets(alloc, out, octets),
+        AppForm::Mmrp => groups::write_octets(alloc, out, octets),
     }
 }

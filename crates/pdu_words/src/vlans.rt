@@ -11,30 +11,24 @@ use srp_base::{MrpEvent, NoMemory, Vid};
 use std::alloc::{AllocError, Global};
 use std::fmt::Write;
 
-/// What the octets of a line say as a PDU of MVRP, or where they break.
-pub(crate) fn write_octets(
-    alloc: Global,
-    out: &mut String,
-    number: u64,
-    octets: &[u8],
-) -> Result<(), NoMemory>
+/// What octets say as a PDU of MVRP, or where they break.
+pub(crate) fn write_octets(alloc: Global, out: &mut String, octets: &[u8]) -> Result<(), NoMemory>
     requires { length octets.now < 2 ^ 32 }
     ensures { OnOk result (string_bytes out.new
-        ≡ string_bytes out.old ++ vlans_said number (mvrp_reading octets.now)) }
+        ≡ string_bytes out.old ++ vlans_said (mvrp_reading octets.now)) }
 {
     match decode(alloc, octets) {
-        Ok(pdu) => Ok(write_pdu(out, number, &pdu)?),
-        Err(DecodeErr::Malformed(place)) => Ok(write_malformed(out, number, place)?),
+        Ok(pdu) => Ok(write_pdu(out, &pdu)?),
+        Err(DecodeErr::Malformed(place)) => Ok(write_malformed(out, place)?),
         Err(DecodeErr::NoMemory) => Err(NoMemory),
     }
 }
 
 // What a PDU says.
-fn write_pdu(out: &mut String, number: u64, pdu: &MvrpPdu) -> Result<(), AllocError>
-    ensures { OnOk result
-        (string_bytes out.new ≡ string_bytes out.old ++ vlan_lines number pdu.now) }
+fn write_pdu(out: &mut String, pdu: &MvrpPdu) -> Result<(), AllocError>
+    ensures { OnOk result (string_bytes out.new ≡ string_bytes out.old ++ vlan_lines pdu.now) }
 {
-    write_leaveall(out, number, pdu.leave_all)?;
+    write_leaveall(out, pdu.leave_all)?;
     write_events(out, pdu.events.as_slice())
 }
 

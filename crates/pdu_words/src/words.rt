@@ -1,8 +1,9 @@
 //! The words of the lines.
 
 ghost use Rattle.std.specs.Prelude.{◌≡◌, ◌++◌, OnOk, string_bytes};
-ghost use Rattle.pdu_words.specs.Events.{event_name as event_name_spec, kind_name as kind_name_spec, rank_digit as rank_digit_spec, yes_or_no as yes_or_no_spec, leaveall_line, malformed_line, no_octets_line};
+ghost use Rattle.pdu_words.specs.Events.{event_name as event_name_spec, kind_name as kind_name_spec, rank_digit as rank_digit_spec, yes_or_no as yes_or_no_spec, app_name as app_name_spec, leaveall_text, malformed_text, no_octets_text};
 
+use mrpdu_codec::AppForm;
 use srp_base::{ListenerKind, MrpEvent, Rank};
 use std::alloc::AllocError;
 use std::fmt::Write;
@@ -49,30 +50,35 @@ fn yes_or_no(answer: bool) -> &'static str
     if answer { "yes" } else { "no" }
 }
 
-/// The first line of a PDU that can be read.
-pub(crate) fn write_leaveall(
-    out: &mut String,
-    number: u64,
-    leave_all: bool,
-) -> Result<(), AllocError>
-    ensures { OnOk result (string_bytes out.new
-        ≡ string_bytes out.old ++ leaveall_line number leave_all) }
+/// What a PDU that can be read says first.
+pub(crate) fn write_leaveall(out: &mut String, leave_all: bool) -> Result<(), AllocError>
+    ensures { OnOk result (string_bytes out.new ≡ string_bytes out.old ++ leaveall_text leave_all) }
 {
     let word = yes_or_no(leave_all);
-    writeln!(out, "line {number} leaveall {word}")
+    writeln!(out, " leaveall {word}")
 }
 
-/// The line of a PDU that breaks at an offset.
-pub(crate) fn write_malformed(out: &mut String, number: u64, place: u32) -> Result<(), AllocError>
-    ensures { OnOk result (string_bytes out.new
-        ≡ string_bytes out.old ++ malformed_line number place) }
+/// What is said of a PDU that breaks at an offset.
+pub(crate) fn write_malformed(out: &mut String, place: u32) -> Result<(), AllocError>
+    ensures { OnOk result (string_bytes out.new ≡ string_bytes out.old ++ malformed_text place) }
 {
-    writeln!(out, "line {number} malformed {place}")
+    writeln!(out, " malformed {place}")
 }
 
-/// The line of digits that are no octets.
-pub(crate) fn write_no_octets(out: &mut String, number: u64) -> Result<(), AllocError>
-    ensures { OnOk result (string_bytes out.new ≡ string_bytes out.old ++ no_octets_line number) }
+/// What is said of a text that has no octets.
+pub(crate) fn write_no_octets(out: &mut String) -> Result<(), AllocError>
+    ensures { OnOk result (string_bytes out.new ≡ string_bytes out.old ++ no_octets_text) }
 {
-    writeln!(out, "line {number} no octets")
+    out.push_str(" no octets\n")
+}
+
+/// An application by its name.
+pub(crate) fn app_name(app: AppForm) -> &'static str
+    ensures { result.now ≡ app_name_spec app }
+{
+    match app {
+        AppForm::Mvrp => "mvrp",
+        AppForm::Msrp => "msrp",
+        AppForm::Mmrp => "mmrp",
+    }
 }

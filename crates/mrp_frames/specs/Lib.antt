@@ -1,0 +1,8 @@
+pub mod Heads
+pub mod Frames
+pub mod Grammar
+unfoldable pub use Heads.*
+unfoldable pub use Frames.*
+pub use Grammar.*
+pub use Rattle.mrpdu_codec.specs.declared.form.AppForm.{AppForm}
+pub use Rattle.mrp_frames.specs.declared.frame.MrpFrame.{MrpFrame}
