@@ -1,12 +1,13 @@
 //! The form of a journal's lines, which tells neither what happens nor when.
 
-ghost use Rattle.std.specs.Prelude.{◌≡◌, ◌∷◌, ◌++◌, ◌<◌, ◌≤◌, ◌-◌, ◌^◌, ◌↔◌, ℕ, codes, IfSome, IfNone, IsTrue};
-ghost use Rattle.std.specs.{List.AllByRecursion, Fmt.decimal};
+ghost use Rattle.std.specs.Prelude.{◌≡◌, ◌∷◌, ◌++◌, ◌<◌, ◌≤◌, ◌-◌, ◌↔◌, ℕ, codes, IfSome, IfNone, IsTrue};
+ghost use Rattle.std.specs.List.{AllByRecursion};
 ghost use Rattle.journal_audit.specs.Texts.{lines_of};
 ghost use Rattle.journal_audit.specs.Form.{IsDigit, IsLed, IsNumber, IsNumberText, IsCountText, IsReplyText, IsMadeText, IsEntryText, IsHappeningText, IsFormed, AreFormed, IsFirstUnformed, IsWordThen, IsNumeralOf, IsEntryBefore};
 
 use crate::texts::{before, behind_word, first_line};
 use itoa::Buffer;
+use report_words::number_of_word;
 use srp_base::Seq;
 
 /// What a scenario's journal may name: how many ticks and events there are, and the names of the
@@ -112,7 +113,7 @@ fn is_at(port: &[u8], text: &[u8]) -> bool
 fn is_entry(events: u32, digits: &[u8]) -> bool
     ensures { IsTrue result ↔ IsNumeralOf events digits.now }
 {
-    match number_of(digits) {
+    match number_of_word(digits) {
         Some(number) => 1 <= number && number <= events,
         None => false,
     }
@@ -204,32 +205,4 @@ pub(crate) fn first_unformed(known: &Known, text: &[u8]) -> Option<u64>
         line += 1;
     }
     None
-}
-
-// The number that these digits are in decimal, without a sign and without a leading zero.
-fn number_of(digits: &[u8]) -> Option<u32>
-    ensures some { IfSome result (λ n. digits.now ≡ decimal n) }
-    ensures none { IfNone result ((n : ℕ) → n < 2 ^ 32 → digits.now ≡ decimal n → ⊥) }
-{
-    match str::from_utf8(digits) {
-        Ok(text) => number_of_text(text),
-        Err(_) => None,
-    }
-}
-
-// The number that a text writes: the one that is read of it, where the text is what is written of
-// that number.
-fn number_of_text(text: &str) -> Option<u32>
-    ensures some { IfSome result (λ n. text.now ≡ decimal n) }
-    ensures none { IfNone result ((n : ℕ) → n < 2 ^ 32 → text.now ≡ decimal n → ⊥) }
-{
-    let Ok(number) = text.parse::<u32>() else {
-        return None;
-    };
-    let mut digits = Buffer::new();
-    if text == digits.format(number) {
-        Some(number)
-    } else {
-        None
-    }
 }

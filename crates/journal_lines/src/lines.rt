@@ -7,13 +7,12 @@ ghost use Rattle.journal_lines.specs.Lines.{app_name as app_name_spec, step_name
 
 use node_core::{NodeStep, PortStep, StepReply};
 use report_words::{put, put_number, put_port_name};
-use srp_base::{App, EgressPort, NodeNo};
-use std::alloc::AllocError;
+use srp_base::{App, EgressPort, NoMemory, NodeNo};
 use topology_file::Scenario;
 
 /// Puts down the line of a scripted event: its tick, the number of its entry, and `missed` or
 /// `done`.
-pub fn put_event(out: &mut Vec<u8>, t: u64, entry: u32, missed: bool) -> Result<(), AllocError>
+pub fn put_event(out: &mut Vec<u8>, t: u64, entry: u32, missed: bool) -> Result<(), NoMemory>
     ensures { OnOk result (out.new.items ≡ out.old.items ++ event_line t entry missed) }
 {
     let alloc = *out.allocator();
@@ -36,7 +35,7 @@ pub fn put_step(
     t: u64,
     node: NodeNo,
     made: &NodeStep,
-) -> Result<(), AllocError>
+) -> Result<(), NoMemory>
     ensures { OnOk result (out.new.items
         ≡ out.old.items ++ line_at scenario.now t node made.now) }
 {
@@ -54,7 +53,7 @@ pub fn put_place(
     scenario: &Scenario,
     t: u64,
     at: EgressPort,
-) -> Result<(), AllocError>
+) -> Result<(), NoMemory>
     ensures { OnOk result (out.new.items
         ≡ out.old.items ++ place_text t (port_name scenario.now.nodes scenario.now.tree.links at)) }
 {
@@ -65,7 +64,7 @@ pub fn put_place(
 }
 
 // A step and its answer.
-fn put_made(out: &mut Vec<u8>, made: &NodeStep) -> Result<(), AllocError>
+fn put_made(out: &mut Vec<u8>, made: &NodeStep) -> Result<(), NoMemory>
     ensures { OnOk result (out.new.items ≡ out.old.items ++ made_text made.now) }
 {
     put_step_name(out, made.step)?;
@@ -75,7 +74,7 @@ fn put_made(out: &mut Vec<u8>, made: &NodeStep) -> Result<(), AllocError>
 }
 
 // What a step does, in words.
-fn put_step_name(out: &mut Vec<u8>, step: PortStep) -> Result<(), AllocError>
+fn put_step_name(out: &mut Vec<u8>, step: PortStep) -> Result<(), NoMemory>
     ensures { OnOk result (out.new.items ≡ out.old.items ++ step_name step) }
 {
     match step {
@@ -90,7 +89,7 @@ fn put_step_name(out: &mut Vec<u8>, step: PortStep) -> Result<(), AllocError>
 }
 
 // A word with the name of an application.
-fn put_with_app(out: &mut Vec<u8>, word: &str, app: App) -> Result<(), AllocError>
+fn put_with_app(out: &mut Vec<u8>, word: &str, app: App) -> Result<(), NoMemory>
     ensures { OnOk result (out.new.items ≡ out.old.items ++ word.now ++ app_name_spec app) }
 {
     put(out, word)?;
@@ -108,7 +107,7 @@ fn app_name(app: App) -> &'static str
 }
 
 // What a step answers, in words.
-fn put_reply(out: &mut Vec<u8>, reply: StepReply) -> Result<(), AllocError>
+fn put_reply(out: &mut Vec<u8>, reply: StepReply) -> Result<(), NoMemory>
     ensures { OnOk result (out.new.items ≡ out.old.items ++ reply_name reply) }
 {
     match reply {
@@ -124,7 +123,7 @@ fn put_reply(out: &mut Vec<u8>, reply: StepReply) -> Result<(), AllocError>
 }
 
 // A word with a number.
-fn put_with_number(out: &mut Vec<u8>, word: &str, number: u32) -> Result<(), AllocError>
+fn put_with_number(out: &mut Vec<u8>, word: &str, number: u32) -> Result<(), NoMemory>
     ensures { OnOk result (out.new.items ≡ out.old.items ++ word.now ++ decimal number) }
 {
     put(out, word)?;

@@ -1,3 +1,4 @@
 pub mod PeerLemmas
 pub mod LinkPorts
 pub mod Counting
+pub mod NumberWords

@@ -1,8 +1,10 @@
 pub mod Words
+pub mod Number
 pub mod Names
 pub mod Tally
 pub mod Lines
 pub use Words.*
+pub use Number.*
 pub use Names.*
 pub use Tally.*
 pub use Lines.*

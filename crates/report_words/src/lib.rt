@@ -11,7 +11,8 @@
 //!
 //! Each word and line is a definition (a file of `specs/` of that name) and a function that puts it
 //! at the end of a text, whose contract says that the text is the one before with the word behind
-//! it. After want of memory the text may have a part of it.
+//! it. After want of memory the text may have a part of it. `Number` goes the other way: the number
+//! that a word of a command line or of a journal writes.
 //!
 //! The crate knows a network by its tree and the names of its nodes alone: what runs there, what a
 //! port answers, and which of its answers say that a PDU was sent or discarded, is known by the
@@ -26,6 +27,7 @@
 
 mod lines;
 mod names;
+mod number;
 mod ports;
 mod tally;
 mod text;
@@ -33,7 +35,8 @@ mod words;
 
 pub use lines::{put_end, put_tally, put_ticks};
 pub use names::{node_name, port_name, put_port_name};
+pub use number::number_of_word;
 pub use ports::ports_of_links;
 pub use tally::Tally;
-pub use text::{put, put_number};
+pub use text::{put, put_number, put_octets};
 pub use words::{class_name, state_name, yes_or_no};

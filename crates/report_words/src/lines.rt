@@ -4,12 +4,12 @@ ghost use Rattle.std.specs.Prelude.{◌≡◌, ◌++◌, OnOk};
 ghost use Rattle.report_words.specs.Lines.{end_lines, port_line, ticks_line};
 
 use crate::tally::Tally;
-use crate::text::{put, put_number};
+use crate::text::{put, put_number, put_octets};
 use crate::words::yes_or_no;
-use std::alloc::AllocError;
+use srp_base::NoMemory;
 
 /// Puts down the line of a run's length, in ticks of 1 cs.
-pub fn put_ticks(out: &mut Vec<u8>, ticks: u64) -> Result<(), AllocError>
+pub fn put_ticks(out: &mut Vec<u8>, ticks: u64) -> Result<(), NoMemory>
     ensures { OnOk result (out.new.items ≡ out.old.items ++ ticks_line ticks) }
 {
     put(out, "ticks ")?;
@@ -18,7 +18,7 @@ pub fn put_ticks(out: &mut Vec<u8>, ticks: u64) -> Result<(), AllocError>
 }
 
 /// Puts down the line of what a port of this name sent and discarded.
-pub fn put_tally(out: &mut Vec<u8>, port: &[u8], tally: Tally) -> Result<(), AllocError>
+pub fn put_tally(out: &mut Vec<u8>, port: &[u8], tally: Tally) -> Result<(), NoMemory>
     ensures { OnOk result (out.new.items ≡ out.old.items ++ port_line port.now tally) }
 {
     let alloc = *out.allocator();
@@ -29,12 +29,12 @@ pub fn put_tally(out: &mut Vec<u8>, port: &[u8], tally: Tally) -> Result<(), All
     } = tally;
     let counts = format!(in alloc; " sent {sent} octets {octets} discarded {discarded}\n")?;
     put(out, "port ")?;
-    out.extend_from_slice(port)?;
+    put_octets(out, port)?;
     put(out, &counts)
 }
 
 /// Puts down the lines at the end of a report: whether the network is quiet and in step.
-pub fn put_end(out: &mut Vec<u8>, quiet: bool, in_step: bool) -> Result<(), AllocError>
+pub fn put_end(out: &mut Vec<u8>, quiet: bool, in_step: bool) -> Result<(), NoMemory>
     ensures { OnOk result (out.new.items ≡ out.old.items ++ end_lines quiet in_step) }
 {
     put(out, "quiet ")?;

@@ -4,8 +4,9 @@ ghost use Rattle.std.specs.Prelude.{◌≡◌, ◌++◌, ◌↔◌, IfOk, OnOk, 
 ghost use Rattle.tree_topology.specs.{Topology.HasPort, Ports.peer_of};
 ghost use Rattle.report_words.specs.Names.{name_of, port_name as port_name_spec};
 
-use srp_base::{EgressPort, NodeNo, PortNo};
-use std::alloc::{AllocError, Global};
+use crate::text::{put, put_octets};
+use srp_base::{EgressPort, NoMemory, NodeNo, PortNo};
+use std::alloc::Global;
 use topology_file::NodeEntry;
 use tree_topology::Tree;
 
@@ -15,7 +16,7 @@ pub fn port_name(
     nodes: &[NodeEntry],
     tree: &Tree,
     at: EgressPort,
-) -> Result<Vec<u8>, AllocError>
+) -> Result<Vec<u8>, NoMemory>
     ensures { IfOk result (λ v. v.items ≡ port_name_spec nodes.now tree.now.links at) }
 {
     let mut name = Vec::new(alloc);
@@ -29,13 +30,13 @@ pub fn put_port_name(
     nodes: &[NodeEntry],
     tree: &Tree,
     at: EgressPort,
-) -> Result<(), AllocError>
+) -> Result<(), NoMemory>
     ensures { OnOk result (out.new.items
         ≡ out.old.items ++ port_name_spec nodes.now tree.now.links at) }
 {
-    out.extend_from_slice(node_name(nodes, at.node))?;
-    out.push(b'>')?;
-    out.extend_from_slice(node_name(nodes, peer_node(tree, at)))
+    put_octets(out, node_name(nodes, at.node))?;
+    put(out, ">")?;
+    put_octets(out, node_name(nodes, peer_node(tree, at)))
 }
 
 // The node of a port's peer. A port that the tree hasn't has node 0, and port 0 of a node has that

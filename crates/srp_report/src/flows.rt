@@ -8,9 +8,9 @@ ghost use Rattle.srp_report.specs.Fates.{fate_counts, line_start as line_start_s
 
 use crate::departures::{FateCounts, Outcomes, SentFrame};
 use frame_flow::{FlowResult, PortFlow};
-use report_words::{port_name, put, put_number};
+use report_words::{port_name, put, put_number, put_octets};
 use srp_base::NoMemory;
-use std::alloc::{AllocError, Global};
+use std::alloc::Global;
 use topology_file::Scenario;
 use tree_topology::Tree;
 
@@ -73,8 +73,7 @@ pub(crate) fn put_fates(out: &mut Vec<u8>, port: &[u8], flow: &PortFlow) -> Resu
     let Outcomes { counts, sent } = Outcomes::of(alloc, flow)?;
     reserve_lines(out, sent.len());
     put_counts(out, port, counts)?;
-    put_departures(out, port, sent.as_slice())?;
-    Ok(())
+    put_departures(out, port, sent.as_slice())
 }
 
 // Takes the memory for the lines of so many departures at once, where it is there: a text that
@@ -89,7 +88,7 @@ fn reserve_lines(out: &mut Vec<u8>, count: usize)
 }
 
 // The line of how many copies came to which fate.
-fn put_counts(out: &mut Vec<u8>, port: &[u8], counts: FateCounts) -> Result<(), AllocError>
+fn put_counts(out: &mut Vec<u8>, port: &[u8], counts: FateCounts) -> Result<(), NoMemory>
     ensures { (fates : List (ℕ × Fate)) → counts ≡ fate_counts fates
         → OnOk result (out.new.items ≡ out.old.items ++ frames_line port.now fates) }
 {
@@ -104,12 +103,12 @@ fn put_counts(out: &mut Vec<u8>, port: &[u8], counts: FateCounts) -> Result<(), 
         " departed {departed} unbooked {unbooked} novlan {novlan} left {left}\n"
     )?;
     put(out, "frames ")?;
-    out.extend_from_slice(port)?;
+    put_octets(out, port)?;
     put(out, &text)
 }
 
 // The lines of the copies that depart.
-fn put_departures(out: &mut Vec<u8>, port: &[u8], sent: &[SentFrame]) -> Result<(), AllocError>
+fn put_departures(out: &mut Vec<u8>, port: &[u8], sent: &[SentFrame]) -> Result<(), NoMemory>
     ensures { OnOk result (out.new.items
         ≡ out.old.items ++ flat_map (depart_line port.now) sent.now) }
 {
@@ -119,18 +118,18 @@ fn put_departures(out: &mut Vec<u8>, port: &[u8], sent: &[SentFrame]) -> Result<
 }
 
 // How the line of a departure from a port begins.
-fn line_start(alloc: Global, port: &[u8]) -> Result<Vec<u8>, AllocError>
+fn line_start(alloc: Global, port: &[u8]) -> Result<Vec<u8>, NoMemory>
     ensures { IfOk result (λ v. v.items ≡ line_start_spec port.now) }
 {
     let mut start = Vec::new(alloc);
     put(&mut start, "depart ")?;
-    start.extend_from_slice(port)?;
+    put_octets(&mut start, port)?;
     put(&mut start, " frame ")?;
     Ok(start)
 }
 
 // The lines of the copies that depart, each beginning so.
-fn put_lines(out: &mut Vec<u8>, start: &[u8], sent: &[SentFrame]) -> Result<(), AllocError>
+fn put_lines(out: &mut Vec<u8>, start: &[u8], sent: &[SentFrame]) -> Result<(), NoMemory>
     ensures { OnOk result (out.new.items
         ≡ out.old.items ++ flat_map (line_from start.now) sent.now) }
 {
@@ -141,15 +140,15 @@ fn put_lines(out: &mut Vec<u8>, start: &[u8], sent: &[SentFrame]) -> Result<(), 
 }
 
 // The line of a copy that departs.
-fn put_line(out: &mut Vec<u8>, start: &[u8], d: SentFrame) -> Result<(), AllocError>
+fn put_line(out: &mut Vec<u8>, start: &[u8], d: SentFrame) -> Result<(), NoMemory>
     ensures { OnOk result (out.new.items ≡ out.old.items ++ line_from start.now d) }
 {
-    out.extend_from_slice(start)?;
+    put_octets(out, start)?;
     put_times(out, d)
 }
 
 // A copy's frame, and from when to when it departs.
-fn put_times(out: &mut Vec<u8>, d: SentFrame) -> Result<(), AllocError>
+fn put_times(out: &mut Vec<u8>, d: SentFrame) -> Result<(), NoMemory>
     ensures { OnOk result (out.new.items ≡ out.old.items ++ decimal d.frame
         ++ codes " start " ++ decimal d.start ++ codes " end " ++ decimal d.end ++ codes "\n") }
 {
@@ -160,7 +159,7 @@ fn put_times(out: &mut Vec<u8>, d: SentFrame) -> Result<(), AllocError>
 }
 
 // A number behind its label.
-fn put_labelled(out: &mut Vec<u8>, label: &str, number: u64) -> Result<(), AllocError>
+fn put_labelled(out: &mut Vec<u8>, label: &str, number: u64) -> Result<(), NoMemory>
     ensures { OnOk result (out.new.items ≡ out.old.items ++ label.now ++ decimal number) }
 {
     put(out, label)?;

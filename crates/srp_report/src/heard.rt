@@ -6,8 +6,7 @@ ghost use Rattle.srp_report.specs.Report.{stream_heard, node_heard, nodes_heard}
 use crate::lines::put_heard;
 use node_core::Node;
 use report_words::node_name;
-use srp_base::NodeNo;
-use std::alloc::AllocError;
+use srp_base::{NoMemory, NodeNo};
 use topology_file::{Scenario, StreamEntry};
 use tree_topology::NodeKind;
 use world_core::World;
@@ -17,7 +16,7 @@ pub(crate) fn put_nodes(
     out: &mut Vec<u8>,
     scenario: &Scenario,
     world: &World,
-) -> Result<(), AllocError>
+) -> Result<(), NoMemory>
     ensures { OnOk result (out.new.items
         ≡ out.old.items ++ nodes_heard scenario.now 1 world.now.nodes) }
 {
@@ -35,7 +34,7 @@ fn put_node(
     scenario: &Scenario,
     number: NodeNo,
     node: &Node,
-) -> Result<(), AllocError>
+) -> Result<(), NoMemory>
     ensures { OnOk result (out.new.items
         ≡ out.old.items ++ node_heard scenario.now number node.now.state) }
 {
@@ -52,7 +51,7 @@ fn put_streams(
     name: &[u8],
     node: &Node,
     streams: &[StreamEntry],
-) -> Result<(), AllocError>
+) -> Result<(), NoMemory>
     ensures { OnOk result (out.new.items
         ≡ out.old.items ++ flat_map (stream_heard name.now node.now.state) streams.now) }
 {
@@ -68,7 +67,7 @@ fn put_stream(
     name: &[u8],
     node: &Node,
     entry: &StreamEntry,
-) -> Result<(), AllocError>
+) -> Result<(), NoMemory>
     ensures { OnOk result (out.new.items
         ≡ out.old.items ++ stream_heard name.now node.now.state entry.now) }
 {

@@ -8,7 +8,7 @@ use journal_lines::{put_event, put_step};
 use node_core::NodeStep;
 use report_words::put;
 use srp_base::{NoMemory, NodeNo};
-use std::alloc::{AllocError, Global};
+use std::alloc::Global;
 use topology_file::Scenario;
 use world_core::{Journal, NodeSteps, Tick, WorldReply};
 
@@ -29,7 +29,7 @@ pub fn journal_text(
 }
 
 // The lines of all ticks.
-fn put_ticks(out: &mut Vec<u8>, scenario: &Scenario, ticks: &[Tick]) -> Result<(), AllocError>
+fn put_ticks(out: &mut Vec<u8>, scenario: &Scenario, ticks: &[Tick]) -> Result<(), NoMemory>
     ensures { OnOk result (out.new.items
         ≡ out.old.items ++ ticks_lines scenario.now 0 ticks.now) }
 {
@@ -40,7 +40,7 @@ fn put_ticks(out: &mut Vec<u8>, scenario: &Scenario, ticks: &[Tick]) -> Result<(
 }
 
 // The lines of a tick.
-fn put_tick(out: &mut Vec<u8>, scenario: &Scenario, t: u64, tick: &Tick) -> Result<(), AllocError>
+fn put_tick(out: &mut Vec<u8>, scenario: &Scenario, t: u64, tick: &Tick) -> Result<(), NoMemory>
     ensures { OnOk result (out.new.items ≡ out.old.items ++ tick_lines scenario.now t tick.now) }
 {
     put_events(out, t, tick.events.as_slice())?;
@@ -48,7 +48,7 @@ fn put_tick(out: &mut Vec<u8>, scenario: &Scenario, t: u64, tick: &Tick) -> Resu
 }
 
 // The lines of a tick's events.
-fn put_events(out: &mut Vec<u8>, t: u64, events: &[(u32, WorldReply)]) -> Result<(), AllocError>
+fn put_events(out: &mut Vec<u8>, t: u64, events: &[(u32, WorldReply)]) -> Result<(), NoMemory>
     ensures { OnOk result (out.new.items
         ≡ out.old.items ++ flat_map (answer_line t) events.now) }
 {
@@ -59,7 +59,7 @@ fn put_events(out: &mut Vec<u8>, t: u64, events: &[(u32, WorldReply)]) -> Result
 }
 
 // The line of an event with its answer.
-fn put_answer(out: &mut Vec<u8>, t: u64, event: (u32, WorldReply)) -> Result<(), AllocError>
+fn put_answer(out: &mut Vec<u8>, t: u64, event: (u32, WorldReply)) -> Result<(), NoMemory>
     ensures { OnOk result (out.new.items ≡ out.old.items ++ answer_line t event) }
 {
     let (entry, reply) = event;
@@ -73,7 +73,7 @@ fn put_nodes(
     scenario: &Scenario,
     t: u64,
     nodes: &[NodeSteps],
-) -> Result<(), AllocError>
+) -> Result<(), NoMemory>
     ensures { OnOk result (out.new.items
         ≡ out.old.items ++ flat_map (step_lines scenario.now t) nodes.now) }
 {
@@ -90,7 +90,7 @@ fn put_steps(
     t: u64,
     node: NodeNo,
     steps: &[NodeStep],
-) -> Result<(), AllocError>
+) -> Result<(), NoMemory>
     ensures { OnOk result (out.new.items
         ≡ out.old.items ++ flat_map (line_at scenario.now t node) steps.now) }
 {

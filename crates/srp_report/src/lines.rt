@@ -5,9 +5,8 @@ ghost use Rattle.srp_report.specs.Lines.{vlan_line, talker_start, failure_text, 
 
 use msrp_codec::{MsrpContent, MsrpKey};
 use registrar::Registrar;
-use report_words::{class_name, put, state_name};
-use srp_base::{Cs, Failure, ListenerKind, StreamId, Talker, Vid};
-use std::alloc::AllocError;
+use report_words::{class_name, put, put_octets, state_name};
+use srp_base::{Cs, Failure, ListenerKind, NoMemory, StreamId, Talker, Vid};
 use stream_importance::{Entry, Want};
 
 /// The line of a VID that is registered at a port.
@@ -16,7 +15,7 @@ pub(crate) fn put_vlan(
     port: &[u8],
     vid: Vid,
     state: Registrar,
-) -> Result<(), AllocError>
+) -> Result<(), NoMemory>
     ensures { OnOk result (out.new.items ≡ out.old.items ++ vlan_line port.now vid state) }
 {
     let alloc = *out.allocator();
@@ -24,7 +23,7 @@ pub(crate) fn put_vlan(
     let name = state_name(state);
     let registered = format!(in alloc; " {number} {name}\n")?;
     put(out, "vlan ")?;
-    out.extend_from_slice(port)?;
+    put_octets(out, port)?;
     put(out, &registered)
 }
 
@@ -37,7 +36,7 @@ pub(crate) fn put_srp(
     key: MsrpKey,
     content: Option<MsrpContent>,
     state: Registrar,
-) -> Result<(), AllocError>
+) -> Result<(), NoMemory>
     ensures { OnOk result (out.new.items ≡ out.old.items
         ++ srp_line domains port.now key content state) }
 {
@@ -61,7 +60,7 @@ fn put_talker(
     stream: StreamId,
     content: Option<MsrpContent>,
     state: Registrar,
-) -> Result<(), AllocError>
+) -> Result<(), NoMemory>
     ensures { OnOk result (out.new.items
         ≡ out.old.items ++ talker_line port.now stream content state) }
 {
@@ -81,7 +80,7 @@ fn put_advertised(
     stream: StreamId,
     talker: Talker,
     state: Registrar,
-) -> Result<(), AllocError>
+) -> Result<(), NoMemory>
     ensures { OnOk result (out.new.items
         ≡ out.old.items ++ talker_line port.now stream (Some (MsrpContent.Advertise talker))
         state) }
@@ -99,7 +98,7 @@ fn put_failed(
     talker: Talker,
     failure: Failure,
     state: Registrar,
-) -> Result<(), AllocError>
+) -> Result<(), NoMemory>
     ensures { OnOk result (out.new.items ≡ out.old.items
         ++ talker_line port.now stream (Some (MsrpContent.Failed talker failure)) state) }
 {
@@ -109,18 +108,18 @@ fn put_failed(
 }
 
 // The port and the stream of a Talker.
-fn put_talker_start(out: &mut Vec<u8>, port: &[u8], stream: StreamId) -> Result<(), AllocError>
+fn put_talker_start(out: &mut Vec<u8>, port: &[u8], stream: StreamId) -> Result<(), NoMemory>
     ensures { OnOk result (out.new.items ≡ out.old.items ++ talker_start port.now stream) }
 {
     let alloc = *out.allocator();
     let id = format!(in alloc; " {stream}")?;
     put(out, "talker ")?;
-    out.extend_from_slice(port)?;
+    put_octets(out, port)?;
     put(out, &id)
 }
 
 // Why a Talker failed, and where.
-fn put_failure(out: &mut Vec<u8>, failure: Failure) -> Result<(), AllocError>
+fn put_failure(out: &mut Vec<u8>, failure: Failure) -> Result<(), NoMemory>
     ensures { OnOk result (out.new.items ≡ out.old.items ++ failure_text failure) }
 {
     let alloc = *out.allocator();
@@ -130,7 +129,7 @@ fn put_failure(out: &mut Vec<u8>, failure: Failure) -> Result<(), AllocError>
 }
 
 // The latency of a Talker in ns, and its Registrar.
-fn put_talker_end(out: &mut Vec<u8>, latency: u32, state: Registrar) -> Result<(), AllocError>
+fn put_talker_end(out: &mut Vec<u8>, latency: u32, state: Registrar) -> Result<(), NoMemory>
     ensures { OnOk result (out.new.items ≡ out.old.items ++ talker_end latency state) }
 {
     let alloc = *out.allocator();
@@ -157,7 +156,7 @@ fn put_listener(
     stream: StreamId,
     content: Option<MsrpContent>,
     state: Registrar,
-) -> Result<(), AllocError>
+) -> Result<(), NoMemory>
     ensures { OnOk result (out.new.items
         ≡ out.old.items ++ listener_line port.now stream content state) }
 {
@@ -177,7 +176,7 @@ fn put_listening(
     stream: StreamId,
     kind: ListenerKind,
     state: Registrar,
-) -> Result<(), AllocError>
+) -> Result<(), NoMemory>
     ensures { OnOk result (out.new.items
         ≡ out.old.items ++ listener_line port.now stream (Some (MsrpContent.Listener kind)) state) }
 {
@@ -186,7 +185,7 @@ fn put_listening(
     let name = state_name(state);
     let registered = format!(in alloc; " {stream} {word} {name}\n")?;
     put(out, "listener ")?;
-    out.extend_from_slice(port)?;
+    put_octets(out, port)?;
     put(out, &registered)
 }
 
@@ -197,7 +196,7 @@ fn put_domain(
     class: u8,
     content: Option<MsrpContent>,
     state: Registrar,
-) -> Result<(), AllocError>
+) -> Result<(), NoMemory>
     ensures { OnOk result (out.new.items
         ≡ out.old.items ++ domain_line port.now class content state) }
 {
@@ -220,7 +219,7 @@ fn put_domain_value(
     priority: u8,
     vid: u16,
     state: Registrar,
-) -> Result<(), AllocError>
+) -> Result<(), NoMemory>
     ensures { OnOk result (out.new.items ≡ out.old.items
         ++ domain_line port.now class (Some (MsrpContent.Domain priority vid)) state) }
 {
@@ -228,12 +227,12 @@ fn put_domain_value(
     let name = state_name(state);
     let registered = format!(in alloc; " {class} priority {priority} vid {vid} {name}\n")?;
     put(out, "domain ")?;
-    out.extend_from_slice(port)?;
+    put_octets(out, port)?;
     put(out, &registered)
 }
 
 /// The line of a stream that is booked at a port.
-pub(crate) fn put_booked(out: &mut Vec<u8>, port: &[u8], entry: Entry) -> Result<(), AllocError>
+pub(crate) fn put_booked(out: &mut Vec<u8>, port: &[u8], entry: Entry) -> Result<(), NoMemory>
     ensures { OnOk result (out.new.items ≡ out.old.items ++ booked_line port.now entry) }
 {
     match entry.since {
@@ -243,7 +242,7 @@ pub(crate) fn put_booked(out: &mut Vec<u8>, port: &[u8], entry: Entry) -> Result
 }
 
 // The line of a want that is booked since a moment.
-fn put_want(out: &mut Vec<u8>, port: &[u8], want: Want, since: Cs) -> Result<(), AllocError>
+fn put_want(out: &mut Vec<u8>, port: &[u8], want: Want, since: Cs) -> Result<(), NoMemory>
     ensures { OnOk result (out.new.items
         ≡ out.old.items ++ want_line port.now want (Some since)) }
 {
@@ -258,7 +257,7 @@ fn put_want(out: &mut Vec<u8>, port: &[u8], want: Want, since: Cs) -> Result<(),
     let moment = since.0;
     let booked = format!(in alloc; " {stream} {letter} slope {slope} since {moment}\n")?;
     put(out, "booked ")?;
-    out.extend_from_slice(port)?;
+    put_octets(out, port)?;
     put(out, &booked)
 }
 
@@ -278,13 +277,13 @@ pub(crate) fn put_heard(
     name: &[u8],
     stream: StreamId,
     heard: Option<ListenerKind>,
-) -> Result<(), AllocError>
+) -> Result<(), NoMemory>
     ensures { OnOk result (out.new.items ≡ out.old.items ++ heard_line name.now stream heard) }
 {
     let alloc = *out.allocator();
     let word = heard_name(heard);
     let line = format!(in alloc; " {stream} {word}\n")?;
     put(out, "heard ")?;
-    out.extend_from_slice(name)?;
+    put_octets(out, name)?;
     put(out, &line)
 }

@@ -12,7 +12,6 @@ ghost use Rattle.srp_report.specs.Report.{key_line, place_lines};
 use crate::lines::{put_booked, put_srp, put_vlan};
 use node_core::{Node, NodeKey};
 use srp_base::{EgressPort, NoMemory, PortNo};
-use std::alloc::AllocError;
 use stream_importance::Entry;
 use world_core::World;
 
@@ -34,8 +33,7 @@ pub(crate) fn put_place(
     let keys = node.keys(at.port)?;
     put_keys(out, domains, port, node, at.port, keys.as_slice())?;
     let entries = node.bookings(at.port)?;
-    put_entries(out, port, entries.as_slice())?;
-    Ok(())
+    put_entries(out, port, entries.as_slice())
 }
 
 // The lines of these attributes at a port of a node.
@@ -46,7 +44,7 @@ fn put_keys(
     node: &Node,
     at: PortNo,
     keys: &[NodeKey],
-) -> Result<(), AllocError>
+) -> Result<(), NoMemory>
     requires { IsLinkPort at (ports_of node.now.state) }
     ensures { OnOk result (out.new.items ≡ out.old.items
         ++ flat_map (key_line domains port.now (place_of at) node.now.state) keys.now) }
@@ -65,7 +63,7 @@ fn put_key(
     node: &Node,
     at: PortNo,
     key: &NodeKey,
-) -> Result<(), AllocError>
+) -> Result<(), NoMemory>
     requires { IsLinkPort at (ports_of node.now.state) }
     ensures { OnOk result (out.new.items
         ≡ out.old.items ++ key_line domains port.now (place_of at) node.now.state key.now) }
@@ -78,7 +76,7 @@ fn put_key(
 }
 
 // The lines of these bookings.
-fn put_entries(out: &mut Vec<u8>, port: &[u8], entries: &[Entry]) -> Result<(), AllocError>
+fn put_entries(out: &mut Vec<u8>, port: &[u8], entries: &[Entry]) -> Result<(), NoMemory>
     ensures { OnOk result (out.new.items
         ≡ out.old.items ++ flat_map (booked_line port.now) entries.now) }
 {

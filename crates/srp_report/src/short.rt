@@ -7,7 +7,7 @@ use crate::text::put_behind;
 use crate::totals::{booked_in_all, ready_in_all, total_of_all};
 use report_words::{Tally, put};
 use srp_base::NoMemory;
-use std::alloc::{AllocError, Global};
+use std::alloc::Global;
 use topology_file::Scenario;
 use world_core::Run;
 
@@ -32,7 +32,7 @@ pub fn summary(alloc: Global, scenario: &Scenario, run: &Run) -> Result<Vec<u8>,
 }
 
 // The sizes of a scenario.
-fn put_sizes(out: &mut Vec<u8>, scenario: &Scenario) -> Result<(), AllocError>
+fn put_sizes(out: &mut Vec<u8>, scenario: &Scenario) -> Result<(), NoMemory>
     ensures { OnOk result (out.new.items ≡ out.old.items ++ size_lines scenario.now) }
 {
     let alloc = *out.allocator();
@@ -47,7 +47,7 @@ fn put_sizes(out: &mut Vec<u8>, scenario: &Scenario) -> Result<(), AllocError>
 }
 
 // What went out.
-fn put_total(out: &mut Vec<u8>, total: Tally) -> Result<(), AllocError>
+fn put_total(out: &mut Vec<u8>, total: Tally) -> Result<(), NoMemory>
     ensures { OnOk result (out.new.items ≡ out.old.items ++ total_lines total) }
 {
     let alloc = *out.allocator();
@@ -57,7 +57,7 @@ fn put_total(out: &mut Vec<u8>, total: Tally) -> Result<(), AllocError>
 }
 
 // What is booked, and who hears Ready.
-fn put_counts(out: &mut Vec<u8>, booked: u64, ready: u64) -> Result<(), AllocError>
+fn put_counts(out: &mut Vec<u8>, booked: u64, ready: u64) -> Result<(), NoMemory>
     ensures { OnOk result (out.new.items ≡ out.old.items ++ count_lines booked ready) }
 {
     let alloc = *out.allocator();

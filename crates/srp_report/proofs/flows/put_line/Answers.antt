@@ -16,6 +16,6 @@ returns c =
     let start = c.args.start.now in
     let d = c.args.d in
     let times : List ℕ → List ℕ = λ t. t ++ decimal d.frame ++ codes " start " ++ decimal d.start ++ codes " end " ++ decimal d.end ++ codes "\n" in
-    let all = ap times c.in_ok-extend_from_slice.ensures.items
+    let all = ap times c.in_ok-put_octets.ensures
     ∙ joined-pieces out start (decimal d.frame) (codes " start ") (decimal d.start) (codes " end ") (decimal d.end) (codes "\n") in
     subst (λ (t : List ℕ). OnOk c.put_times.result (c.put_times.new.out.items ≡ t)) all c.put_times.ensures
