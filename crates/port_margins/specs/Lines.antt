@@ -60,3 +60,9 @@ cbs_end cbs = cbs_slopes cbs ++ cbs_credits cbs
 -- `cbs P A idleslope I sendslope -S hicredit H locredit -L`
 abbrev pub cbs_line : List ℕ → List ℕ → Cbs → List ℕ
 cbs_line port class cbs = line_start (codes "cbs ") port class ++ cbs_end cbs
+
+-- how long class B waits at a port: `wait P B bits W us U`
+abbrev pub wait_line : List ℕ → ℕ → ℕ → List ℕ
+wait_line port bits micros =
+    line_start (codes "wait ") port (codes "B")
+    ++ whole_of (codes " bits " ∷ decimal bits ∷ codes " us " ∷ decimal micros ∷ codes "\n" ∷ [])

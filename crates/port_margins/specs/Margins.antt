@@ -16,7 +16,7 @@ use Rattle.scenario_bounds.specs.Caps.{caps_of_link, link_at}
 use Rattle.world_core.specs.World.{WorldState, node_at}
 use Rattle.report_words.specs.Names.{port_name}
 use Rattle.tree_topology.specs.Topology.{link_ports}
-use Rattle.port_margins.specs.{Cbs.cbs_of, Lines.margin_line, Lines.refused_line, Lines.cbs_line}
+use Rattle.port_margins.specs.{Cbs.cbs_of, Lines.margin_line, Lines.refused_line, Lines.cbs_line, Lines.wait_line, Waits.micros_of}
 
 -- ---- what is booked, and what is left
 
@@ -54,12 +54,20 @@ refused_lines port at s streams = flat_map (stream_line port at s) streams
 abbrev pub shaper_line : List ℕ → List ℕ → Rate → ℕ → ℕ → List ℕ
 shaper_line port class rate wait slope = if slope == 0 then [] else cbs_line port class (cbs_of rate wait slope)
 
+-- how long a frame of class B waits at most, by the tight bound of these caps
+abbrev pub wait_of : Rate → Caps → ℕ
+wait_of rate caps = (tight_bound_of rate caps.class_a caps.both).wait
+
+-- the line of a wait
+abbrev pub waits_line : List ℕ → Rate → ℕ → List ℕ
+waits_line port rate bits = wait_line port bits (micros_of rate bits)
+
 -- class A waits for one frame of other traffic at most, and class B for that and for what class A
 -- has credit for
 abbrev pub shaper_lines : List ℕ → Rate → Caps → ℕ → ℕ → List ℕ
 shaper_lines port rate caps class_a class_b =
     shaper_line port (codes "A") rate 12336 class_a
-    ++ shaper_line port (codes "B") rate (tight_bound_of rate caps.class_a caps.both).wait class_b
+    ++ (shaper_line port (codes "B") rate (wait_of rate caps) class_b ++ waits_line port rate (wait_of rate caps))
 
 -- ---- the ports
 

@@ -7,6 +7,7 @@
 //!   margin b1>l1 A+B booked 61952000 cap 75000000 left 13048000     both classes
 //!   refused b1>l1 0200000000010005 A slope 15488000 more 61952000 cap 75000000 short 2440000 code 1 listeners yes
 //!   cbs b1>l1 A idleslope 61952 sendslope -38048 hicredit 956 locredit -587
+//!   wait b1>l1 B bits 61680 us 617                                  at most, before a frame goes
 //! ```
 //!
 //! `margins_text` (`specs/Margins.antt`) is the text as a function of the scenario and a network.
@@ -16,7 +17,7 @@
 //! slope is what its Talker, as the node has it registered, asks. The numbers of a shaper are
 //! `cbs_of` (`specs/Cbs.antt`): idleSlope is the booked slope; a class gains credit for as long as
 //! it waits, which for class A is one frame of 12,336 bits and for class B the tight bound of
-//! class_b_bound.
+//! class_b_bound, which the line `wait` has too.
 //!
 //! A further line of a port is a definition in `specs/Lines.antt` and a piece of `place_lines`,
 //! with its writer in `lines.rt` and its call in `ports.rt`.
@@ -27,6 +28,7 @@ mod lines;
 mod ports;
 mod refused;
 mod shapers;
+mod waits;
 
 pub use cbs::Cbs;
 pub use ports::margins_text;

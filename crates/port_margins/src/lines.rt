@@ -1,26 +1,26 @@
 //! The lines of a port's margins. Each is put at the end of a text.
 
 ghost use Rattle.std.specs.Prelude.{◌≡◌, ◌++◌, OnOk};
-ghost use Rattle.port_margins.specs.Lines.{line_start, margin_end, margin_line, refused_start, refused_end, refused_line, cbs_slopes, cbs_credits, cbs_end, cbs_line, shortfall};
+ghost use Rattle.port_margins.specs.Lines.{line_start, margin_end, margin_line, refused_start, refused_end, refused_line, cbs_slopes, cbs_credits, cbs_end, cbs_line, wait_line, shortfall};
 
 use crate::cbs::Cbs;
-use report_words::{class_name, put, yes_or_no};
-use std::alloc::AllocError;
+use report_words::{class_name, put, put_octets, yes_or_no};
+use srp_base::NoMemory;
 use stream_importance::Want;
 
 // How the line of some classes at a port begins.
-fn put_start(out: &mut Vec<u8>, word: &str, port: &[u8], classes: &str) -> Result<(), AllocError>
+fn put_start(out: &mut Vec<u8>, word: &str, port: &[u8], classes: &str) -> Result<(), NoMemory>
     ensures { OnOk result (out.new.items
         ≡ out.old.items ++ line_start word.now port.now classes.now) }
 {
     put(out, word)?;
-    out.extend_from_slice(port)?;
+    put_octets(out, port)?;
     put(out, " ")?;
     put(out, classes)
 }
 
 // What is booked, the cap, and what is left of it.
-fn put_margin_end(out: &mut Vec<u8>, booked: u64, cap: u64) -> Result<(), AllocError>
+fn put_margin_end(out: &mut Vec<u8>, booked: u64, cap: u64) -> Result<(), NoMemory>
     ensures { OnOk result (out.new.items ≡ out.old.items ++ margin_end booked cap) }
 {
     let alloc = *out.allocator();
@@ -37,7 +37,7 @@ pub(crate) fn put_margin(
     classes: &str,
     booked: u64,
     cap: u64,
-) -> Result<(), AllocError>
+) -> Result<(), NoMemory>
     ensures { OnOk result (out.new.items
         ≡ out.old.items ++ margin_line port.now classes.now booked cap) }
 {
@@ -46,7 +46,7 @@ pub(crate) fn put_margin(
 }
 
 // Which stream a port refuses.
-fn put_refused_start(out: &mut Vec<u8>, port: &[u8], want: &Want) -> Result<(), AllocError>
+fn put_refused_start(out: &mut Vec<u8>, port: &[u8], want: &Want) -> Result<(), NoMemory>
     ensures { OnOk result (out.new.items ≡ out.old.items ++ refused_start port.now want.now) }
 {
     let alloc = *out.allocator();
@@ -55,7 +55,7 @@ fn put_refused_start(out: &mut Vec<u8>, port: &[u8], want: &Want) -> Result<(), 
     let slope = want.slope;
     let asked = format!(in alloc; " {stream} {class} slope {slope}")?;
     put(out, "refused ")?;
-    out.extend_from_slice(port)?;
+    put_octets(out, port)?;
     put(out, &asked)
 }
 
@@ -76,7 +76,7 @@ fn short_of(slope: u64, lack: Lack) -> u128
 }
 
 // Why it does.
-fn put_refused_end(out: &mut Vec<u8>, slope: u64, lack: Lack, heard: bool) -> Result<(), AllocError>
+fn put_refused_end(out: &mut Vec<u8>, slope: u64, lack: Lack, heard: bool) -> Result<(), NoMemory>
     ensures { OnOk result (out.new.items ≡ out.old.items
         ++ refused_end slope lack.more_important lack.cap lack.code heard) }
 {
@@ -101,7 +101,7 @@ pub(crate) fn put_refused(
     want: &Want,
     lack: Lack,
     heard: bool,
-) -> Result<(), AllocError>
+) -> Result<(), NoMemory>
     ensures { OnOk result (out.new.items ≡ out.old.items
         ++ refused_line port.now want.now lack.more_important lack.cap lack.code heard) }
 {
@@ -110,7 +110,7 @@ pub(crate) fn put_refused(
 }
 
 // The slopes of a class's shaper, up to its credits.
-fn put_slopes(out: &mut Vec<u8>, cbs: Cbs) -> Result<(), AllocError>
+fn put_slopes(out: &mut Vec<u8>, cbs: Cbs) -> Result<(), NoMemory>
     ensures { OnOk result (out.new.items ≡ out.old.items ++ cbs_slopes cbs) }
 {
     let alloc = *out.allocator();
@@ -121,7 +121,7 @@ fn put_slopes(out: &mut Vec<u8>, cbs: Cbs) -> Result<(), AllocError>
 }
 
 // These.
-fn put_credits(out: &mut Vec<u8>, cbs: Cbs) -> Result<(), AllocError>
+fn put_credits(out: &mut Vec<u8>, cbs: Cbs) -> Result<(), NoMemory>
     ensures { OnOk result (out.new.items ≡ out.old.items ++ cbs_credits cbs) }
 {
     let alloc = *out.allocator();
@@ -132,7 +132,7 @@ fn put_credits(out: &mut Vec<u8>, cbs: Cbs) -> Result<(), AllocError>
 }
 
 // Both.
-fn put_cbs_end(out: &mut Vec<u8>, cbs: Cbs) -> Result<(), AllocError>
+fn put_cbs_end(out: &mut Vec<u8>, cbs: Cbs) -> Result<(), NoMemory>
     ensures { OnOk result (out.new.items ≡ out.old.items ++ cbs_end cbs) }
 {
     put_slopes(out, cbs)?;
@@ -140,14 +140,24 @@ fn put_cbs_end(out: &mut Vec<u8>, cbs: Cbs) -> Result<(), AllocError>
 }
 
 /// The line of the shaper of a class at a port.
-pub(crate) fn put_cbs(
-    out: &mut Vec<u8>,
-    port: &[u8],
-    class: &str,
-    cbs: Cbs,
-) -> Result<(), AllocError>
+pub(crate) fn put_cbs(out: &mut Vec<u8>, port: &[u8], class: &str, cbs: Cbs) -> Result<(), NoMemory>
     ensures { OnOk result (out.new.items ≡ out.old.items ++ cbs_line port.now class.now cbs) }
 {
     put_start(out, "cbs ", port, class)?;
     put_cbs_end(out, cbs)
+}
+
+/// The line of how long a frame of class B waits at a port, in bit times and in µs.
+pub(crate) fn put_wait(
+    out: &mut Vec<u8>,
+    port: &[u8],
+    bits: u64,
+    micros: u128,
+) -> Result<(), NoMemory>
+    ensures { OnOk result (out.new.items ≡ out.old.items ++ wait_line port.now bits micros) }
+{
+    let alloc = *out.allocator();
+    let numbers = format!(in alloc; " bits {bits} us {micros}\n")?;
+    put_start(out, "wait ", port, "B")?;
+    put(out, &numbers)
 }

@@ -18,7 +18,7 @@ use node_core::Node;
 use report_words::{port_name, ports_of_links};
 use scenario_bounds::link_at;
 use srp_base::{Class, EgressPort, NoMemory, PortNo};
-use std::alloc::{AllocError, Global};
+use std::alloc::Global;
 use stream_importance::Caps;
 use topology_file::{LinkEntry, Scenario};
 use world_core::World;
@@ -113,7 +113,7 @@ fn put_place(
     scenario: &Scenario,
     node: &Node,
     at: PortNo,
-) -> Result<(), AllocError>
+) -> Result<(), NoMemory>
     requires port { IsLinkPort at (ports_of node.now.state) }
     requires rate { AreCaps link.now.rate (caps_of_link link.now).class_a
         (caps_of_link link.now).both }
@@ -139,7 +139,7 @@ fn put_margins(
     caps: Caps,
     class_a: u64,
     class_b: u64,
-) -> Result<(), AllocError>
+) -> Result<(), NoMemory>
     requires { class_a + class_b ≤ caps.both }
     ensures { OnOk result (out.new.items
         ≡ out.old.items ++ margin_lines port.now caps class_a class_b) }

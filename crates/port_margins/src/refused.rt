@@ -11,8 +11,7 @@ use crate::lines::{Lack, put_refused};
 use msrp_codec::MsrpKey;
 use msrp_talker::class_of;
 use node_core::Node;
-use srp_base::{PortNo, StreamId, Talker, TalkerReg};
-use std::alloc::AllocError;
+use srp_base::{NoMemory, PortNo, StreamId, Talker, TalkerReg};
 use stream_importance::{Fit, Want, slope_of};
 use topology_file::{Scenario, StreamEntry};
 
@@ -64,7 +63,7 @@ fn put_fit(
     heard: bool,
     want: Option<Want>,
     fit: Option<Fit>,
-) -> Result<(), AllocError>
+) -> Result<(), NoMemory>
     ensures { OnOk result (out.new.items ≡ out.old.items ++ fit_line port.now heard want fit) }
 {
     match (want, fit) {
@@ -96,7 +95,7 @@ fn put_stream(
     node: &Node,
     at: PortNo,
     entry: &StreamEntry,
-) -> Result<(), AllocError>
+) -> Result<(), NoMemory>
     requires { IsLinkPort at (ports_of node.now.state) }
     ensures { OnOk result (out.new.items
         ≡ out.old.items ++ stream_line port.now (place_of at) node.now.state entry.now) }
@@ -119,7 +118,7 @@ pub(crate) fn put_refusals(
     node: &Node,
     at: PortNo,
     scenario: &Scenario,
-) -> Result<(), AllocError>
+) -> Result<(), NoMemory>
     requires { IsLinkPort at (ports_of node.now.state) }
     ensures { OnOk result (out.new.items ≡ out.old.items
         ++ refused_lines port.now (place_of at) node.now.state scenario.now.streams) }
@@ -134,7 +133,7 @@ fn put_streams(
     node: &Node,
     at: PortNo,
     streams: &[StreamEntry],
-) -> Result<(), AllocError>
+) -> Result<(), NoMemory>
     requires { IsLinkPort at (ports_of node.now.state) }
     ensures { OnOk result (out.new.items
         ≡ out.old.items ++ refused_lines port.now (place_of at) node.now.state streams.now) }

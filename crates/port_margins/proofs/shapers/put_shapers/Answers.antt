@@ -1,8 +1,8 @@
 use Rattle.std.proofs.Common.{◌++◌, ap, ◌∙◌}
 use Rattle.std.specs.Prelude.{codes}
+use Rattle.srp_base.proofs.Lists.{three_pieces}
 use Rattle.class_b_bound.specs.declared.bound.BoundB.{BoundB}
-use Rattle.port_margins.specs.{shaper_line}
-use Rattle.port_margins.proofs.Pieces.{two_pieces}
+use Rattle.port_margins.specs.{shaper_line, waits_line}
 use Rattle.port_margins.proofs.shapers.put_shapers.Goals as goal
 
 pub returns : goal.returns
@@ -11,5 +11,7 @@ returns c =
     let port = c.args.port.now in
     let rate = c.args.rate in
     let class_a = shaper_line port (codes "A") rate 12336 c.args.class_a in
-    two_pieces out _ _ class_a _ c.in_ok-put_shaper.ensures c.in_ok-put_shaper-2.ensures
-    ∙ ap (λ (bound : BoundB). out ++ (class_a ++ shaper_line port (codes "B") rate bound.wait c.args.class_b)) c.tight_bound_b-bound.ensures
+    three_pieces out _ _ _ class_a _ _ c.in_ok-put_shaper.ensures c.in_ok-put_shaper-2.ensures c.in_ok-put_bits.ensures
+    ∙ ap
+    (λ (bound : BoundB). out ++ (class_a ++ (shaper_line port (codes "B") rate bound.wait c.args.class_b ++ waits_line port rate bound.wait)))
+    c.tight_bound_b-bound.ensures
