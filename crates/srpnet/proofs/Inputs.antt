@@ -16,9 +16,9 @@ consumed_all (Some xs) (Some ys) octets told consumed end is =
     let same : xs ≡ told = cc in
     sym whole ∙ same
 
-module _ (command : Command) (octets : List ℕ) (reads : reads_input command ≡ true) (few : length octets ≤ most_octets) where
+module _ (command : Command) (octets : List ℕ) (reads : reads_input command ≡ true) (few : length octets ≤ most_octets command) where
   not_too_long : is_too_long command octets ≡ false
-  not_too_long = rw (reads, le-leb (length octets) most_octets few) refl
+  not_too_long = rw (reads, le-leb (length octets) (most_octets command) few) refl
 
   as_plain : (cause : Cause) → IsEndingOf command octets cause → IsPlainEnding command octets cause
   as_plain cause is = subst (λ (b : Bool). IsEndingWhere b command octets cause) (sym not_too_long) is
@@ -30,7 +30,7 @@ module _ (command : Command) (octets : List ℕ) (reads : reads_input command �
 
 -- a command that has read its input to the end ends as is right for what the source told
 pub ends_read : {X : Type 0} (command : Command) (octets : List ℕ) (answer : Result X Cause) (before after : Option (List ℕ))
-    → reads_input command ≡ true → Consumes before after octets × IsAtEnd after → length octets ≤ most_octets
+    → reads_input command ≡ true → Consumes before after octets × IsAtEnd after → length octets ≤ most_octets command
     → EndsBy (IsEndingOf command octets) answer
     → (told : List ℕ) → before ≡ Some told → EndsBy (IsPlainEnding command told) answer
 ends_read command octets answer before after reads whole few ends told is =

@@ -5,7 +5,7 @@ use Rattle.std.specs.Prelude.{Result, IfErr}
 use Rattle.srp_base.specs.Results.{◌>>=◌}
 use Rattle.toml.specs.Data.{Members}
 use Rattle.toml_rules.specs.declared.{rules.RuleErr.RuleErr, rules.RuleErr.TheVariants.Rule, rules.RuleErr.TheVariants.NoMemory as no_memory}
-use Rattle.srpnet.specs.{Command, Ledger, Check, Explain, ExplainLedger, Run, RunJournal, RunBounds, Ports, PortsJournal, Margins, Audit, Groups, Decode, Generate, Help, Version, Cause, Done, BadWords, ReadFault, TooLong, NotToml, BadScenario, WriteFault, AuditNo, NoMemory, audit_parts, IsAudited, IsAuditedBy, IsAuditedOf, IsEndingOf, reads_input, document, or_not_toml, starts_threads, by_rules, ending, input_of, ledger_file, EndsAs, EndsBy, LacksOutput, scenario_input}
+use Rattle.srpnet.specs.{Command, Ledger, Check, Explain, ExplainLedger, Run, RunJournal, RunBounds, Ports, PortsJournal, Margins, Audit, AuditLong, Groups, Decode, Capture, Generate, Help, Version, Cause, Done, BadWords, ReadFault, TooLong, NotToml, BadScenario, WriteFault, AuditNo, NoMemory, audit_parts, IsAudited, IsAuditedBy, IsAuditedOf, IsEndingOf, reads_input, document, or_not_toml, starts_threads, by_rules, ending, input_of, ledger_file, EndsAs, EndsBy, LacksOutput, scenario_input}
 use Rattle.srpnet.specs.AuditParts.{AuditParts}
 use Rattle.topology_file.specs.{Plan.Plan, Scenario.scenario_of}
 use Rattle.group_file.specs.Scenario.{group_scenario_of}
@@ -68,8 +68,10 @@ command_judges Ports octets cause is = judged_as cause _ (document_judged scenar
 command_judges PortsJournal octets cause is = judged_as cause _ (document_judged scenario_of (document octets)) is
 command_judges Margins octets cause is = judged_as cause _ (document_judged scenario_of (document octets)) is
 command_judges Audit octets cause is = audit_judged (audit_parts octets) cause is
+command_judges AuditLong octets cause is = audit_judged (audit_parts octets) cause is
 command_judges Groups octets cause is = judged_as cause _ (document_judged group_scenario_of (document octets)) is
 command_judges (Decode form) octets cause is = judged_as cause Done tt is
+command_judges Capture octets cause is = judged_as cause Done tt is
 command_judges (Generate number) octets cause is = judged_as cause Done tt is
 command_judges Help octets cause is = judged_as cause Done tt is
 command_judges Version octets cause is = judged_as cause Done tt is
@@ -120,8 +122,10 @@ threads_read Ports threads = refl
 threads_read PortsJournal threads = refl
 threads_read Margins threads = refl
 threads_read Audit threads = refl
+threads_read AuditLong threads = refl
 threads_read Groups threads = refl
 threads_read (Decode form) threads = refl
+threads_read Capture threads = refl
 threads_read (Generate number) threads = threads
 threads_read Help threads = threads
 threads_read Version threads = threads

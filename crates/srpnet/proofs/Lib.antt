@@ -3,7 +3,6 @@ pub mod Judged
 pub mod Different
 pub mod Documents
 pub mod EndLemmas
-pub mod NumberWords
 pub mod PrintLemmas
 pub mod Carried
 pub mod Reported

@@ -1,11 +1,11 @@
 -- The commands. Each has a line in `reads_input`, `runs`, `Output` and `IsEndingOf`, and a row in
--- the table of words.
+-- the table of words; one whose input may be longer than the others' has a line in `most_octets`.
 use Rattle.std.specs.Prelude.{◌≡◌, ℕ, Bool, true, false, List}
 use Rattle.world_core.specs.declared.journal.Tick.{Tick}
 use Rattle.world_core.specs.Ticks.{AreCanonicalTicks, AreLegalTicks}
-use Rattle.pdu_words.specs.Decoded.{decoded_text}
+use Rattle.pdu_words.specs.{Captured.captured_text, Decoded.decoded_text}
 use Rattle.srpnet.specs.declared.{words.Command.Command, outcome.Cause.Cause, outcome.Cause.TheVariants.Done}
-use Rattle.srpnet.specs.declared.words.Command.TheVariants.{Ledger, Check, Explain, ExplainLedger, Run, RunJournal, RunBounds, Ports, PortsJournal, Margins, Audit, Groups, Decode, Generate, Help, Version}
+use Rattle.srpnet.specs.declared.words.Command.TheVariants.{Ledger, Check, Explain, ExplainLedger, Run, RunJournal, RunBounds, Ports, PortsJournal, Margins, Audit, AuditLong, Groups, Decode, Capture, Generate, Help, Version}
 use Rattle.srpnet.specs.{Input.ending, ScenarioInput.scenario_input, AuditText.AuditOutput, AuditText.IsAuditEnding, CheckText.CheckOutput, ExplainText.explanation, ExplainText.table_in, GeneratedText.GeneratedOutput, GroupsText.GroupsOutput, GroupsText.group_input, LedgerInput.ledger_input, LedgerText.LedgerOutput, MarginsText.margins_alone, Pages.help_page, Pages.version_page, RunText.RunOutput, RunText.report_alone, RunText.report_and_journal, RunText.report_and_bounds}
 
 -- whether it reads an input; the pages read none, and neither does what makes its scenario of a
@@ -22,11 +22,18 @@ reads_input Ports = true
 reads_input PortsJournal = true
 reads_input Margins = true
 reads_input Audit = true
+reads_input AuditLong = true
 reads_input Groups = true
 reads_input (Decode form) = true
+reads_input Capture = true
 reads_input (Generate number) = false
 reads_input Help = false
 reads_input Version = false
+
+-- the most octets of its input: 1 MiB, and 64 MiB where the journal of a large network is audited
+abbrev pub most_octets : Command → ℕ
+most_octets AuditLong = 67108864
+most_octets _ = 1048576
 
 -- whether it runs a network, so that there is a journal
 abbrev pub runs : Command → Bool
@@ -41,8 +48,10 @@ runs Ports = true
 runs PortsJournal = true
 runs Margins = true
 runs Audit = false
+runs AuditLong = false
 runs Groups = false
 runs (Decode form) = false
+runs Capture = false
 runs (Generate number) = true
 runs Help = false
 runs Version = false
@@ -64,8 +73,10 @@ Output Ports octets ticks text = RunOutput AreLegalTicks report_alone octets tic
 Output PortsJournal octets ticks text = RunOutput AreLegalTicks report_and_journal octets ticks text
 Output Margins octets ticks text = RunOutput AreCanonicalTicks margins_alone octets ticks text
 Output Audit octets ticks text = AuditOutput octets text
+Output AuditLong octets ticks text = AuditOutput octets text
 Output Groups octets ticks text = GroupsOutput octets text
 Output (Decode form) octets ticks text = text ≡ decoded_text form octets
+Output Capture octets ticks text = text ≡ captured_text octets
 Output (Generate number) octets ticks text = GeneratedOutput number ticks text
 Output Help octets ticks text = text ≡ help_page
 Output Version octets ticks text = text ≡ version_page
@@ -83,8 +94,10 @@ IsEndingOf Ports octets cause = cause ≡ ending (scenario_input octets)
 IsEndingOf PortsJournal octets cause = cause ≡ ending (scenario_input octets)
 IsEndingOf Margins octets cause = cause ≡ ending (scenario_input octets)
 IsEndingOf Audit octets cause = IsAuditEnding octets cause
+IsEndingOf AuditLong octets cause = IsAuditEnding octets cause
 IsEndingOf Groups octets cause = cause ≡ ending (group_input octets)
 IsEndingOf (Decode form) octets cause = cause ≡ Done
+IsEndingOf Capture octets cause = cause ≡ Done
 IsEndingOf (Generate number) octets cause = cause ≡ Done
 IsEndingOf Help octets cause = cause ≡ Done
 IsEndingOf Version octets cause = cause ≡ Done

@@ -3,7 +3,7 @@ use Rattle.std.specs.Prelude.{◌≡◌, ℕ, ◌⊎◌, List, [], Option, Some,
 use Rattle.srp_io.specs.{Faults.Rose, Whole.TookAtMost, Whole.TookPast}
 use Rattle.srpnet.specs.declared.{words.Command.Command, outcome.Cause.Cause}
 use Rattle.srpnet.specs.declared.outcome.Cause.TheVariants.{Done, BadWords, ReadFault, TooLong, WriteFault, NoMemory}
-use Rattle.srpnet.specs.{Outcomes.IsRefusedInput, Outcomes.IsWriteFault, Outcomes.WritesNothing, TopCall.Wrote, TopCall.WrotePart, TopCall.WroteUntilNoMemory, TopCall.WroteNothing, TopCall.Gave, TopCall.Refuses, TopCall.ReadsNothing, TopCall.most_octets, TopCall.IsPlainEnding}
+use Rattle.srpnet.specs.{Commands.most_octets, Outcomes.IsRefusedInput, Outcomes.IsWriteFault, Outcomes.WritesNothing, TopCall.Wrote, TopCall.WrotePart, TopCall.WroteUntilNoMemory, TopCall.WroteNothing, TopCall.Gave, TopCall.Refuses, TopCall.ReadsNothing, TopCall.IsPlainEnding}
 use Rattle.world_core.specs.declared.journal.Tick.{Tick}
 
 -- A command is carried out on a source of the type I and an out sink of the type O, before the call
@@ -31,10 +31,10 @@ pub record CarriedOut {I O : Type 0} (left : I → Option (List ℕ)) (in_faults
   -- and nothing else makes a count rise
   pub read_counts : (cause ≡ ReadFault → ⊥) → in_faults source' ≡ in_faults source
   pub write_counts : (IsWriteFault cause → ⊥) → out_faults out' ≡ out_faults out
-  -- the input is too long exactly where one octet past the most was taken with no fault before: a
-  -- read fault comes while at most the most was taken
-  pub in_time : cause ≡ ReadFault → TookAtMost most_octets (left source) (left source')
-  pub too_long : cause ≡ TooLong → TookPast most_octets (left source) (left source')
+  -- the input is too long exactly where one octet past the command's most was taken with no fault
+  -- before: a read fault comes while at most the most was taken
+  pub in_time : cause ≡ ReadFault → TookAtMost (most_octets command) (left source) (left source')
+  pub too_long : cause ≡ TooLong → TookPast (most_octets command) (left source) (left source')
   -- the input is refused only where its octets, read to the end, are refused for this cause
   pub refused : IsRefusedInput cause → Refuses command (left source) (left source') cause
   -- the words were good

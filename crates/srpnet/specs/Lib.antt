@@ -52,4 +52,4 @@ pub use Rattle.srpnet.specs.declared.commands.CommandOutput.{CommandOutput}
 pub use Rattle.srpnet.specs.declared.outcome.Cause.{Cause}
 pub use Rattle.srpnet.specs.declared.outcome.Cause.TheVariants.{AuditNo, BadScenario, BadWords, Done, NoMemory, NotToml, ReadFault, TooLong, WriteFault}
 pub use Rattle.srpnet.specs.declared.words.Command.{Command}
-pub use Rattle.srpnet.specs.declared.words.Command.TheVariants.{Audit, Check, Decode, Explain, ExplainLedger, Generate, Groups, Help, Ledger, Margins, Ports, PortsJournal, Run, RunBounds, RunJournal, Version}
+pub use Rattle.srpnet.specs.declared.words.Command.TheVariants.{Audit, AuditLong, Capture, Check, Decode, Explain, ExplainLedger, Generate, Groups, Help, Ledger, Margins, Ports, PortsJournal, Run, RunBounds, RunJournal, Version}

@@ -5,7 +5,7 @@ use Rattle.srp_io.specs.{Faults.Rose, Whole.TookAtMost, Whole.TookPast}
 use Rattle.srpnet.specs.declared.{commands.CommandOutput.CommandOutput, outcome.Cause.Cause, words.Command.Command}
 use Rattle.world_core.specs.declared.journal.Tick.{Tick}
 use Rattle.srpnet.specs.declared.outcome.Cause.TheVariants.{Done, ReadFault, TooLong, WriteFault, NoMemory}
-use Rattle.srpnet.specs.{Outcomes.EndsAs, Outcomes.EndsBy, Outcomes.EndsWriting, Outcomes.IsRefusedInput, Outcomes.IsWriteFault, Outcomes.LacksOutput, TopCall.most_octets, TopCall.IsPlainEnding, TopCall.IsOutput, TopCall.Gave, TopCall.Refuses, TopCall.ReadsNothing, TopCall.PartOf}
+use Rattle.srpnet.specs.{Commands.most_octets, Outcomes.EndsAs, Outcomes.EndsBy, Outcomes.EndsWriting, Outcomes.IsRefusedInput, Outcomes.IsWriteFault, Outcomes.LacksOutput, TopCall.IsPlainEnding, TopCall.IsOutput, TopCall.Gave, TopCall.Refuses, TopCall.ReadsNothing, TopCall.PartOf}
 
 -- A command's output was made of what a source gave, or why there is none.
 pub record IsMade {I : Type 0} (left : I → Option (List ℕ)) (faults : I → ℕ) (command : Command) (source source' : I)
@@ -14,9 +14,9 @@ pub record IsMade {I : Type 0} (left : I → Option (List ℕ)) (faults : I → 
   pub only : IfErr made LacksOutput
   pub given : Gave (left source) (left source')
   pub read_fault : made ≡ Err ReadFault → Rose (faults source) (faults source')
-  pub in_time : made ≡ Err ReadFault → TookAtMost most_octets (left source) (left source')
+  pub in_time : made ≡ Err ReadFault → TookAtMost (most_octets command) (left source) (left source')
   pub counts : (made ≡ Err ReadFault → ⊥) → faults source' ≡ faults source
-  pub too_long : made ≡ Err TooLong → TookPast most_octets (left source) (left source')
+  pub too_long : made ≡ Err TooLong → TookPast (most_octets command) (left source) (left source')
   pub refused : IfErr made (λ c. IsRefusedInput c → Refuses command (left source) (left source') c)
   pub ends : (octets : List ℕ) → left source ≡ Some octets → (Rose (faults source) (faults source') → ⊥)
       → EndsBy (IsPlainEnding command octets) made

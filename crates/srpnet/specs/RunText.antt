@@ -11,7 +11,7 @@ use Rattle.world_core.specs.declared.journal.Tick.{Tick}
 use Rattle.world_core.specs.{World.WorldState, Duty.AreVlanDutiesMet, Duty.AreStreamDutiesMet, Limits.caps_at, Limits.IsWithinLimits, Moments.IsMoment, Timeline.IsTimelineOf}
 use Rattle.network_laws.specs.{Vlans.IsAtRest, Vlans.VlansMatch, Streams.KeepsStreamLaws}
 use Rattle.srp_report.specs.{Report.report_text, JournalText.journal_text}
-use Rattle.scenario_bounds.specs.PortBounds.{IsWithinBoundB}
+use Rattle.scenario_bounds.specs.{PortBounds.IsWithinBoundB, PortService.GetsBandwidth}
 use Rattle.srpnet.specs.{BoundsText.bound_lines, ScenarioInput.scenario_input}
 
 -- A run of a scenario with these ticks: they lead from its start to a network, in the canonical
@@ -47,6 +47,8 @@ pub record HoldsThroughout (plan : Plan) (ticks : List Tick) (flows : List PortF
   pub windows : All (HasWindowsOfCap (λ p. (caps_at plan p).class_a)) flows
   -- and class B no more than its own, where no frame of it waits longer than its bound says
   pub class_b : All (IsWithinBoundB plan) flows
+  -- and each class that has something to send gets as much, but for the same credits
+  pub service : All (GetsBandwidth plan) flows
 
 -- what is printed of a run: the report, and what happened behind it
 abbrev pub Text : Type 0

@@ -2,31 +2,27 @@
 use Rattle.std.specs.Prelude.{◌≡◌, ℕ, ◌<◌, ◌≤◌, ◌+◌, nat_le, Bool, true, false, not, ◌&&◌, List, [], length, take, Option}
 use Rattle.std.specs.Io.KnownBytes.{Appends, Consumes, IsAtEnd}
 use Rattle.srpnet.specs.declared.{words.Command.Command, outcome.Cause.Cause, outcome.Cause.TheVariants.Done, outcome.Cause.TheVariants.TooLong}
-use Rattle.srpnet.specs.{Outcomes.EndsWriting, Commands.reads_input, Commands.Output, Commands.RunsNothing, Commands.IsEndingOf}
+use Rattle.srpnet.specs.{Outcomes.EndsWriting, Commands.reads_input, Commands.most_octets, Commands.Output, Commands.RunsNothing, Commands.IsEndingOf}
 use Rattle.world_core.specs.declared.journal.Tick.{Tick}
 
 -- ---- Reading
-
--- the most octets of an input
-abbrev pub most_octets : ℕ
-most_octets = 1048576
 
 -- a source gave octets, and nothing else became of those that it had
 pub record Gave (before after : Option (List ℕ)) : Type 0 where
   pub octets : List ℕ
   pub consumed : Consumes before after octets
 
--- a source gave these octets, which are all that it had
-pub record ReadWhole (before after : Option (List ℕ)) (octets : List ℕ) : Type 0 where
+-- a source gave these octets, which are all that it had, and no more than a command reads
+pub record ReadWhole (command : Command) (before after : Option (List ℕ)) (octets : List ℕ) : Type 0 where
   pub consumed : Consumes before after octets
   pub at_end : IsAtEnd after
-  pub within : length octets ≤ most_octets
+  pub within : length octets ≤ most_octets command
 
 -- the octets that a source gave aren't what a command reads, for this cause
 pub record Refuses (command : Command) (before after : Option (List ℕ)) (cause : Cause)
     : Type 0 where
   pub octets : List ℕ
-  pub whole : ReadWhole before after octets
+  pub whole : ReadWhole command before after octets
   pub refused : IsEndingOf command octets cause
 
 -- ---- Writing
@@ -37,7 +33,7 @@ pub record Refuses (command : Command) (before after : Option (List ℕ)) (cause
 pub record IsOutput (command : Command) (before after : Option (List ℕ)) (ticks : List Tick) (text : List ℕ)
     : Type 0 where
   pub octets : List ℕ
-  pub whole : reads_input command ≡ true → ReadWhole before after octets
+  pub whole : reads_input command ≡ true → ReadWhole command before after octets
   pub output : Output command octets ticks text
   pub no_journal : RunsNothing command → ticks ≡ []
 
@@ -98,7 +94,7 @@ ReadsNothing command = reads_input command ≡ false
 
 -- whether an input of these octets is too long for a command
 abbrev pub is_too_long : Command → List ℕ → Bool
-is_too_long command octets = reads_input command && not (nat_le (length octets) most_octets)
+is_too_long command octets = reads_input command && not (nat_le (length octets) (most_octets command))
 
 -- a command ends so where its input is too long, or isn't
 abbrev pub IsEndingWhere : Bool → Command → List ℕ → Cause → Type 0

@@ -1,10 +1,11 @@
 -- The table of the program's words.
-use Rattle.std.specs.Prelude.{◌≡◌, ℕ, ◌^◌, nat_eq, nat_lt, ◌&&◌, Bool, true, false, List, [], ◌∷◌, codes, if◌then◌else◌, Option, Some, None, option_map}
-use Rattle.std.specs.{Cmp.Lexicographic.pointwise, Fmt.decimal, Str.Parse.digits_value}
+use Rattle.std.specs.Prelude.{◌≡◌, ℕ, nat_eq, ◌&&◌, Bool, true, false, List, [], ◌∷◌, codes, if◌then◌else◌, Option, Some, None, option_map}
+use Rattle.std.specs.Cmp.Lexicographic.{pointwise}
 use Rattle.mrpdu_codec.specs.declared.form.AppForm.{AppForm}
 use Rattle.mrpdu_codec.specs.declared.form.AppForm.TheVariants.{Mvrp, Msrp, Mmrp}
+use Rattle.report_words.specs.Number.{number_of_word}
 use Rattle.srpnet.specs.declared.words.Command.{Command}
-use Rattle.srpnet.specs.declared.words.Command.TheVariants.{Ledger, Check, Explain, ExplainLedger, Run, RunJournal, RunBounds, Ports, PortsJournal, Margins, Audit, Groups, Decode, Generate, Help, Version}
+use Rattle.srpnet.specs.declared.words.Command.TheVariants.{Ledger, Check, Explain, ExplainLedger, Run, RunJournal, RunBounds, Ports, PortsJournal, Margins, Audit, AuditLong, Groups, Decode, Capture, Generate, Help, Version}
 
 -- the rows of one word
 abbrev pub command_of_word : List ℕ → Option Command
@@ -17,6 +18,7 @@ command_of_word word =
     else if pointwise nat_eq word (codes "margins") then Some Margins
     else if pointwise nat_eq word (codes "audit") then Some Audit
     else if pointwise nat_eq word (codes "groups") then Some Groups
+    else if pointwise nat_eq word (codes "capture") then Some Capture
     else if pointwise nat_eq word (codes "--help") then Some Help
     else if pointwise nat_eq word (codes "--version") then Some Version
     else None
@@ -33,14 +35,6 @@ form_of_word word =
 abbrev pub decoding_of_word : List ℕ → Option Command
 decoding_of_word word = option_map Decode (form_of_word word)
 
--- the number below 2 ^ 32 that a word writes: it is what is written of the number in decimal, so
--- that it has no sign and no leading zero
-abbrev pub number_of_word : List ℕ → Option ℕ
-number_of_word word =
-    if nat_lt (digits_value 10 word) (2 ^ 32) && pointwise nat_eq word (decimal (digits_value 10 word))
-    then Some (digits_value 10 word)
-    else None
-
 -- the making of a scenario, by its number
 abbrev pub generation_of_word : List ℕ → Option Command
 generation_of_word word = option_map Generate (number_of_word word)
@@ -56,6 +50,8 @@ command_of_pair first second =
     then Some PortsJournal
     else if pointwise nat_eq first (codes "explain") && pointwise nat_eq second (codes "ledger")
     then Some ExplainLedger
+    else if pointwise nat_eq first (codes "audit") && pointwise nat_eq second (codes "long")
+    then Some AuditLong
     else if pointwise nat_eq first (codes "decode") then decoding_of_word second
     else if pointwise nat_eq first (codes "gen") then generation_of_word second
     else None
@@ -79,8 +75,10 @@ starts_threads Ports = true
 starts_threads PortsJournal = true
 starts_threads Margins = false
 starts_threads Audit = false
+starts_threads AuditLong = false
 starts_threads Groups = false
 starts_threads (Decode form) = false
+starts_threads Capture = false
 starts_threads (Generate number) = false
 starts_threads Help = false
 starts_threads Version = false

@@ -1,9 +1,8 @@
 //! The commands: which of them read an input, and what each makes of its octets.
 
-ghost use Rattle.std.specs.Prelude.{◌≡◌, ◌≤◌, true, [], length, IfOk, IfErr};
-ghost use Rattle.srpnet.specs.Commands.{reads_input as reads_input_spec, IsEndingOf, Output, RunsNothing};
+ghost use Rattle.std.specs.Prelude.{◌≡◌, ◌≤◌, ◌<◌, ◌^◌, true, [], length, IfOk, IfErr};
+ghost use Rattle.srpnet.specs.Commands.{reads_input as reads_input_spec, most_octets as most_octets_spec, IsEndingOf, Output, RunsNothing};
 ghost use Rattle.srpnet.specs.Outcomes.{EndsBy};
-ghost use Rattle.srpnet.specs.TopCall.{most_octets};
 ghost use Rattle.srpnet.specs.Words.{IsPlain, starts_threads};
 
 use crate::outcome::{Cause, no_journal};
@@ -55,16 +54,29 @@ pub fn reads_input(command: Command) -> bool
         | Command::PortsJournal
         | Command::Margins
         | Command::Audit
+        | Command::AuditLong
         | Command::Groups
-        | Command::Decode(_) => true,
+        | Command::Decode(_)
+        | Command::Capture => true,
         Command::Generate(_) | Command::Help | Command::Version => false,
+    }
+}
+
+/// The most octets of a command's input.
+pub fn most_octets(command: Command) -> usize
+    ensures most { result ≡ most_octets_spec command }
+    ensures few { result < 2 ^ 32 }
+{
+    match command {
+        Command::AuditLong => 67_108_864,
+        _ => 1_048_576,
     }
 }
 
 /// What a command that starts no thread prints for the octets of its input, with the journal of its
 /// run, or why there is nothing to print.
 pub fn output(alloc: Global, command: Command, octets: &[u8]) -> Result<CommandOutput, Cause>
-    requires few { length octets.now ≤ most_octets }
+    requires few { length octets.now ≤ most_octets_spec command }
     requires plain { IsPlain command }
     ensures output { IfOk result (λ o. Output command octets.now o.journal.ticks o.text) }
     ensures no_journal { RunsNothing command → IfOk result (λ o. o.journal.ticks ≡ []) }
@@ -82,8 +94,10 @@ pub fn output(alloc: Global, command: Command, octets: &[u8]) -> Result<CommandO
         Command::Ports | Command::PortsJournal => unreachable!(),
         Command::Margins => margins::output(alloc, octets),
         Command::Audit => Ok(text_alone(alloc, audit::output(alloc, octets)?)),
+        Command::AuditLong => Ok(text_alone(alloc, audit::output(alloc, octets)?)),
         Command::Groups => Ok(text_alone(alloc, groups::output(alloc, octets)?)),
         Command::Decode(form) => Ok(text_alone(alloc, decode::output(alloc, form, octets)?)),
+        Command::Capture => Ok(text_alone(alloc, decode::captured(alloc, octets)?)),
         Command::Generate(number) => generator::output(alloc, number),
         Command::Help => Ok(text_alone(alloc, pages::output(alloc, HELP)?)),
         Command::Version => Ok(text_alone(alloc, pages::output(alloc, VERSION)?)),

@@ -13,7 +13,7 @@
 //! |- margins what each port has left at the end of a run
 //! |- audit   whether a journal and a report are those of a legal run: parts, where two texts differ
 //! |- groups  a network that runs MMRP through the ticks of a group scenario: input, text
-//! |- decode  what captured PDUs say
+//! |- decode  what captured PDUs say, in a text or in a capture file
 //! |- generator  the scenario of a number, its run in short
 //! '- pages   --help and --version
 //! scenario   the input of the commands that read a scenario

@@ -20,7 +20,7 @@ pub enum Cause {
     BadWords,
     /// The source counted a fault. Status 3.
     ReadFault,
-    /// The input has more than 1,048,576 octets. Status 4.
+    /// The input has more octets than the command's input may have. Status 4.
     TooLong,
     /// The input isn't TOML. Status 5.
     NotToml,

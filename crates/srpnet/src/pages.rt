@@ -43,6 +43,9 @@ srpnet: the Stream Reservation Protocol (IEEE Std 802.1Q-2018) over a file
                     === output, and what run journal or ports journal printed
                     of it, and says whether a legal run prints just that; else
                     the line where it doesn't, and why, on standard error
+  srpnet audit long
+                    does the same of an input of up to 64 MiB, where the others
+                    have up to 1 MiB: for the journal of a large network
   srpnet groups     reads a file of groups on standard input, a network whose
                     stations join and part from groups by their addresses,
                     runs MMRP through its ticks, and prints which groups are
@@ -53,6 +56,9 @@ srpnet: the Stream Reservation Protocol (IEEE Std 802.1Q-2018) over a file
                     reads captured PDUs of that application on standard input,
                     one in a line as hexadecimal digits, and prints what each
                     says, or where it breaks
+  srpnet capture    reads a capture file of a link on standard input, as tcpdump
+                    or Wireshark saves it, and prints what each frame of MVRP,
+                    MSRP and MMRP in it says
   srpnet gen N      makes the scenario of the number N, 0 to 4294967295, runs
                     it, and prints the run in short; reads no input
   srpnet --help     this page

@@ -22,7 +22,9 @@ use network_laws::laws::{
     duties_are_met_in_every_run, stream_duties_are_met_in_every_run,
     streams_keep_their_laws_whenever_at_rest, vlans_match_whenever_at_rest,
 };
-use scenario_bounds::laws::class_b_stays_within_at_every_port;
+use scenario_bounds::laws::{
+    class_b_stays_within_at_every_port, each_class_gets_its_bandwidth_at_every_port,
+};
 use scenario_frames::flow_of;
 use scenario_frames::laws::every_window_stays_within;
 use srp_base::NoMemory;
@@ -91,6 +93,7 @@ pub fn with_flow(alloc: Global, scenario: &Scenario, run: Run) -> Result<RunWith
     what_holds_of_every_run();
     every_window_stays_within();
     class_b_stays_within_at_every_port();
+    each_class_gets_its_bandwidth_at_every_port();
     scenario.keeps_rules();
     let flow = flow_of(alloc, scenario, &run.timeline)?;
     Ok(RunWithFlow { run, flow })

@@ -9,7 +9,7 @@ ghost use Rattle.srpnet.specs.Made.{IsMade, IsLetOut, IsPrinted};
 ghost use Rattle.srpnet.specs.TopCall.{PartOf, StoppedIn, StopsWriting, GainsFront};
 ghost use Rattle.srpnet.specs.Words.{command_of as command_of_spec, plain_command_of as plain_command_of_spec, starts_threads, IsPlain};
 
-use crate::commands::{CommandOutput, output, output_by_threads, reads_input};
+use crate::commands::{CommandOutput, most_octets, output, output_by_threads, reads_input};
 use crate::outcome::{Cause, Ending, Outcome, status_of, tell};
 use crate::words::{Command, plain_command_of, threads_command_of};
 use srp_base::Seq;
@@ -18,9 +18,6 @@ use srp_report::Printout;
 use std::alloc::Global;
 use std::sync::Wait;
 use std::thread::Threads;
-
-/// The most octets of an input.
-const MOST_OCTETS: usize = 1_048_576;
 
 /// Reads the input of a command that starts no thread to its end, where it reads one, and makes the
 /// command's output.
@@ -35,7 +32,7 @@ fn read_output<I: Source>(
     if !reads_input(command) {
         return output(alloc, command, b"".as_slice());
     }
-    let octets = read_all(alloc, source, MOST_OCTETS)?;
+    let octets = read_all(alloc, source, most_octets(command))?;
     output(alloc, command, octets.as_slice())
 }
 
@@ -49,7 +46,7 @@ fn read_output_by_threads<R: Threads + Wait + Sync, I: Source>(
     requires { starts_threads command ≡ true }
     ensures { IsMade I.left I.faults command source.old source.new result }
 {
-    let whole = read_all(alloc, source, MOST_OCTETS)?;
+    let whole = read_all(alloc, source, most_octets(command))?;
     output_by_threads(rt, alloc, command, whole.as_slice())
 }
 

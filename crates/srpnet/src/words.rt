@@ -1,12 +1,11 @@
 //! The words of the command line.
 
 ghost use Rattle.std.specs.Prelude.{◌≡◌, true, Some, None, IfSome};
-ghost use Rattle.srpnet.specs.Words.{command_of as command_of_spec, plain_command_of as plain_command_of_spec, plain_of, starts_threads as starts_threads_spec, IsPlain, command_of_pair, command_of_word, form_of_word, decoding_of_word, generation_of_word, number_of_word as number_of_word_spec};
+ghost use Rattle.srpnet.specs.Words.{command_of as command_of_spec, plain_command_of as plain_command_of_spec, plain_of, starts_threads as starts_threads_spec, IsPlain, command_of_pair, command_of_word, form_of_word, decoding_of_word, generation_of_word};
 
-use itoa::Buffer;
 use mrpdu_codec::AppForm;
+use report_words::number_of_word;
 use srp_base::Seq;
-use std::str;
 
 /// What the program can be asked to do, by a row of the table of words each.
 #[derive(Clone, Copy)]
@@ -36,12 +35,17 @@ pub enum Command {
     /// `audit`: reads a scenario and what was printed of a run of it with its journal, and prints
     /// that they are right.
     Audit,
+    /// `audit long`: does the same of an input that may be longer, as the journal of a large
+    /// network is.
+    AuditLong,
     /// `groups`: reads a group scenario, runs MMRP through its ticks and prints which groups are
     /// registered where.
     Groups,
     /// `decode mvrp`, `decode msrp` or `decode mmrp`: reads a capture of PDUs of that application
     /// and prints what each says.
     Decode(AppForm),
+    /// `capture`: reads a capture file and prints what each of its frames of MRP says.
+    Capture,
     /// `gen N`: makes the scenario of a number, runs it and prints the summary of its run.
     Generate(u32),
     /// `--help`: prints a page of help.
@@ -124,6 +128,8 @@ fn command_of_word(word: &[u8]) -> Option<Command>
         Some(Command::Audit)
     } else if word == b"groups".as_slice() {
         Some(Command::Groups)
+    } else if word == b"capture".as_slice() {
+        Some(Command::Capture)
     } else if word == b"--help".as_slice() {
         Some(Command::Help)
     } else if word == b"--version".as_slice() {
@@ -144,6 +150,8 @@ fn command_of_pair(first: &[u8], second: &[u8]) -> Option<Command>
         Some(Command::PortsJournal)
     } else if first == b"explain".as_slice() && second == b"ledger".as_slice() {
         Some(Command::ExplainLedger)
+    } else if first == b"audit".as_slice() && second == b"long".as_slice() {
+        Some(Command::AuditLong)
     } else if first == b"decode".as_slice() {
         decoding_of_word(second)
     } else if first == b"gen".as_slice() {
@@ -184,31 +192,5 @@ fn generation_of_word(word: &[u8]) -> Option<Command>
     match number_of_word(word) {
         Some(number) => Some(Command::Generate(number)),
         None => None,
-    }
-}
-
-// The number of 32 bits that a word writes in decimal, without a sign and without a leading zero.
-fn number_of_word(word: &[u8]) -> Option<u32>
-    ensures { result ≡ number_of_word_spec word.now }
-{
-    match str::from_utf8(word) {
-        Ok(text) => number_of_text(text),
-        Err(_) => None,
-    }
-}
-
-// The number that a text writes: the one that is read of it, where the text is what is written of
-// that number.
-fn number_of_text(text: &str) -> Option<u32>
-    ensures { result ≡ number_of_word_spec text.now }
-{
-    let Ok(number) = text.parse::<u32>() else {
-        return None;
-    };
-    let mut digits = Buffer::new();
-    if text == digits.format(number) {
-        Some(number)
-    } else {
-        None
     }
 }

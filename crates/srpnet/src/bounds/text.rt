@@ -6,11 +6,11 @@ ghost use Rattle.srpnet.specs.BoundsText.{bound_line, bound_lines, wait_line};
 ghost use Rattle.srpnet.specs.RunText.{report_and_bounds};
 
 use frame_flow::{FlowResult, PortFlow};
-use report_words::port_name;
+use report_words::{port_name, put, put_octets};
 use scenario_bounds::{PortBound, bound_of_port};
 use srp_base::NoMemory;
 use srp_report::Printout;
-use std::alloc::{AllocError, Global};
+use std::alloc::Global;
 use topology_file::Scenario;
 use world_core::Run;
 
@@ -63,17 +63,16 @@ fn put_bound(out: &mut Vec<u8>, scenario: &Scenario, flow: &PortFlow) -> Result<
     let alloc = *out.allocator();
     let PortBound { wait, worst } = bound_of_port(alloc, scenario, flow)?;
     let port = port_name(alloc, scenario.nodes.as_slice(), &scenario.tree, flow.at)?;
-    put_line(out, port.as_slice(), wait, worst)?;
-    Ok(())
+    put_line(out, port.as_slice(), wait, worst)
 }
 
 // The line of a port of this name.
-fn put_line(out: &mut Vec<u8>, port: &[u8], wait: u64, worst: u64) -> Result<(), AllocError>
+fn put_line(out: &mut Vec<u8>, port: &[u8], wait: u64, worst: u64) -> Result<(), NoMemory>
     ensures { OnOk result (out.new.items ≡ out.old.items ++ wait_line port.now wait worst) }
 {
     let alloc = *out.allocator();
     let numbers = format!(in alloc; " wait {wait} worst {worst}\n")?;
-    out.extend_from_slice(b"bound ")?;
-    out.extend_from_slice(port)?;
-    out.extend_from_slice(numbers.as_bytes())
+    put(out, "bound ")?;
+    put_octets(out, port)?;
+    put(out, &numbers)
 }

@@ -28,4 +28,6 @@ returns-clause-holds c =
           c.in_ok-flow.ensures;
       class_b = c.class_b_stays_within_at_every_port.ensures plan changes flows rules timeline.are.ascend rates
           (λ k d below. (class_a k d below, both k d below)) c.in_ok-flow.ensures;
+      service = c.each_class_gets_its_bandwidth_at_every_port.ensures plan changes flows rules timeline.are.ascend rates
+          (λ k d below. (class_a k d below, both k d below)) c.in_ok-flow.ensures;
     }

@@ -1,4 +1,4 @@
-use Rattle.std.proofs.Common.{rules, ℕ, List, subst}
+use Rattle.std.proofs.Common.{rules, ℕ, ◌≤◌, List, length, subst}
 use Rattle.srpnet.specs.{ReadFault, TooLong, IsEndingOf, EndsBy}
 use Rattle.srpnet.proofs.{Inputs.ends_read, Judged.command_judges, Judged.judged_err, Judged.lacks_output, Judged.not_reading, Judged.threads_read}
 use Rattle.srpnet.proofs.top.read_output_by_threads.Goals as goal
@@ -18,7 +18,8 @@ returns g c =
       too_long = λ is. absurd (not_reading TooLong c.output_by_threads.result judged is);
       refused = search rules;
       ends = λ told is no_fault.
-          ends_read c.args.command c.in_ok-whole.whole.items c.output_by_threads.result _ _ reads c.in_ok-whole.ensures.whole c.in_ok-whole.ensures.within
+          ends_read c.args.command c.in_ok-whole.whole.items c.output_by_threads.result _ _ reads c.in_ok-whole.ensures.whole
+          (subst (λ (most : ℕ). length c.in_ok-whole.whole.items ≤ most) c.most_octets.ensures.most c.in_ok-whole.ensures.within)
           (subst (λ (os : List ℕ). EndsBy (IsEndingOf c.args.command os) c.output_by_threads.result) c.as_slice.ensures.value c.output_by_threads.ensures.ends)
           told is;
       unread = search (rules, reads);
