@@ -1,5 +1,5 @@
 //! `lock_speed`: how long calls take, through a turn lock (`turn_lock`) and under a `Mutex`, as a
-//! program whose time is taken from outside (`tools/speeds`).
+//! program whose time is taken from outside (`tools/lock-speed`).
 //!
 //! ```text
 //! words    what the words of the command line ask: a way, a number of threads, calls for each
