@@ -1,5 +1,6 @@
-//! Worked cases of class B's bounds, its longest waits and its windows (`class_b_bound`), and of
-//! what each class has of a window (`class_service`), called as a user calls.
+//! Worked cases of class B's bounds, its longest waits and its windows (`class_b_bound`), of what
+//! each class has of a window (`class_service`), and of how long frames wait and take
+//! (`delay_bound`), called as a user calls.
 //!
 //! Inputs that come near the tight bound are built so: one frame of other traffic of 12,336 bits at
 //! bit time 0; at bit time 1 a frame of class B, and frames of class A that use up the credit which
@@ -12,6 +13,8 @@
 
 #[cfg(test)]
 mod bounds;
+#[cfg(test)]
+mod delays;
 #[cfg(test)]
 mod service;
 #[cfg(test)]
