@@ -1,5 +1,5 @@
 -- A place other than one is true: as a test, and as a fact.
-use Rattle.std.proofs.Common.{◌≡◌, ◌≢◌, ◌↔◌, ℕ, zero, suc, Bool, true, false, List, [], ◌∷◌, refl, IsTrue, arith}
+use Rattle.std.proofs.Common.{◌≡◌, ◌≢◌, ◌↔◌, ◌⊎◌, inl, inr, ℕ, zero, suc, Bool, true, false, List, [], ◌∷◌, refl, IsTrue, arith}
 use Rattle.std.specs.Prelude.{slice_get, Some}
 use Rattle.attribute_propagation.specs.{is_any, elsewhere, IsElsewhere}
 
@@ -32,3 +32,15 @@ elsewhere_some (suc p) (false ∷ places) (suc i) ne at = elsewhere_some p place
 
 pub elsewhere_is : (p : ℕ) (places : List Bool) → IsTrue (elsewhere p places) ↔ IsElsewhere p places
 elsewhere_is p places = (some_elsewhere p places, λ at. elsewhere_some p places at.0 at.1 at.2)
+
+-- the rule at a place behind the application's own says: the application, or another place
+pub flat-cases : (at : ℕ) (own : Bool) (bs : List Bool) → elsewhere (suc at) (own ∷ bs) ≡ true → (own ≡ true) ⊎ (elsewhere at bs ≡ true)
+flat-cases at true bs h = inl refl
+flat-cases at false bs h = inr h
+
+pub flat-own : (at : ℕ) (bs : List Bool) → elsewhere (suc at) (true ∷ bs) ≡ true
+flat-own at bs = refl
+
+pub flat-other : (at : ℕ) (own : Bool) (bs : List Bool) → elsewhere at bs ≡ true → elsewhere (suc at) (own ∷ bs) ≡ true
+flat-other at true bs h = refl
+flat-other at false bs h = h

@@ -1,5 +1,6 @@
 mod AwaitingLemmas
 mod DirtyLemmas
-mod FlatLemmas
+pub mod FlatLemmas
 mod InPlace
 mod PortsLemmas
+pub mod Lists

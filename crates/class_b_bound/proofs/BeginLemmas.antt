@@ -38,20 +38,11 @@ record IsWide (gap cap most k : ℕ) (x y : ℤ) : Type 0 where
   waited : 0 < k → (pos (gap * k) +ℤ x) ≤ℤ pos (12336 * (gap + cap))
 
 wide_of : (gap cap most k : ℕ) (a b : Bool) (x y : ℤ) → Begins gap cap most 0 12336 k a b x y → IsWide gap cap most k x y
-wide_of gap cap most k true true x y b = record { low = b.low; high_a = b.high_a; high_b = b.high_b; both = b.both; waited = b.waited }
-wide_of gap cap most k true false x y b = record { low = b.low; high_a = b.high_a; high_b = b.high_b; both = b.both; waited = b.waited }
-wide_of gap cap most k false true x y b = record { low = b.low; high_a = b.high_a; high_b = b.high_b; both = b.both; waited = b.waited }
-wide_of gap cap most k false false x y b = record { low = b.low; high_a = b.high_a; high_b = b.high_b; both = b.both; waited = b.waited }
+wide_of gap cap most k a b x y h1 = grind arith
 
 rest_of_a : (gap cap m gone k : ℕ) (x : ℤ) → gone + suc m ≡ 12336 → pos 0 ≤ℤ x → (0 < k → (pos (gap * k) +ℤ x) ≤ℤ pos (12336 * (gap + cap)))
     → gap * k + gap * suc m ≤ 12336 * (gap + cap) + 12336 * gap
-rest_of_a gap cap m gone zero x size up waited =
-    let few : gap * suc m ≤ gap * 12336 = mul-le-mul_left gap (omega (arith, size)) in
-    omega (arith, few)
-rest_of_a gap cap m gone (suc k) x size up waited =
-    let few : gap * suc m ≤ gap * 12336 = mul-le-mul_left gap (omega (arith, size)) in
-    let before : (pos (gap * suc k) +ℤ x) ≤ℤ pos (12336 * (gap + cap)) = waited (omega arith) in
-    omega (arith, ints, few, before, up)
+rest_of_a gap cap m gone k x h1 h2 h3 = grind (arith, mul-le-mul_left, ints)
 
 start_a : (gap cap most sa sb m gone k next : ℕ) (wa wb : Bool) (x y : ℤ) → gone + suc m ≡ 12336 → HasSlopes gap cap most sa sb
     → IsWide gap cap most k x y → pos 0 ≤ℤ x → IsCounted wb false y k next
@@ -89,10 +80,7 @@ pub record IsKept (input : PortInput) (t : ℕ) : Type 0 where
   pub line : is_on_line input B t ≡ false
 
 pub kept_of : (input : PortInput) (t : ℕ) → is_kept_waiting input t ≡ true → IsKept input t
-kept_of input t e =
-    let parts = and_parts (is_waiting input B t) (int_le (pos 0) (credit_b_at input t) && not (is_on_line input B t)) e in
-    let more = and_parts (int_le (pos 0) (credit_b_at input t)) (not (is_on_line input B t)) parts.1 in
-    record { waits = parts.0; credit = at_least_zero (credit_b_at input t) more.0; line = not_true (is_on_line input B t) more.1 }
+kept_of input t e = grind (arith, and_parts, at_least_zero, not_true)
 
 pub waited-yes : (input : PortInput) (t : ℕ) → is_kept_waiting input t ≡ true → waited input (suc t) ≡ suc (waited input t)
 unfolding waited
@@ -116,10 +104,7 @@ counted input t b line =
     ]
 
 one_line : (l : Line) → does_send A l ≡ true → does_send B l ≡ false
-one_line Free e = refl
-one_line (Sends A) e = refl
-one_line (Sends B) e = absurd (false≢true e)
-one_line (Sends Other) e = refl
+one_line l h1 = grind (arith, false≢true)
 
 -- a port with caps as a bit time begins; the rate is gap + cap
 abbrev pub BeginsAt : PortInput → ℕ → ℕ → ℕ → ℕ → Type 0
@@ -160,9 +145,7 @@ next_is laws input gap cap most t m gone a b rate left size line_a line_b next =
 -- the wide facts of an input whose line is free
 wide_at : (input : PortInput) (gap cap most t : ℕ) → bits_left input t ≡ 0 → BeginsAt input gap cap most t
     → IsWide gap cap most (waited input t) (credit_a_at input t) (credit_b_at input t)
-wide_at input gap cap most t free b =
-    wide_of gap cap most (waited input t) (was_on_line input A t) (was_on_line input B t) (credit_a_at input t) (credit_b_at input t)
-    (subst (λ (n : ℕ). Begins gap cap most n (12336 - n) (waited input t) (was_on_line input A t) (was_on_line input B t) (credit_a_at input t) (credit_b_at input t)) free b)
+wide_at input gap cap most t free b = grind (arith, wide_of, Begins)
 
 -- a start of each traffic
 starts_next : (input : PortInput) (gap cap most t m gone : ℕ) (traffic : Traffic) → gone + suc m ≡ 12336
@@ -227,7 +210,7 @@ begins_zero gap cap most k a b x y zero_x zero_y none =
       behind_other = λ _ _ some. absurd (omega (arith, some));
     }
 
-waited-first : (input : PortInput) → waited input 0 ≡ 0
+pub waited-first : (input : PortInput) → waited input 0 ≡ 0
 unfolding waited
 waited-first input = refl
 

@@ -16,47 +16,25 @@ use Rattle.class_b_bound.proofs.BeginLemmas.{BeginsAt, begins, waited-yes}
 
 -- what goes into a product is at most the quotient, rounded up or down
 upto_ceil : (n d m : ℕ) → 0 < d → d * n ≤ m → n ≤ div_ceil m d
-upto_ceil n d m some h =
-    let up : m ≤ div_ceil m d * d = (div_ceil_times m d some).0 in
-    elim (cases_lt (div_ceil m d) n) [
-      | inl l ↦ let more : d * suc (div_ceil m d) ≤ d * n = mul-le-mul_left d l in absurd (omega (arith, up, more, h, some))
-      | inr l ↦ l
-    ]
+upto_ceil n d m some h = grind (arith, div_ceil_times, cases_lt, mul-le-mul_left)
 
 upto_quotient : (n d m : ℕ) → 0 < d → d * n ≤ m → n ≤ m / d
-upto_quotient n d m some h =
-    let split = div-add-mod' m d in
-    let small = mod-lt m some in
-    elim (cases_lt (m / d) n) [
-      | inl l ↦ let more : d * suc (m / d) ≤ d * n = mul-le-mul_left d l in absurd (omega (arith, split, small, more, h))
-      | inr l ↦ l
-    ]
+upto_quotient n d m some h = grind (arith, div-add-mod', mod-lt, cases_lt, mul-le-mul_left)
 
 product_of_quotient : (d m : ℕ) → d * (m / d) ≤ m
 product_of_quotient d m = let split = div-add-mod' m d in omega (arith, split)
 
 -- the caps leave some of the rate
 gap_some : (rate : Rate) (cap_a cap_ab : ℕ) → AreCaps rate cap_a cap_ab → 0 < bits_of rate - cap_a
-gap_some rate cap_a cap_ab caps = omega (arith, caps.0, caps.1, rate_some rate)
-  where
-    rate_some : (r : Rate) → 0 < bits_of r
-    rate_some M100 = omega arith
-    rate_some G1 = omega arith
-    rate_some G10 = omega arith
+gap_some rate cap_a cap_ab caps = grind arith
 
 -- ---- the tight bound is no greater
 
 pub wait_no_greater : (rate : Rate) (cap_a cap_ab : ℕ) → AreCaps rate cap_a cap_ab → (tight_bound_of rate cap_a cap_ab).wait ≤ (bound_of rate cap_a cap_ab).wait
-wait_no_greater rate cap_a cap_ab caps =
-    let r : ℕ = bits_of rate in
-    let gap : ℕ = r - cap_a in
-    let product : gap * (12336 * (r + gap) / gap) ≤ 12336 * (r + gap) = product_of_quotient gap (12336 * (r + gap)) in
-    upto_ceil (12336 * (r + gap) / gap) gap (r * 12336 + (12336 * cap_a + 12336 * r)) (gap_some rate cap_a cap_ab caps) (omega (arith, product))
+wait_no_greater rate cap_a cap_ab caps = grind (arith, product_of_quotient, upto_ceil, gap_some)
 
 hi_least : (rate : Rate) (cap_a cap_ab : ℕ) → AreCaps rate cap_a cap_ab → 24672 ≤ wait_of (bits_of rate) cap_a
-hi_least rate cap_a cap_ab caps =
-    let r : ℕ = bits_of rate in
-    upto_ceil 24672 (r - cap_a) (r * 12336 + (12336 * cap_a + 12336 * r)) (gap_some rate cap_a cap_ab caps) (omega arith)
+hi_least rate cap_a cap_ab caps = grind (arith, upto_ceil, gap_some)
 
 pub hi_no_greater : (rate : Rate) (cap_a cap_ab : ℕ) → AreCaps rate cap_a cap_ab → (tight_bound_of rate cap_a cap_ab).hi ≤ (bound_of rate cap_a cap_ab).hi
 hi_no_greater rate cap_a cap_ab caps =

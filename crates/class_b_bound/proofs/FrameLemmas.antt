@@ -1,9 +1,10 @@
 -- The longest wait is that of one frame, which heads class B's queue all along.
-use Rattle.std.proofs.Common.{◌≡◌, ℕ, zero, suc, ◌+◌, ◌-◌, ◌<◌, ◌≤◌, ◌⊎◌, true, false, Option, Some, None, refl, sym, ◌∙◌, ap, subst, inl, inr, arith}
-use Rattle.std.specs.Prelude.{All, is_some}
-use Rattle.std.proofs.lemmas.Bool.{cases_Bool, cases_eq, true≢false, false≢true}
+use Rattle.std.proofs.Common.{◌≡◌, ℕ, zero, suc, ◌+◌, ◌-◌, ◌<◌, ◌≤◌, ◌⊎◌, true, false, Some, sym, ◌∙◌, ap, subst, inl, inr, arith}
+use Rattle.std.specs.Prelude.{All}
+use Rattle.std.proofs.lemmas.Bool.{cases_Bool, cases_eq, true≢false}
 use Rattle.credit_shaper.specs.declared.{shaper.Traffic.Traffic, shaper.Traffic.TheVariants.B, port.Arrival.Arrival, port.Departure.Departure, port.PortInput.PortInput}
 use Rattle.credit_shaper.specs.{Credit.does_send, Port.IsPortInput, Trace.departure_at, Departures.sent_of, Departures.DepartsAt, Steps.head_at, Steps.Starts}
+use Rattle.credit_shaper.proofs.StepLemmas.{waits_head}
 use Rattle.class_b_bound.specs.{is_kept_waiting, HasWait, IsLongestWait, IsWaitOf, IsWorstWait, worst_wait_of}
 use Rattle.class_b_bound.proofs.BeginLemmas.{kept_of}
 
@@ -19,8 +20,7 @@ pub record HeadLaws : Type 0 where
 
 -- a frame that departs starts before the end
 starts_in_time : (input : PortInput) (x : Arrival) (t : ℕ) → All (λ d. d.start < input.end) (sent_of input) → DepartsAt input x t → t < input.end
-starts_in_time input x t all departs =
-    subst (λ (d : Departure). d.start < input.end) departs.2 (all departs.0 (departure_at t x) departs.1)
+starts_in_time input x t all departs = grind arith
 
 -- so a frame's wait is a wait
 wait_of_frame : (laws : HeadLaws) (input : PortInput) (x : Arrival) (from bits : ℕ) → IsWaitOf input x from bits → HasWait input bits
@@ -33,11 +33,6 @@ wait_of_frame laws input x from bits wait =
       ];
       each = λ t low high. (wait.each t low high).1;
     }
-
--- where class B is kept waiting some frame heads its queue
-head_of_some : (o : Option Arrival) → is_some o ≡ true → (x : Arrival) × (o ≡ Some x)
-head_of_some None w = absurd (false≢true w)
-head_of_some (Some x) w = (x, refl)
 
 -- a bit time more of the wait has the same frame
 next_kept : (laws : HeadLaws) (input : PortInput) (x : Arrival) (t : ℕ) → IsPortInput input → head_at input B t ≡ Some x
@@ -108,7 +103,7 @@ frame_of_wait laws input zero valid worst some = absurd (omega (arith, some))
 frame_of_wait laws input (suc n) valid worst some =
     let wait : HasWait input (suc n) = worst.there in
     let from : ℕ = wait.from in
-    let head = head_of_some (head_at input B from) (kept_of input from (wait.each from (omega arith) (omega arith))).waits in
+    let head = waits_head (head_at input B from) (kept_of input from (wait.each from (omega arith) (omega arith))).waits in
     let heads : (t : ℕ) → from ≤ t → t < from + suc n → head_at input B t ≡ Some head.0 = λ t low high.
     subst (λ (k : ℕ). head_at input B k ≡ Some head.0) (omega (arith, low))
     (each_kept laws input head.0 from (t - from) valid head.1 (λ u up down. wait.each u up (omega (arith, down, low, high)))) in (

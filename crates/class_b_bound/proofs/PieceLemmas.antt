@@ -7,46 +7,26 @@ use Rattle.srp_base.proofs.Arithmetic.{not_zero as below_is, above_is}
 use Rattle.srp_base.specs.Bandwidth.{bits_of}
 use Rattle.credit_shaper.specs.declared.{shaper.Traffic.TheVariants.B, port.PortInput.PortInput, piece.Piece.Piece}
 use Rattle.credit_shaper.specs.{Credit.credit_after_bits, Credit.does_send, Pieces.IsPiece, Pieces.IsAlike, Pieces.ArePieces, Bounds.credit_b_at, Trace.port_in}
+use Rattle.credit_shaper.proofs.CreditLemmas.{credit-waits}
 use Rattle.class_b_bound.specs.declared.waits.Waits.{Waits}
 use Rattle.class_b_bound.specs.{is_kept_waiting, IsWorstWait, HasWait, waited, IsWaits, keeps_b}
-use Rattle.class_b_bound.proofs.{BeginLemmas.waited-yes, BeginLemmas.waited-no, BoundLemmas.run_waited, WaitLemmas.wait_of_count}
-
--- a credit that waits and doesn't send rises by its slope
-credit_rises : (n rate slope : ℕ) (c : ℤ) → credit_after_bits n rate slope false true c ≡ c +ℤ pos (n * slope)
-unfolding credit_after_bits
-credit_rises zero rate slope c = omega (arith, ints)
-credit_rises (suc n) rate slope c =
-    let before : credit_after_bits n rate slope false true c ≡ c +ℤ pos (n * slope) = credit_rises n rate slope c in
-    omega (arith, ints)
+use Rattle.class_b_bound.proofs.{BeginLemmas.waited-yes, BeginLemmas.waited-no, BoundLemmas.run_waited, WaitLemmas.wait_of_count, BeginLemmas.waited-first}
 
 -- so whether class B is kept waiting is seen at the piece
 keeps_is : (rate n slope : ℕ) (c : ℤ) (waits sends : Bool)
     → (waits && (int_le (pos 0) (credit_after_bits n rate slope sends waits c) && not sends)) ≡ (waits && (int_le (pos 0) (c +ℤ pos (n * slope)) && not sends))
 keeps_is rate n slope c false sends = refl
-keeps_is rate n slope c true false = ap (λ k. int_le (pos 0) k && true) (credit_rises n rate slope c)
-keeps_is rate n slope c true true =
-    no_and (int_le (pos 0) (credit_after_bits n rate slope true true c)) ∙ sym (no_and (int_le (pos 0) (c +ℤ pos (n * slope))))
-  where
-    no_and : (b : Bool) → (b && false) ≡ false
-    no_and true = refl
-    no_and false = refl
+keeps_is rate n slope c true false = ap (λ k. int_le (pos 0) k && true) (credit-waits n rate slope c)
+keeps_is rate n slope c true true = grind arith
 
 kept_is : (input : PortInput) (p : Piece) (n : ℕ) → IsPiece input p → n < p.bits → is_kept_waiting input (p.bit + n) ≡ keeps_b p n
-kept_is input p n is l =
-    let same : IsAlike input p n = is.alike n l in
-    let t : ℕ = p.bit + n in
-    ap (λ w. w && (int_le (pos 0) (credit_b_at input t) && not (does_send B (port_in input t).line))) same.waits_b
-    ∙ (ap (λ c. p.waits_b && (int_le (pos 0) c && not (does_send B (port_in input t).line))) same.credit_b
-    ∙ (ap (λ s. p.waits_b && (int_le (pos 0) (credit_after_bits n (bits_of input.rate) p.shaper.slope_b (does_send B p.line) p.waits_b p.shaper.credit_b) && not (does_send B s))) same.line
-    ∙ keeps_is (bits_of input.rate) n p.shaper.slope_b p.shaper.credit_b p.waits_b (does_send B p.line)))
+kept_is input p n is l = grind (arith, keeps_is)
 
 -- ---- the count in a piece
 
 -- all kept: it goes on
 all_kept : (input : PortInput) (t n : ℕ) → ((j : ℕ) → j < n → is_kept_waiting input (t + j) ≡ true) → waited input (t + n) ≡ waited input t + n
-all_kept input t zero each =
-    let at : t + 0 ≡ t = omega arith in
-    let same : waited input (t + 0) ≡ waited input t = ap (waited input) at in omega (arith, same)
+all_kept input t zero each = grind arith
 all_kept input t (suc n) each =
     let at : t + suc n ≡ suc (t + n) = omega arith in
     let same : waited input (t + suc n) ≡ waited input (suc (t + n)) = ap (waited input) at in
@@ -77,18 +57,10 @@ then_kept input t some (suc n) s each l =
 -- each count in the piece, by how many bit times go by before class B is kept waiting
 counts : (input : PortInput) (t without n : ℕ) → ((j : ℕ) → j < n → is_kept_waiting input (t + j) ≡ nat_le without j) → 0 < n
     → waited input (t + n) ≡ cond (nat_le without 0) (waited input t + n) (n - without)
-counts input t zero n each some = all_kept input t n (λ j l. each j l ∙ le-leb 0 j (omega arith))
-counts input t (suc without) n each some =
-    let more : nat_le (suc without) 0 ≡ false = lt-leb (suc without) 0 (omega arith) in
-    then_kept input t (suc without) n (omega arith) each some ∙ sym (cond-false (nat_le (suc without) 0) (waited input t + n) (n - suc without) more)
+counts input t without n h1 h2 = grind (arith, all_kept, le-leb, lt-leb, then_kept, cond-false)
 
 least_more : (w without m n : ℕ) → m ≤ n → cond (nat_le without 0) (w + m) (m - without) ≤ cond (nat_le without 0) (w + n) (n - without)
-least_more w zero m n l = omega (arith, l)
-least_more w (suc without) m n l =
-    let more : nat_le (suc without) 0 ≡ false = lt-leb (suc without) 0 (omega arith) in
-    let one = cond-false (nat_le (suc without) 0) (w + m) (m - suc without) more in
-    let two = cond-false (nat_le (suc without) 0) (w + n) (n - suc without) more in
-    omega (arith, one, two, l)
+least_more w without m n h1 = grind (arith, lt-leb, cond-false)
 
 pub waits_after : (input : PortInput) (p : Piece) (w next : Waits) (without : ℕ) → IsPiece input p → IsWaits input w → p.bit ≡ w.bit
     → ((n : ℕ) → n < p.bits → keeps_b p n ≡ nat_le without n) → next.bit ≡ w.bit + p.bits
@@ -120,10 +92,6 @@ waits_after input p w next without is waits at kept bit now worst =
         | inr l ↦ let before : waited input t ≤ w.worst = waits.most t l in omega (arith, before, worst)
       ];
     }
-
-waited-first : (input : PortInput) → waited input 0 ≡ 0
-unfolding waited
-waited-first input = refl
 
 pub waits_first : (input : PortInput) (w : Waits) → w.bit ≡ 0 → w.now ≡ 0 → w.worst ≡ 0 → IsWaits input w
 waits_first input w bit now worst =

@@ -8,6 +8,7 @@ use Rattle.std.specs.Prelude.{ℤ, pos, ◌+ℤ◌, ◌-ℤ◌, ◌≤ℤ◌, �
 use Rattle.std.proofs.Math.Nat.{mul-le-mul_left}
 use Rattle.std.proofs.lemmas.{Bool.true≢false, Bool.false≢true, Int.ints, Int.clamps}
 use Rattle.credit_shaper.specs.Credit.{credit_after}
+use Rattle.credit_shaper.proofs.CreditLemmas.{rises, stays_above}
 
 -- as a bit time begins; `a` and `b` say whether the frame that was on the line is of class A or B
 pub record Begins (gap cap most rem gone k : ℕ) (a b : Bool) (x y : ℤ) : Type 0 where
@@ -31,17 +32,6 @@ pub record HasSlopes (gap cap most slope_a slope_b : ℕ) : Type 0 where
 pub record IsCounted (waits b : Bool) (y : ℤ) (k next : ℕ) : Type 0 where
   pub most : next ≤ suc k
   pub some : 0 < next → (next ≡ suc k) × (waits ≡ true) × (pos 0 ≤ℤ y) × (b ≡ false)
-
--- a credit that doesn't fall by a start rises by no more than its slope
-rises : (rate slope : ℕ) (waits : Bool) (c : ℤ) → credit_after rate slope false waits c ≤ℤ (c +ℤ pos slope)
-rises rate slope true c = omega (arith, ints)
-rises rate slope false c = omega (arith, ints, clamps)
-
--- nor is it below a bound that isn't above 0
-stays_above : (rate slope least : ℕ) (waits : Bool) (c : ℤ) → pos 0 ≤ℤ (c +ℤ pos least)
-    → pos 0 ≤ℤ (credit_after rate slope false waits c +ℤ pos least)
-stays_above rate slope least true c h = omega (arith, ints, h)
-stays_above rate slope least false c h = omega (arith, ints, clamps, h)
 
 -- where the class waits with at most so much, or doesn't wait
 stays_below : (rate slope most : ℕ) (waits : Bool) (c : ℤ) → (waits ≡ true → c ≤ℤ pos most)

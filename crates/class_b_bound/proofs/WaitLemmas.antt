@@ -8,13 +8,11 @@ use Rattle.credit_shaper.specs.declared.{shaper.Traffic.Traffic, port.PortInput.
 use Rattle.credit_shaper.specs.declared.shaper.Traffic.TheVariants.{A, B, Other}
 use Rattle.credit_shaper.specs.{Credit.credit_after, Credit.does_send, Port.IsPortInput, Bounds.credit_b_at, Bounds.slope_b_at, Bounds.is_on_line, Steps.is_waiting, Steps.Starts}
 use Rattle.class_b_bound.specs.{BitLaws, is_kept_waiting, HasWait, IsWorstWait, waited, most_waited, worst_wait_of}
-use Rattle.class_b_bound.proofs.{BeginLemmas.IsKept, BeginLemmas.kept_of, BeginLemmas.waited-yes, BeginLemmas.waited-no, BoundLemmas.run_waited}
+use Rattle.class_b_bound.proofs.{BeginLemmas.IsKept, BeginLemmas.kept_of, BeginLemmas.waited-yes, BeginLemmas.waited-no, BoundLemmas.run_waited, BeginLemmas.waited-first}
 
 -- class B waits with credit, so it is kept waiting unless a frame of it is on the line
 on_line_if : (waits line : Bool) (c : ℤ) → waits ≡ true → pos 0 ≤ℤ c → (waits && (int_le (pos 0) c && not line)) ≡ false → line ≡ true
-on_line_if true true c w up none = refl
-on_line_if true false c w up none = absurd (true≢false (sym (ap (λ b. b && true) (zero_at_least c up)) ∙ none))
-on_line_if false line c w up none = absurd (false≢true w)
+on_line_if waits line c h1 h2 h3 = grind (arith, true≢false, zero_at_least, false≢true)
 
 kept_unless : (input : PortInput) (t : ℕ) → is_waiting input B t ≡ true → pos 0 ≤ℤ credit_b_at input t → is_kept_waiting input t ≡ false
     → is_on_line input B t ≡ true
@@ -53,18 +51,9 @@ ends_with_start laws goes_on input t valid here none =
 
 -- ---- the count of each bit time
 
-waited-first : (input : PortInput) → waited input 0 ≡ 0
-unfolding waited
-waited-first input = refl
-
 pub waited_most : (input : PortInput) (t : ℕ) → waited input t ≤ t
 waited_most input zero = omega (arith, waited-first input)
-waited_most input (suc t) =
-    let before : waited input t ≤ t = waited_most input t in
-    elim (cases_Bool (is_kept_waiting input t)) [
-      | inl e ↦ omega (arith, waited-yes input t e, before)
-      | inr e ↦ omega (arith, waited-no input t e)
-    ]
+waited_most input (suc t) = grind (arith, waited_most input t, cases_Bool, waited-yes, waited-no)
 
 -- the bit times that it counts
 waited_run : (input : PortInput) (t u : ℕ) → t ≤ u + waited input t → u < t → is_kept_waiting input u ≡ true

@@ -2,20 +2,15 @@
 use Rattle.std.proofs.Common.{◌≡◌, ℕ, zero, suc, ◌+◌, ◌-◌, ◌*◌, ◌<◌, ◌≤◌, Bool, true, false, cond, List, [], ◌∷◌, get_or, refl, sym, ◌∙◌, ap, subst, inl, inr, arith}
 use Rattle.std.specs.Prelude.{All, AllPairs, count_by, sum_by, nat_le, nat_lt, ◌&&◌, ◌||◌, min, max, ℤ, pos, ◌+ℤ◌, ◌-ℤ◌, ◌≤ℤ◌}
 use Rattle.std.specs.List.{range_with_len, list_any}
-use Rattle.std.proofs.lemmas.{Bool.cases_Bool, Bool.cases_lt, Bool.le-leb, Bool.lt-leb, Bool.lt-ltb, Bool.le-ltb, Bool.ltb-true, Bool.and_parts, Int.ints, Int.clamps, List.Elements.All-head, List.Elements.All-tail, List.Elements.All-cons, List.Sums.sum_by-cons}
+use Rattle.std.proofs.lemmas.{Bool.cases_Bool, Bool.cases_lt, Bool.le-leb, Bool.lt-leb, Bool.lt-ltb, Bool.le-ltb, Bool.ltb-true, Bool.and_parts, Int.ints, List.Elements.All-head, List.Elements.All-tail, List.Elements.All-cons, List.Sums.sum_by-cons}
 use Rattle.srp_base.proofs.Arithmetic.{mul_add, spent_sum}
 use Rattle.srp_base.specs.Bandwidth.{bits_of}
 use Rattle.credit_shaper.specs.declared.{shaper.Traffic.TheVariants.B, port.SlopeChange.SlopeChange, port.PortInput.PortInput, port.Departure.Departure}
 use Rattle.credit_shaper.specs.{Credit.credit_after, Port.last_change, Port.no_slopes, Departures.departs_as, Departures.is_sending, Bounds.credit_b_at, Bounds.slope_b_at, Bounds.is_on_line, Steps.is_waiting}
+use Rattle.credit_shaper.proofs.WindowLemmas.{spent_by}
 use Rattle.class_b_bound.specs.{BoundB, IsCreditBWithin, bits_b, area_b, IsWindowBWithin, overlap, taken_by, bits_over, area_over}
 
 -- ---- what class B takes is what the slopes give, and what its credit falls by
-
-spent_by : (rate slope : ℕ) (sends waits : Bool) (c : ℤ)
-    → (credit_after rate slope sends waits c +ℤ pos (rate * cond sends 1 0)) ≤ℤ (c +ℤ pos slope)
-spent_by rate slope true waits c = omega (arith, ints)
-spent_by rate slope false true c = omega (arith, ints)
-spent_by rate slope false false c = omega (arith, ints, clamps)
 
 -- the credit's step of an input, as a law has it
 abbrev pub HasSteps : PortInput → Type 0
@@ -72,25 +67,11 @@ to_number b d e = let f : Bool → ℕ = λ x. cond x 1 0 in ap f e
 
 -- a departure's part of one bit time
 taken_one : (d : Departure) (t : ℕ) → taken_by t (suc t) d ≡ cond (departs_as B d && (nat_le d.start t && nat_lt t d.end)) 1 0
-taken_one d t =
-    elim (departs_as B d) as (λ b. cond b (overlap d.start d.end t (suc t)) 0 ≡ cond (b && (nat_le d.start t && nat_lt t d.end)) 1 0) [
-      | false ↦ refl
-      | true ↦ elim (cases_lt t d.start) [
-        | inl early ↦ rw (lt-leb d.start t early) (omega (arith, early))
-        | inr begun ↦ elim (cases_lt t d.end) [
-          | inl on ↦ rw (le-leb d.start t begun, lt-ltb t d.end on) (omega (arith, begun, on))
-          | inr over ↦ rw (le-leb d.start t begun, le-ltb t d.end over) (omega (arith, begun, over))
-        ]
-      ]
-    ]
+taken_one d t = grind (arith, cases_lt, lt-leb, le-leb, lt-ltb, le-ltb)
 
 -- a departure's part of a window is that of its first bit time and that of the rest
 taken_split : (d : Departure) (from to : ℕ) → from < to → taken_by from to d ≡ taken_by from (suc from) d + taken_by (suc from) to d
-taken_split d from to l =
-    elim (departs_as B d) as (λ b. cond b (overlap d.start d.end from to) 0 ≡ cond b (overlap d.start d.end from (suc from)) 0 + cond b (overlap d.start d.end (suc from) to) 0) [
-      | true ↦ omega (arith, l)
-      | false ↦ refl
-    ]
+taken_split d from to l = grind arith
 
 bits_split : (ds : List Departure) (from to : ℕ) → from < to → bits_over from to ds ≡ bits_over from (suc from) ds + bits_over (suc from) to ds
 bits_split [] from to l = refl
@@ -99,17 +80,7 @@ bits_split (d ∷ ds) from to l = omega (arith, taken_split d from to l, bits_sp
 -- once one has the line no later one has
 none_later : (ds : List Departure) (d : Departure) (t : ℕ) → t < d.end → All (λ e. d.end ≤ e.start) ds → bits_over t (suc t) ds ≡ 0
 none_later [] d t on later = refl
-none_later (e ∷ ds) d t on later =
-    let L : Departure → Type 0 = λ x. d.end ≤ x.start in
-    let far : d.end ≤ e.start = All-head L e ds later in
-    let out : (departs_as B e && (nat_le e.start t && nat_lt t e.end)) ≡ false =
-    rw (lt-leb e.start t (omega (arith, far, on))) (no_and (departs_as B e)) in
-    let here : taken_by t (suc t) e ≡ 0 = taken_one e t ∙ to_number (is_sending B t e) false out in
-    omega (arith, here, none_later ds d t on (All-tail L e ds later))
-  where
-    no_and : (b : Bool) → (b && false) ≡ false
-    no_and true = refl
-    no_and false = refl
+none_later (e ∷ ds) d t on later = grind (arith, none_later ds d t on (All-tail (λ x. d.end ≤ x.start) e ds later), All-head, lt-leb, taken_one, All-tail)
 
 -- in one bit time the line sends class B exactly where a departure of it has the line
 bits_one : (ds : List Departure) (t : ℕ) → AllPairs (λ d e. d.end ≤ e.start) ds → bits_over t (suc t) ds ≡ cond (list_any (is_sending B t) ds) 1 0
@@ -136,10 +107,7 @@ bits_one (d ∷ ds) t apart =
 
 bits_none : (ds : List Departure) (from : ℕ) → bits_over from from ds ≡ 0
 bits_none [] from = refl
-bits_none (d ∷ ds) from =
-    let here : taken_by from from d ≡ 0 =
-    elim (departs_as B d) as (λ b. cond b (overlap d.start d.end from from) 0 ≡ 0) [ true ↦ omega arith | false ↦ refl ] in
-    omega (arith, here, bits_none ds from)
+bits_none (d ∷ ds) from = grind (arith, bits_none ds from)
 
 -- over a window
 pub bits_are : (input : PortInput) (ds : List Departure) (from n : ℕ) → AllPairs (λ d e. d.end ≤ e.start) ds
@@ -166,26 +134,14 @@ bits_are input ds from (suc n) apart line =
 
 sum_same : (f g : ℕ → ℕ) (from n : ℕ) → ((t : ℕ) → from ≤ t → t < from + n → f t ≡ g t) → sum_by f (range_with_len from n) ≡ sum_by g (range_with_len from n)
 sum_same f g from zero each = refl
-sum_same f g from (suc n) each =
-    let rest : sum_by f (range_with_len (from + 1) n) ≡ sum_by g (range_with_len (from + 1) n) =
-    sum_same f g (from + 1) n (λ t low high. each t (omega (arith, low)) (omega (arith, high))) in
-    let here = each from (omega arith) (omega arith) in
-    omega (arith, sum_by-cons f from (range_with_len (from + 1) n), sum_by-cons g from (range_with_len (from + 1) n), rest, here)
+sum_same f g from (suc n) each = grind (arith, sum_same f g (from + 1) n (λ t low high. each t (omega (arith, low)) (omega (arith, high))), sum_by-cons)
 
 sum_const : (f : ℕ → ℕ) (slope from n : ℕ) → ((t : ℕ) → from ≤ t → t < from + n → f t ≡ slope) → sum_by f (range_with_len from n) ≡ n * slope
 sum_const f slope from zero each = omega arith
-sum_const f slope from (suc n) each =
-    let rest : sum_by f (range_with_len (from + 1) n) ≡ n * slope = sum_const f slope (from + 1) n (λ t low high. each t (omega (arith, low)) (omega (arith, high))) in
-    let here = each from (omega arith) (omega arith) in
-    omega (arith, sum_by-cons f from (range_with_len (from + 1) n), rest, here)
+sum_const f slope from (suc n) each = grind (arith, sum_const f slope (from + 1) n (λ t low high. each t (omega (arith, low)) (omega (arith, high))), sum_by-cons)
 
 sum_parts : (f : ℕ → ℕ) (from m n : ℕ) → sum_by f (range_with_len from (m + n)) ≡ sum_by f (range_with_len from m) + sum_by f (range_with_len (from + m) n)
-sum_parts f from zero n =
-    let at : from ≡ from + 0 = omega arith in
-    let size : 0 + n ≡ n = omega arith in
-    let whole : sum_by f (range_with_len from (0 + n)) ≡ sum_by f (range_with_len (from + 0) n) =
-    ap (λ k. sum_by f (range_with_len from k)) size ∙ ap (λ k. sum_by f (range_with_len k n)) at in
-    omega (arith, whole)
+sum_parts f from zero n = grind arith
 sum_parts f from (suc m) n =
     let rest = sum_parts f (from + 1) m n in
     let size : suc m + n ≡ suc (m + n) = omega arith in
@@ -196,10 +152,7 @@ sum_parts f from (suc m) n =
 -- before all changes the slope is that of before
 change_none : (cs : List SlopeChange) (t : ℕ) (current : SlopeChange) → All (λ x. t < x.bit) cs → last_change t current cs ≡ current
 change_none [] t current late = refl
-change_none (c ∷ cs) t current late =
-    let L : SlopeChange → Type 0 = λ x. t < x.bit in
-    let out : nat_le c.bit t ≡ false = lt-leb c.bit t (All-head L c cs late) in
-    rw out (change_none cs t current (All-tail L c cs late))
+change_none (c ∷ cs) t current late = grind (arith, change_none cs t current (All-tail (λ x. t < x.bit) c cs late), lt-leb, All-head, All-tail)
 
 area_is : (cs : List SlopeChange) (from n : ℕ) (current : SlopeChange) → AllPairs (λ x y. x.bit < y.bit) cs
     → area_over from (from + n) current.slope_b cs ≡ sum_by (λ t. (last_change t current cs).slope_b) (range_with_len from n)
@@ -256,13 +209,7 @@ bits_few : (ds : List Departure) (from n : ℕ) → AllPairs (λ d e. d.end ≤ 
 bits_few ds from zero apart =
     let none : bits_over from (from + 0) ds ≡ 0 = ap (λ to. bits_over from to ds) (omega arith) ∙ bits_none ds from in
     omega (arith, none)
-bits_few ds from (suc n) apart =
-    let whole : bits_over from (from + suc n) ds ≡ bits_over from (suc from + n) ds = ap (λ to. bits_over from to ds) (omega arith) in
-    let split = bits_split ds from (suc from + n) (omega arith) in
-    let one : bits_over from (suc from) ds ≡ cond (list_any (is_sending B from) ds) 1 0 = bits_one ds from apart in
-    let most : cond (list_any (is_sending B from) ds) 1 0 ≤ 1 = elim (list_any (is_sending B from) ds) as (λ b. cond b 1 0 ≤ 1) [ true ↦ omega arith | false ↦ omega arith ] in
-    let rest : bits_over (suc from) (suc from + n) ds ≤ n = bits_few ds (suc from) n apart in
-    omega (arith, whole, split, one, most, rest)
+bits_few ds from (suc n) apart = grind (arith, bits_few ds (suc from) n apart, bits_split, bits_one)
 
 pub bits_at_most : (ds : List Departure) (from to : ℕ) → from ≤ to → AllPairs (λ d e. d.end ≤ e.start) ds → bits_over from to ds ≤ to - from
 bits_at_most ds from to up apart =

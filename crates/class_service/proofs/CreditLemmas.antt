@@ -2,27 +2,22 @@
 use Rattle.std.proofs.Common.{◌≡◌, ℕ, zero, suc, ◌+◌, ◌-◌, ◌*◌, ◌≤◌, ◌⊎◌, inl, inr, Bool, true, false, cond, [], ◌∷◌, ◌++◌, refl, sym, ◌∙◌, ap, subst, arith}
 use Rattle.std.specs.Prelude.{◌||◌, sum_by, ℤ, pos, ◌+ℤ◌, ◌-ℤ◌, ◌≤ℤ◌, int_lt}
 use Rattle.std.specs.{Int.int_min, List.range_with_len}
-use Rattle.std.proofs.lemmas.{Bool.cases_Bool, Bool.true≢false, Bool.false≢true, Int.ints, Int.clamps, List.Sums.sum_by_push}
-use Rattle.srp_base.proofs.Arithmetic.{mul_add}
+use Rattle.std.proofs.lemmas.{Bool.cases_Bool, Bool.true≢false, Bool.false≢true, Int.ints, List.Sums.sum_by_push}
+use Rattle.srp_base.proofs.{Arithmetic.mul_add, Lists.range-push}
 use Rattle.srp_base.specs.Bandwidth.{bits_of}
 use Rattle.credit_shaper.specs.declared.{shaper.Traffic.Traffic, port.PortInput.PortInput}
 use Rattle.credit_shaper.specs.{Credit.credit_after, Bounds.is_on_line, Bounds.bit_times, Steps.is_waiting}
+use Rattle.credit_shaper.proofs.WindowLemmas.{spent_by}
 use Rattle.class_service.specs.{IsClass, credit_at, slope_at, is_busy, IsBusy, bits_in, area_in, IsCreditKept, IsServed, TakesNoMore, IsFresh, LosesNone, CreditLaws}
 
 -- ---- sums over bit times grow at their end
 
-range_more : (from n : ℕ) → range_with_len from (suc n) ≡ range_with_len from n ++ (from + n) ∷ []
-range_more from zero = let at : from + 0 ≡ from = omega arith in rw at refl
-range_more from (suc n) =
-    let at : from + 1 + n ≡ from + suc n = omega arith in
-    ap (λ ts. from ∷ ts) (range_more (from + 1) n) ∙ ap (λ t. from ∷ (range_with_len (from + 1) n ++ t ∷ [])) at
-
 -- up to the next bit time
 pub times_more : (from t : ℕ) → from ≤ t → bit_times from (suc t) ≡ bit_times from t ++ t ∷ []
 times_more from t up =
-    let long : suc t - from ≡ suc (t - from) = omega (arith, up) in
+    let long : suc t - from ≡ t - from + 1 = omega (arith, up) in
     let at : from + (t - from) ≡ t = omega (arith, up) in
-    ap (range_with_len from) long ∙ (range_more from (t - from) ∙ ap (λ k. range_with_len from (t - from) ++ k ∷ []) at)
+    ap (range_with_len from) long ∙ (range-push from (t - from) ∙ ap (λ k. range_with_len from (t - from) ++ k ∷ []) at)
 
 pub sum_more : (f : ℕ → ℕ) (from t : ℕ) → from ≤ t → sum_by f (bit_times from (suc t)) ≡ sum_by f (bit_times from t) + f t
 sum_more f from t up = ap (sum_by f) (times_more from t up) ∙ sum_by_push f (bit_times from t) t
@@ -56,12 +51,6 @@ idle_by rate slope false false c idle = elim (least_is (pos 0) (c +ℤ pos slope
   where
     least_is : (x y : ℤ) → (int_min x y ≡ y) ⊎ (int_min x y ≡ x)
     least_is x y = elim (int_lt y x) as (λ b. (cond b y x ≡ y) ⊎ (cond b y x ≡ x)) [ true ↦ inl refl | false ↦ inr refl ]
-
-spent_by : (rate slope : ℕ) (sends waits : Bool) (c : ℤ)
-    → (credit_after rate slope sends waits c +ℤ pos (rate * cond sends 1 0)) ≤ℤ (c +ℤ pos slope)
-spent_by rate slope true waits c = omega (arith, ints)
-spent_by rate slope false true c = omega (arith, ints)
-spent_by rate slope false false c = omega (arith, ints, clamps)
 
 -- ---- a window with one bit time more
 

@@ -7,8 +7,9 @@ use Rattle.srp_base.specs.Bandwidth.{bits_of}
 use Rattle.credit_shaper.specs.declared.{shaper.Traffic.Traffic, shaper.Line.Line, shaper.Line.TheVariants.Free, shaper.Line.TheVariants.Sends, port.PortInput.PortInput}
 use Rattle.credit_shaper.specs.declared.shaper.Traffic.TheVariants.{A, B, Other}
 use Rattle.credit_shaper.specs.{Credit.credit_after, Credit.does_send, Port.IsPortInput, Trace.port_in, Bounds.credit_a_at, Bounds.credit_b_at, Bounds.slope_a_at, Bounds.slope_b_at, Bounds.is_on_line, Bounds.IsStretch, Bounds.IsCreditAWithin, Steps.is_waiting, Steps.was_on_line, Steps.bits_left, Steps.bits_ahead, Steps.GoesOn, Steps.Starts}
+use Rattle.credit_shaper.proofs.CreditLemmas.{rises}
 use Rattle.class_service.specs.{IsClass, credit_at, slope_at, HaveMostSlopes, HasRoom, high_of, CreditLaws, LineLaws}
-use Rattle.class_service.proofs.{RangeLemmas.rises, RangeLemmas.from_short, RiseLemmas.times, RiseLemmas.Rises, RiseLemmas.rises_first, RiseLemmas.rises_a, RiseLemmas.starts_a, RiseLemmas.rises_b, RiseLemmas.rises_other, RiseLemmas.rises_short, RiseLemmas.high_by}
+use Rattle.class_service.proofs.{RangeLemmas.from_short, RiseLemmas.times, RiseLemmas.Rises, RiseLemmas.rises_first, RiseLemmas.rises_a, RiseLemmas.starts_a, RiseLemmas.rises_b, RiseLemmas.rises_other, RiseLemmas.rises_short, RiseLemmas.high_by}
 
 -- ---- a class's next credit
 

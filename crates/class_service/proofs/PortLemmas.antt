@@ -2,10 +2,11 @@
 -- to the line, and each bit time in which the line sends takes one.
 use Rattle.std.proofs.Common.{◌≡◌, ℕ, zero, suc, ◌+◌, ◌-◌, ◌<◌, ◌≤◌, ◌⊎◌, inl, inr, Bool, true, false, cond, List, [], ◌∷◌, ◌++◌, get_or, Option, Some, None, refl, sym, ◌∙◌, ap, subst, arith}
 use Rattle.std.specs.Prelude.{All, nat_le, nat_lt, ◌==◌, filter, sum_by, is_some}
-use Rattle.std.proofs.lemmas.{Bool.cases_Bool, Bool.cases_lt, Bool.cases_eq, Bool.cond-true, Bool.cond-false, Bool.le-leb, Bool.lt-leb, Bool.lt-ltb, Bool.le-ltb, Bool.eq-eqb, Bool.ne_eqb, Bool.eqb-true, Bool.or_parts, Bool.true≢false, List.Elements.All-head, List.Elements.All-tail, List.Elements.All-cons, List.Elements.All-append, List.Elements.All-filter, List.Elements.filter-append, List.Elements.filter_passes, List.Sums.sum_by-cons, List.Sums.sum_by-append}
+use Rattle.std.proofs.lemmas.{Bool.cases_Bool, Bool.cases_lt, Bool.cases_eq, Bool.cond-true, Bool.cond-false, Bool.le-leb, Bool.lt-leb, Bool.lt-ltb, Bool.le-ltb, Bool.eq-eqb, Bool.ne_eqb, Bool.eqb-true, Bool.or_parts, Bool.true≢false, List.Elements.All-head, List.Elements.All-tail, List.Elements.All-append, List.Elements.All-filter, List.Elements.filter-append, List.Elements.filter_passes, List.Sums.sum_by-cons, List.Sums.sum_by-append}
 use Rattle.credit_shaper.specs.declared.{shaper.Traffic.Traffic, shaper.Line.Line, shaper.Line.TheVariants.Free, shaper.Line.TheVariants.Sends, port.Arrival.Arrival, port.PortInput.PortInput}
 use Rattle.credit_shaper.specs.declared.shaper.Traffic.TheVariants.{A, B, Other}
 use Rattle.credit_shaper.specs.{Credit.traffic_number, Credit.does_send, Port.IsPortInput, Port.is_of, Port.arrivals_at, Trace.Port, Trace.head_of, Trace.does_wait, Trace.turn_of, Trace.without_head, Trace.starts, Trace.sends_frame, Trace.with_start, Trace.with_arrivals, Trace.port_at, Trace.port_in, Bounds.is_on_line, Steps.is_waiting, Steps.bits_left, Steps.bits_ahead, Steps.Starts, Departures.arrivals_before}
+use Rattle.credit_shaper.proofs.BoundLemmas.{head_within, All-without_head}
 use Rattle.class_service.specs.{IsIdleBefore, bits_in, HasLongest, bits_among, bits_to_send, HasNoneBefore, LineLaws}
 use Rattle.class_service.proofs.CreditLemmas.{bit_of, bits_more, sum_none}
 
@@ -221,32 +222,13 @@ carried laws input traffic s t valid idle up =
 
 -- ---- what starts is a frame of the input
 
-without_all : (P : Arrival → Type 0) (kind : Traffic) (w : List Arrival) → All P w → All P (without_head kind w)
-without_all P kind [] all = all
-without_all P kind (x ∷ xs) all =
-    elim (is_of kind x) as (λ b. All P (cond b xs (x ∷ without_head kind xs))) [
-      | true ↦ All-tail P x xs all
-      | false ↦ All-cons P x (without_head kind xs) (All-head P x xs all) (without_all P kind xs (All-tail P x xs all))
-    ]
-
-head_all : (P : Arrival → Type 0) (kind : Traffic) (w : List Arrival) (x : Arrival) → All P w → head_of kind w ≡ Some x → P x
-head_all P kind [] x all e = cc
-head_all P kind (y ∷ ys) x all e =
-    elim (cases_Bool (is_of kind y)) [
-      | inl own ↦
-          let found : Some y ≡ Some x = sym (cond-true (is_of kind y) (Some y) (head_of kind ys) own) ∙ e in
-          let same : y ≡ x = cc in
-          subst P same (All-head P y ys all)
-      | inr out ↦ head_all P kind ys x (All-tail P y ys all) (sym (cond-false (is_of kind y) (Some y) (head_of kind ys) out) ∙ e)
-    ]
-
 all_wait : (P : Arrival → Type 0) (input : PortInput) (t : ℕ) → All P input.arrivals → All P (port_at input t).waiting
 unfolding port_at
 all_wait P input zero all = λ k d l. absurd (omega (arith, l))
 all_wait P input (suc t) all =
     let q : Port = with_arrivals input t (port_at input t) in
     let come : All P q.waiting = All-append P (port_at input t).waiting (arrivals_at input.arrivals t) (all_wait P input t all) (All-filter (λ x. x.bit == t) P input.arrivals all) in
-    with_start_cases (λ p. All P p.waiting) t q (λ _. come) (λ _. come) (λ kind x _ _ _. without_all P x.traffic q.waiting come)
+    with_start_cases (λ p. All P p.waiting) t q (λ _. come) (λ _. come) (λ kind x _ _ _. All-without_head P x.traffic q.waiting come)
 
 -- a number for each line, by which two are compared
 abbrev line_number : Line → ℕ
@@ -269,7 +251,7 @@ starts_of P input traffic t all s =
     (λ l _. absurd (omega (arith, left, l)))
     (λ _ e. absurd (no_start traffic e))
     (λ kind x _ e own sends.
-    (x, head_all P kind q.waiting x all e, eq-eqb (traffic_number x.traffic) (traffic_number traffic) (same_number x.traffic traffic sends), omega arith))
+    (x, head_within P kind q.waiting x all e, eq-eqb (traffic_number x.traffic) (traffic_number traffic) (same_number x.traffic traffic sends), omega arith))
     s.line
 
 -- no frame of a traffic starts that is longer than those of the input
@@ -294,7 +276,7 @@ early_wait input (suc t) =
     (λ k d l. omega (arith, early_wait input t k d l))
     (λ k d l. let now : (get_or (arrivals_at input.arrivals t) k d).bit ≡ t = eqb-true (get_or (arrivals_at input.arrivals t) k d).bit t
     (filter_passes (λ x. x.bit == t) input.arrivals k d l) in omega (arith, now)) in
-    with_start_cases (λ p. All E p.waiting) t q (λ _. come) (λ _. come) (λ kind x _ _ _. without_all E x.traffic q.waiting come)
+    with_start_cases (λ p. All E p.waiting) t q (λ _. come) (λ _. come) (λ kind x _ _ _. All-without_head E x.traffic q.waiting come)
 
 -- where no frame of a traffic arrives before a bit time, what waits or arrives before it is of other traffic
 others_wait : (input : PortInput) (traffic : Traffic) (z t : ℕ) → HasNoneBefore traffic z input.arrivals → t < z
@@ -328,7 +310,7 @@ none_waiting input traffic z t none l =
     let q : Port = with_arrivals input t (port_at input t) in
     let all : All N q.waiting = others_wait input traffic z t none l in
     with_start_cases (λ p. does_wait traffic p.waiting ≡ false) t q (λ _. none_of traffic q.waiting all) (λ _. none_of traffic q.waiting all)
-    (λ kind x _ _ _. none_of traffic (without_head x.traffic q.waiting) (without_all N x.traffic q.waiting all))
+    (λ kind x _ _ _. none_of traffic (without_head x.traffic q.waiting) (All-without_head N x.traffic q.waiting all))
 
 pub none_starts : (input : PortInput) (traffic : Traffic) (z t : ℕ) → HasNoneBefore traffic z input.arrivals → t < z → Starts input traffic t → ⊥
 none_starts input traffic z t none l s =

@@ -1,11 +1,12 @@
 -- Where a frame stands in its queue: the frames of each traffic start in order of arrival, so what has started before a bit
 -- time is what stands in front of those that wait then.
-use Rattle.std.proofs.Common.{◌≡◌, ℕ, zero, suc, ◌+◌, ◌<◌, ◌≤◌, ◌⊎◌, inl, inr, Bool, true, false, cond, List, [], ◌∷◌, ◌++◌, length, get_or, refl, sym, ◌∙◌, ap, subst, arith, append-nil, length-append}
+use Rattle.std.proofs.Common.{◌≡◌, ℕ, suc, ◌+◌, ◌<◌, ◌≤◌, ◌⊎◌, inl, inr, Bool, true, false, cond, List, [], ◌∷◌, ◌++◌, length, get_or, refl, sym, ◌∙◌, ap, subst, arith, append-nil, length-append}
 use Rattle.std.specs.Prelude.{All, AllPairs, nat_le, nat_lt, filter, count_by, sum_by}
 use Rattle.std.specs.List.{Contains}
 use Rattle.std.proofs.lemmas.{Bool.cases_Bool, Bool.cases_lt, Bool.cond-true, Bool.cond-false, Bool.le-leb, Bool.lt-leb, Bool.lt-ltb, Bool.le-ltb, Bool.eq-eqb, Bool.ltb-true, List.Elements.All-head, List.Elements.All-tail, List.Elements.All-cons, List.Elements.All-filter, List.Elements.All-contains, List.Elements.All-contains_itself, List.Elements.filter-append, List.Elements.filter_passes, List.Elements.Contains-append_right, List.Sums.sum_by-cons, List.Sums.sum_by-append, List.Sums.length-filter, List.Kept.AllPairs-filter}
 use Rattle.credit_shaper.specs.declared.{shaper.Traffic.Traffic, port.Arrival.Arrival, port.PortInput.PortInput, port.Departure.Departure}
 use Rattle.credit_shaper.specs.{Credit.traffic_number, Port.IsPortInput, Port.IsNotAfter, Port.IsFrameSize, Port.is_of, Trace.does_wait, Trace.departure_at, Trace.port_at, Steps.is_waiting, Departures.sent_of, Departures.left_of, Departures.departs_as, Departures.IsDepartureOf, Departures.DepartInOrder, Departures.AgreeBefore, Departures.arrivals_before, Departures.started_before}
+use Rattle.credit_shaper.proofs.{DepartureLemmas.filter_all, MomentLemmas.filter_nothing, MomentLemmas.not_after, PairLemmas.pairs-head, PairLemmas.pairs-tail}
 use Rattle.class_service.specs.{IsIdleBefore, bits_in, bits_among, arrivals_from, HasPlace, starts_before, HasNotStarted, StartsAt, LineLaws, OrderLaws}
 use Rattle.class_service.proofs.PortLemmas.{among_split, none_waits, carried}
 
@@ -26,18 +27,6 @@ cut_valid input u valid l =
       };
       end = omega (arith, l, valid.end);
     }
-
-filter_all : {X : Type 0} (p : X → Bool) (xs : List X) → All (λ x. p x ≡ true) xs → filter p xs ≡ xs
-filter_all p [] all = refl
-filter_all p (x ∷ xs) all =
-    let here : p x ≡ true = All-head (λ y. p y ≡ true) x xs all in
-    rw here (ap (λ ys. x ∷ ys) (filter_all p xs (All-tail (λ y. p y ≡ true) x xs all)))
-
-filter_none : {X : Type 0} (p : X → Bool) (xs : List X) → All (λ x. p x ≡ false) xs → filter p xs ≡ []
-filter_none p [] all = refl
-filter_none p (x ∷ xs) all =
-    let here : p x ≡ false = All-head (λ y. p y ≡ false) x xs all in
-    rw here (filter_none p xs (All-tail (λ y. p y ≡ false) x xs all))
 
 cut_agrees : (laws : OrderLaws) (input : PortInput) (u : ℕ) → AgreeBefore u input (cut input u)
 cut_agrees laws input u =
@@ -102,12 +91,6 @@ front_sum f (x ∷ gone) rest (y ∷ front) behind e l =
     let here : f x ≡ f y = ap f same in
     omega (arith, more, one, two, here)
 
-pairs-head : {X : Type 0} (R : X → X → Type 0) (x : X) (xs : List X) → AllPairs R (x ∷ xs) → All (R x) xs
-pairs-head R x xs h k d below = h zero (suc k) d (omega arith) (omega (arith, below))
-
-pairs-tail : {X : Type 0} (R : X → X → Type 0) (x : X) (xs : List X) → AllPairs R (x ∷ xs) → AllPairs R xs
-pairs-tail R x xs h i j d lt below = h (suc i) (suc j) d (omega (arith, lt)) (omega (arith, below))
-
 -- how those in front of a place stand to what is there, and that to those behind it
 front_pairs : {X : Type 0} (R : X → X → Type 0) (front : List X) (x : X) (behind : List X) → AllPairs R (front ++ x ∷ behind) → All (λ y. R y x) front
 front_pairs R [] x behind pairs = λ k d l. absurd (omega (arith, l))
@@ -120,10 +103,6 @@ front_pairs {X} R (y ∷ ys) x behind pairs =
 behind_pairs : {X : Type 0} (R : X → X → Type 0) (front : List X) (x : X) (behind : List X) → AllPairs R (front ++ x ∷ behind) → All (R x) behind
 behind_pairs R [] x behind pairs = pairs-head R x behind pairs
 behind_pairs R (y ∷ ys) x behind pairs = behind_pairs R ys x behind (pairs-tail R y (ys ++ x ∷ behind) pairs)
-
-not_after : (x y : Arrival) → IsNotAfter x y → x.bit ≤ y.bit
-not_after x y (inl l) = omega (arith, l)
-not_after x y (inr e) = omega (arith, e)
 
 -- the bit times of arrivals ascend at a place
 record Ascends (front behind : List Arrival) (x : Arrival) : Type 0 where
@@ -148,7 +127,7 @@ before_place input front behind x u place = ap (λ xs. arrivals_before xs u) pla
 -- up to the frame's arrival none behind it, and after it all in front of it
 none_behind : (front behind : List Arrival) (x : Arrival) (u : ℕ) → Ascends front behind x → u ≤ x.bit → arrivals_before (x ∷ behind) u ≡ []
 none_behind front behind x u up l =
-    filter_none (λ y. nat_lt y.bit u) (x ∷ behind) (λ k d h. le-ltb (get_or (x ∷ behind) k d).bit u (omega (arith, l, up.later k d h)))
+    filter_nothing (λ y. nat_lt y.bit u) (x ∷ behind) (λ k d h. le-ltb (get_or (x ∷ behind) k d).bit u (omega (arith, l, up.later k d h)))
 
 all_front : (front behind : List Arrival) (x : Arrival) (u : ℕ) → Ascends front behind x → x.bit < u → arrivals_before front u ≡ front
 all_front front behind x u up l =
@@ -326,7 +305,7 @@ started_here before after d apart sized =
     let front = front_pairs R before d after apart in
     let behind = behind_pairs R before d after apart in
     let early : started_before d.start before ≡ before = filter_all p before (λ k e l. lt-ltb (get_or before k e).start d.start (omega (arith, front k e l, left k e l))) in
-    let late : started_before d.start after ≡ [] = filter_none p after (λ k e l. le-ltb (get_or after k e).start d.start (omega (arith, behind k e l, here))) in
+    let late : started_before d.start after ≡ [] = filter_nothing p after (λ k e l. le-ltb (get_or after k e).start d.start (omega (arith, behind k e l, here))) in
     let self : nat_lt d.start d.start ≡ false = le-ltb d.start d.start (omega arith) in
     filter-append p before (d ∷ after) ∙ (ap (λ ds. ds ++ filter p (d ∷ after)) early ∙ (ap (λ ds. before ++ ds) (cond-false (p d) _ _ self ∙ late) ∙ append-nil before))
 

@@ -7,20 +7,11 @@ use Rattle.srp_base.specs.Bandwidth.{bits_of}
 use Rattle.credit_shaper.specs.declared.{shaper.Traffic.Traffic, port.PortInput.PortInput}
 use Rattle.credit_shaper.specs.declared.shaper.Traffic.TheVariants.{A, B, Other}
 use Rattle.credit_shaper.specs.{Credit.traffic_number, Credit.credit_after, Credit.does_send, Port.IsPortInput, Bounds.is_on_line, Steps.is_waiting, Steps.was_on_line, Steps.bits_left, Steps.bits_ahead, Steps.HasTurn, Steps.Starts}
+use Rattle.credit_shaper.proofs.CreditLemmas.{stays_above}
 use Rattle.class_service.specs.{IsClass, credit_at, slope_at, HasLongest, HasLeastSlope, low_of, CreditLaws, LineLaws}
 use Rattle.class_service.proofs.PortLemmas.{same_traffic, ahead_some, starts_short}
 
 -- ---- a credit in one bit time
-
--- one that its class doesn't take from the line rises by no more than its slope
-pub rises : (rate slope : ℕ) (waits : Bool) (c : ℤ) → credit_after rate slope false waits c ≤ℤ (c +ℤ pos slope)
-rises rate slope true c = omega (arith, ints)
-rises rate slope false c = omega (arith, ints, clamps)
-
--- nor is it below a bound that isn't above 0
-stays_above : (rate slope least : ℕ) (waits : Bool) (c : ℤ) → pos 0 ≤ℤ (c +ℤ pos least) → pos 0 ≤ℤ (credit_after rate slope false waits c +ℤ pos least)
-stays_above rate slope least true c h = omega (arith, ints, h)
-stays_above rate slope least false c h = omega (arith, ints, clamps, h)
 
 -- of a class that is short it is at most the slope
 pub from_short : (rate slope : ℕ) (waits : Bool) (c : ℤ) → (waits ≡ true → c <ℤ pos 0) → credit_after rate slope false waits c ≤ℤ pos slope

@@ -11,6 +11,7 @@ use Rattle.srp_base.specs.Bandwidth.{bits_of}
 use Rattle.credit_shaper.specs.declared.{shaper.Traffic.Traffic, port.PortInput.PortInput, piece.Piece.Piece}
 use Rattle.credit_shaper.specs.declared.shaper.Traffic.TheVariants.{A, B, Other}
 use Rattle.credit_shaper.specs.{Credit.does_send, Credit.IsInRange, Bounds.is_on_line, Bounds.bit_times, Pieces.IsAlike, Pieces.IsPiece, Pieces.ArePieces}
+use Rattle.class_b_bound.proofs.PieceLemmas.{tiles_upto}
 use Rattle.class_service.specs.declared.service.Service.{Service}
 use Rattle.class_service.specs.{IsClass, slope_at, is_busy, IsBusy, bits_in, area_in, service_of, service_with, slope_in, waits_in}
 use Rattle.class_service.proofs.CreditLemmas.{bit_of, times_more, sum_more}
@@ -100,23 +101,6 @@ pub record IsServedTo (input : PortInput) (class : Traffic) (from to at : ℕ) (
   pub place : at ≡ max from (min bit to)
   pub service : s ≡ service_of input class from at
 
--- at first nothing
-pub served_first : (input : PortInput) (class : Traffic) (from to : ℕ) (pieces : List Piece) → from ≤ to → ArePieces input 0 input.end pieces
-    → IsServedTo input class from to from (record { bits = 0; area = 0; is_busy = true }) pieces
-served_first input class from to pieces up tiles =
-    let none : from - from ≡ 0 = omega arith in
-    record {
-      bit = 0;
-      pieces = tiles;
-      place = omega (arith, up);
-      service = rw none refl;
-    }
-
--- pieces end where the stretch that they tile does
-pub tiles_upto : (input : PortInput) (from to : ℕ) (ps : List Piece) → ArePieces input from to ps → from ≤ to
-tiles_upto input from to [] tiles = omega (arith, tiles)
-tiles_upto input from to (p ∷ ps) tiles = let rest = tiles_upto input (from + p.bits) to ps tiles.2 in omega (arith, rest)
-
 -- the place after a piece, and how far that is from the place before it
 record IsPlace (from to bit bits at next : ℕ) : Type 0 where
   place : next ≡ max from (min (bit + bits) to)
@@ -203,14 +187,6 @@ small_area class at next s more ps i d with up slope small =
     let same : more.area ≡ s.area + (next - at) * slope_in (get_or ps i d) class = ap (λ (other : Service). other.area) with in
     let part : (next - at) * slope_in (get_or ps i d) class ≤ (next - at) * 2 ^ 34 = mul-le-mul_left (next - at) slope in
     omega (arith, same, part, up, small)
-
--- at the end of the pieces all
-pub served_all : (input : PortInput) (class : Traffic) (from to at : ℕ) (s : Service) → from ≤ to → to ≤ input.end → IsServedTo input class from to at s []
-    → s ≡ service_of input class from to
-served_all input class from to at s up within served =
-    let end : served.bit ≡ input.end = served.pieces in
-    let same : at ≡ to = omega (arith, served.place, end, up, within) in
-    served.service ∙ ap (service_of input class from) same
 
 -- ---- busy
 

@@ -88,15 +88,7 @@ head_traffic traffic (y ∷ ys) x e =
 pub head_of-other : (traffic gone : Traffic) (w : List Arrival) → (traffic_number gone ≡ traffic_number traffic → ⊥)
     → head_of traffic (without_head gone w) ≡ head_of traffic w
 head_of-other traffic gone [] ne = refl
-head_of-other traffic gone (x ∷ xs) ne =
-    let rest : head_of traffic (without_head gone xs) ≡ head_of traffic xs = head_of-other traffic gone xs ne in
-    elim (cases_Bool (is_of gone x)) [
-      | inl own ↦
-          let out : is_of traffic x ≡ false = ne_eqb (traffic_number x.traffic) (traffic_number traffic)
-          (λ e. ne (sym (eqb-true (traffic_number x.traffic) (traffic_number gone) own) ∙ e)) in
-          rw own (rw out refl)
-      | inr out ↦ rw out (elim (is_of traffic x) as (λ b. cond b (Some x) (head_of traffic (without_head gone xs)) ≡ cond b (Some x) (head_of traffic xs)) [ true ↦ refl | false ↦ rest ])
-    ]
+head_of-other traffic gone (x ∷ xs) ne = grind (arith, head_of-other traffic gone xs ne, cases_Bool, ne_eqb, eqb-true)
 
 -- what a port is as a bit time begins, and in it
 abbrev PortBegins : ℕ → ℕ → ℕ → Port → Type 0
@@ -144,22 +136,17 @@ begins_free gap most rem false c e b =
 -- while a frame is on the line nothing starts
 begins_busy : (gap most rem : ℕ) (sends waits : Bool) (c : ℤ) → 0 < rem → rem ≤ 12336 → Begins gap most rem sends c
     → Stands gap most rem sends waits c
-begins_busy gap most rem true waits c some size b =
-    record { size = size; low = b.low; busy = λ _. some; high = λ _. b.high; short = λ e. absurd (true≢false e) }
-begins_busy gap most rem false waits c some size b =
-    record { size = size; low = b.low; busy = λ _. some; high = λ e. absurd (false≢true e); short = λ _ _. inr (some, b.high) }
+begins_busy gap most rem sends waits c h1 h2 h3 = grind (arith, true≢false, false≢true)
 
 -- a class A frame starts with credit, which is in bounds
 begins_a : (gap most bits : ℕ) (waits : Bool) (c : ℤ) → IsFrameSize bits → pos 0 ≤ℤ c → c ≤ℤ pos (most * 12336)
     → Stands gap most bits true waits c
-begins_a gap most bits waits c size credit high =
-    record { size = size.1; low = omega (arith, ints, credit); busy = λ _. omega (arith, size.0); high = λ _. high; short = λ e. absurd (true≢false e) }
+begins_a gap most bits waits c size credit high = grind (arith, ints, true≢false)
 
 -- while class A doesn't send it waits only without credit
 begins_other : (gap most rem : ℕ) (waits : Bool) (c : ℤ) → rem ≤ 12336 → pos 0 ≤ℤ (c +ℤ pos (gap * 12336))
     → (waits ≡ true → c <ℤ pos 0) → Stands gap most rem false waits c
-begins_other gap most rem waits c size low short =
-    record { size = size; low = low; busy = λ e. absurd (false≢true e); high = λ e. absurd (false≢true e); short = λ _ w. inl (short w) }
+begins_other gap most rem waits c size low short = grind (arith, false≢true)
 
 -- a start on a free line keeps class A's credit in bounds
 starts_stand : (gap most t : ℕ) (p : Port) (o : Option Arrival) → head_of (turn_of p.shaper p.waiting) p.waiting ≡ o

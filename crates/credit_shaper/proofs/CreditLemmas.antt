@@ -1,11 +1,11 @@
 -- What a class's credit is after some bit times.
-use Rattle.std.proofs.Common.{◌≡◌, ℕ, zero, suc, ◌+◌, ◌*◌, ◌<◌, ◌≤◌, Bool, true, false, refl, sym, ◌∙◌, arith}
-use Rattle.std.specs.Prelude.{ℤ, pos, ◌+ℤ◌, ◌-ℤ◌, ◌<ℤ◌, negsuc, unsigned_abs, int_le}
-use Rattle.std.proofs.lemmas.{Bool.true≢false, Bool.le-leb, Int.ints, Int.clamps}
+use Rattle.std.proofs.Common.{◌≡◌, ℕ, zero, suc, ◌+◌, ◌*◌, ◌<◌, ◌≤◌, Bool, true, false, refl, sym, ◌∙◌, inl, inr, arith}
+use Rattle.std.specs.Prelude.{ℤ, pos, ◌+ℤ◌, ◌-ℤ◌, ◌≤ℤ◌, ◌<ℤ◌, negsuc, unsigned_abs, int_le, ◌&&◌}
+use Rattle.std.proofs.lemmas.{Bool.and_cases, Bool.true≢false, Bool.le-leb, Int.ints, Int.clamps}
 use Rattle.std.proofs.Math.Nat.{mul-le-mul_right}
 use Rattle.std.specs.Int.{int_min}
 use Rattle.srp_base.specs.Bandwidth.{bits_of}
-use Rattle.credit_shaper.specs.{A, B, Line, Shaper, does_send, credit_after_bits, after_bits}
+use Rattle.credit_shaper.specs.{A, B, Line, Shaper, does_send, credit_after, credit_after_bits, after_bits}
 
 pub credit-sends : (n rate slope : ℕ) (waits : Bool) (c : ℤ)
     → credit_after_bits n rate slope true waits c ≡ c +ℤ pos (n * slope) -ℤ pos (n * rate)
@@ -68,3 +68,20 @@ short_before (negsuc m) slope bits n below up l =
 pub below_zero : (c : ℤ) → int_le (pos 0) c ≡ false → c <ℤ pos 0
 below_zero (pos n) e = absurd (true≢false (sym (le-leb 0 n (omega arith)) ∙ e))
 below_zero (negsuc n) e = omega (arith, ints)
+
+-- a class that doesn't take its turn though it waits is short of credit
+pub short_if : (waits : Bool) (c : ℤ) → (waits && int_le (pos 0) c) ≡ false → waits ≡ true → c <ℤ pos 0
+short_if waits c e w =
+    elim (and_cases waits (int_le (pos 0) c) e) [ inl f ↦ absurd (true≢false (sym w ∙ f)) | inr f ↦ below_zero c f ]
+
+-- ---- one bit time
+
+-- a credit that its class doesn't take from the line rises by no more than its slope
+pub rises : (rate slope : ℕ) (waits : Bool) (c : ℤ) → credit_after rate slope false waits c ≤ℤ (c +ℤ pos slope)
+rises rate slope true c = omega (arith, ints)
+rises rate slope false c = omega (arith, ints, clamps)
+
+-- nor is it below a bound that isn't above 0
+pub stays_above : (rate slope least : ℕ) (waits : Bool) (c : ℤ) → pos 0 ≤ℤ (c +ℤ pos least) → pos 0 ≤ℤ (credit_after rate slope false waits c +ℤ pos least)
+stays_above rate slope least true c h = omega (arith, ints, h)
+stays_above rate slope least false c h = omega (arith, ints, clamps, h)

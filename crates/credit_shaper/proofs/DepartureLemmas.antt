@@ -144,11 +144,9 @@ pub goes_by : (input : PortInput) (t u : ℕ) → t ≤ u → Goes t (port_at in
 goes_by input t u l =
     subst (λ (k : ℕ). Goes t (port_at input t).sent (port_at input k).sent) (omega (arith, l)) (goes_to input t (u - t))
 
-filter_all : {X : Type 0} (p : X → Bool) (xs : List X) → All (λ x. p x ≡ true) xs → filter p xs ≡ xs
+pub filter_all : {X : Type 0} (p : X → Bool) (xs : List X) → All (λ x. p x ≡ true) xs → filter p xs ≡ xs
 filter_all p [] all = refl
-filter_all p (x ∷ xs) all =
-    let here : p x ≡ true = All-head (λ y. p y ≡ true) x xs all in
-    rw here (ap (λ ys. x ∷ ys) (filter_all p xs (All-tail (λ y. p y ≡ true) x xs all)))
+filter_all p (x ∷ xs) all = grind (arith, filter_all p xs (All-tail (λ y. p y ≡ true) x xs all), All-head, All-tail)
 
 -- what started before a bit time is what the port had sent as it began
 pub started_is : (input : PortInput) (t : ℕ) → t ≤ input.end → started_before t (sent_of input) ≡ (port_at input t).sent
@@ -178,8 +176,7 @@ any-push p xs y = list_any-append p xs (y ∷ []) ∙ ap (λ b. list_any p xs ||
 
 -- what had the line before has it no more
 gone : (t u : ℕ) (q : Port) (traffic : Traffic) → IsCarried t q → q.free_from ≤ t → t ≤ u → list_any (is_sending traffic u) q.sent ≡ false
-gone t u q traffic carried free up =
-    carried traffic u up ∙ and_right (does_send traffic q.line) (nat_lt u q.free_from) (le-ltb u q.free_from (omega (arith, free, up)))
+gone t u q traffic carried free up = grind (arith, and_right, le-ltb)
 
 carried_in : (t : ℕ) (q : Port) → IsCarried t q → IsCarried t (with_start t q)
 carried_in t q carried =
@@ -198,8 +195,7 @@ carried_at input (suc t) traffic u up =
     carried_in t (with_arrivals input t (port_at input t)) (carried_at input t) traffic u (omega (arith, up))
 
 and-true : (a b : Bool) → b ≡ true → (a && b) ≡ a
-and-true true b e = e
-and-true false b e = refl
+and-true a b h1 = grind arith
 
 -- a line that isn't free is so for this bit time
 busy_line : (traffic : Traffic) (t : ℕ) (q : Port) → All (λ x. IsFrameSize x.bits) q.waiting
@@ -213,11 +209,7 @@ busy_line traffic t q sizes =
 
 later_not : (traffic : Traffic) (t : ℕ) (ds : List Departure) → All (λ d. suc t ≤ d.start) ds → list_any (is_sending traffic t) ds ≡ false
 later_not traffic t [] all = refl
-later_not traffic t (d ∷ ds) all =
-    let after : suc t ≤ d.start = All-head (λ e. suc t ≤ e.start) d ds all in
-    let out : is_sending traffic t d ≡ false =
-    and_right (departs_as traffic d) (nat_le d.start t && nat_lt t d.end) (and_left (nat_le d.start t) (nat_lt t d.end) (lt-leb d.start t after)) in
-    ap (λ b. b || list_any (is_sending traffic t) ds) out ∙ later_not traffic t ds (All-tail (λ e. suc t ≤ e.start) d ds all)
+later_not traffic t (d ∷ ds) all = grind (arith, later_not traffic t ds (All-tail (λ e. suc t ≤ e.start) d ds all), All-head, and_right, and_left, lt-leb, All-tail)
 
 pub line_is : (input : PortInput) (traffic : Traffic) (t : ℕ) → IsPortInput input → t < input.end
     → is_on_line input traffic t ≡ list_any (is_sending traffic t) (sent_of input)
@@ -292,17 +284,7 @@ filter-head traffic (y ∷ ys) x e =
 filter-without_other : (traffic lost : Traffic) (w : List Arrival) → (traffic_number lost ≡ traffic_number traffic → ⊥)
     → filter (is_of traffic) (without_head lost w) ≡ filter (is_of traffic) w
 filter-without_other traffic lost [] ne = refl
-filter-without_other traffic lost (x ∷ xs) ne =
-    let rest : filter (is_of traffic) (without_head lost xs) ≡ filter (is_of traffic) xs = filter-without_other traffic lost xs ne in
-    elim (cases_Bool (is_of lost x)) [
-      | inl own ↦
-          let out : is_of traffic x ≡ false = ne_eqb (traffic_number x.traffic) (traffic_number traffic)
-          (λ e. ne (sym (eqb-true (traffic_number x.traffic) (traffic_number lost) own) ∙ e)) in
-          rw own (rw out refl)
-      | inr out ↦ rw out (elim (is_of traffic x) as
-          (λ b. cond b (x ∷ filter (is_of traffic) (without_head lost xs)) (filter (is_of traffic) (without_head lost xs)) ≡ cond b (x ∷ filter (is_of traffic) xs)
-          (filter (is_of traffic) xs)) [ true ↦ ap (λ ys. x ∷ ys) rest | false ↦ rest ])
-    ]
+filter-without_other traffic lost (x ∷ xs) ne = grind (arith, filter-without_other traffic lost xs ne, cases_Bool, ne_eqb, eqb-true)
 
 -- of these frames, those of each traffic departed in order, and the rest of them wait in order
 record IsInOrder (come : List Arrival) (t : ℕ) (p : Port) : Type 0 where
@@ -397,19 +379,7 @@ left_order input valid = (order_at input input.end valid).order
 -- what arrives in a bit time is told by what arrives before a later one
 arrivals_in : (xs : List Arrival) (t k : ℕ) → k < t → arrivals_at (arrivals_before xs t) k ≡ arrivals_at xs k
 arrivals_in [] t k l = refl
-arrivals_in (x ∷ xs) t k l =
-    let rest : arrivals_at (arrivals_before xs t) k ≡ arrivals_at xs k = arrivals_in xs t k l in
-    elim (cases_lt x.bit t) [
-      | inl early ↦
-          let a : nat_lt x.bit t ≡ true = lt-ltb x.bit t early in
-          rw a (elim (x.bit == k) as
-          (λ b. cond b (x ∷ arrivals_at (arrivals_before xs t) k) (arrivals_at (arrivals_before xs t) k) ≡ cond b (x ∷ arrivals_at xs k) (arrivals_at xs k))
-          [ true ↦ ap (λ ys. x ∷ ys) rest | false ↦ rest ])
-      | inr late ↦
-          let a : nat_lt x.bit t ≡ false = le-ltb x.bit t late in
-          let e : (x.bit == k) ≡ false = ne_eqb x.bit k (λ f. omega (arith, f, late, l)) in
-          rw a (rw e rest)
-    ]
+arrivals_in (x ∷ xs) t k l = grind (arith, arrivals_in xs t k l, cases_lt, lt-ltb, le-ltb, ne_eqb)
 
 pub arrivals_agree : (xs ys : List Arrival) (t k : ℕ) → arrivals_before xs t ≡ arrivals_before ys t → k < t
     → arrivals_at xs k ≡ arrivals_at ys k

@@ -11,22 +11,13 @@ abbrev pub IsNonDescending : {X : Type 0} → (X → ℕ) → List X → Type 0
 IsNonDescending {X} bit_of xs = (i j : ℕ) (d : X) → i ≤ j → j < length xs → bit_of (get_or xs i d) ≤ bit_of (get_or xs j d)
 
 pub not_after : (x y : Arrival) → IsNotAfter x y → x.bit ≤ y.bit
-not_after x y (inl l) = omega (arith, l)
-not_after x y (inr e) = omega (arith, e)
+not_after x y h1 = grind arith
 
 pub in_order_arrivals : (xs : List Arrival) → AllPairs IsNotAfter xs → IsNonDescending arrival_bit xs
-in_order_arrivals xs order i j d l h =
-    elim (cases_eq i j) [
-      | inl e ↦ subst (λ (k : ℕ). (get_or xs i d).bit ≤ (get_or xs k d).bit) e (omega arith)
-      | inr ne ↦ not_after (get_or xs i d) (get_or xs j d) (order i j d (omega arith) h)
-    ]
+in_order_arrivals xs order i j d l h = grind (arith, cases_eq, not_after)
 
 pub in_order_changes : (xs : List SlopeChange) → AllPairs (λ x y. x.bit < y.bit) xs → IsNonDescending change_bit xs
-in_order_changes xs order i j d l h =
-    elim (cases_eq i j) [
-      | inl e ↦ subst (λ (k : ℕ). (get_or xs i d).bit ≤ (get_or xs k d).bit) e (omega arith)
-      | inr ne ↦ let f : (get_or xs i d).bit < (get_or xs j d).bit = order i j d (omega arith) h in omega (arith, f)
-    ]
+in_order_changes xs order i j d l h = grind (arith, cases_eq)
 
 -- an element that is read of before list
 abbrev pub blank : Arrival
@@ -46,10 +37,6 @@ pub newest-take : (xs : List SlopeChange) (n : ℕ) (current d : SlopeChange) �
 newest-take [] n current d l = absurd (omega (arith, l))
 newest-take (x ∷ xs) zero current d l = refl
 newest-take (x ∷ xs) (suc n) current d l = newest-take xs n x d (omega (arith, l))
-
-pub reached_at_start : {X : Type 0} (bit_of : X → ℕ) (xs : List X) → IsReached bit_of 0 0 xs
-reached_at_start bit_of xs =
-    record { within = omega arith; before = λ k d _ h. absurd (omega (arith, h)); later = λ k d _ _. omega arith }
 
 -- more is reached by a later bit time
 pub reached_more : {X : Type 0} (bit_of : X → ℕ) (xs : List X) (s t m n : ℕ) (d : X) → s ≤ t
@@ -103,19 +90,12 @@ arrivals_join xs t m n low high =
 -- where nothing passes a test nothing is kept
 pub filter_nothing : {X : Type 0} (p : X → Bool) (xs : List X) → All (λ x. p x ≡ false) xs → filter p xs ≡ []
 filter_nothing p [] all = refl
-filter_nothing p (x ∷ xs) all =
-    let here : p x ≡ false = All-head (λ y. p y ≡ false) x xs all in
-    rw here (filter_nothing p xs (All-tail (λ y. p y ≡ false) x xs all))
+filter_nothing p (x ∷ xs) all = grind (arith, filter_nothing p xs (All-tail (λ y. p y ≡ false) x xs all), All-head, All-tail)
 
 -- nothing arrives between two bit times by which the same is reached
 pub arrivals_none : (xs : List Arrival) (s t n k : ℕ) → IsReached arrival_bit s n xs → IsReached arrival_bit t n xs
     → s ≤ k → k < t → arrivals_at xs k ≡ []
-arrivals_none xs s t n k low high from to =
-    filter_nothing (λ x. x.bit == k) xs (λ i d b. ne_eqb (get_or xs i d).bit k (λ e.
-    elim (cases_lt i n) [
-      | inl l ↦ let f : (get_or xs i d).bit < s = low.before i d (omega arith) l in omega (arith, e, f, from)
-      | inr l ↦ let f : t ≤ (get_or xs i d).bit = high.later i d l b in omega (arith, e, f, to)
-    ]))
+arrivals_none xs s t n k low high from to = grind (arith, filter_nothing, ne_eqb, cases_lt)
 
 -- no change is in force where all are later
 change_none : (xs : List SlopeChange) (t : ℕ) (current : SlopeChange) → AllWithin (λ x. t < x.bit) xs 0 (length xs)
@@ -137,15 +117,10 @@ last_change_is (x ∷ xs) (suc n) t current l early late =
 -- the slopes in force in a bit time are the last of those reached
 pub slopes_reached : (xs : List SlopeChange) (s t n k : ℕ) → IsReached change_bit s n xs → IsReached change_bit t n xs
     → s ≤ k + 1 → k < t → last_change k no_slopes xs ≡ newest no_slopes (take n xs)
-slopes_reached xs s t n k low high from to =
-    last_change_is xs n k no_slopes low.within
-    (λ i d a b. let f : (get_or xs i d).bit < s = low.before i d a b in omega (arith, f, from))
-    (λ i d a b. let f : t ≤ (get_or xs i d).bit = high.later i d a b in omega (arith, f, to))
+slopes_reached xs s t n k low high from to = grind (arith, last_change_is)
 
 not_after_trans : (x y z : Arrival) → IsNotAfter x y → IsNotAfter y z → IsNotAfter x z
-not_after_trans x y z (inl f) g = inl (omega (arith, f, not_after y z g))
-not_after_trans x y z (inr f) (inl g) = inl (omega (arith, f, g))
-not_after_trans x y z (inr f) (inr g) = inr (omega (arith, f, g), omega (arith, f, g))
+not_after_trans x y z h1 h2 = grind (arith, not_after)
 
 pub arrivals_ascend : (xs : List Arrival) → AllAdjacentBelow IsNotAfter xs (length xs) → AllPairs IsNotAfter xs
 arrivals_ascend = pairs-from-adjacent IsNotAfter not_after_trans

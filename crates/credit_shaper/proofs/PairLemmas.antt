@@ -32,8 +32,7 @@ AllPairs-map {X} R S f each (x ∷ xs) h =
 
 pub AllPairs-weaker : {X : Type 0} (R S : X → X → Type 0) (P : X → Type 0) → ((x y : X) → P x → P y → R x y → S x y) → (xs : List X) → All P xs
     → AllPairs R xs → AllPairs S xs
-AllPairs-weaker R S P each xs all h i j d lt below =
-    each (get_or xs i d) (get_or xs j d) (all i d (omega (arith, lt, below))) (all j d below) (h i j d lt below)
+AllPairs-weaker R S P each xs all h i j d lt below = grind arith
 
 -- where each is in order with the next, each is with each later one
 pub pairs-from-adjacent : {X : Type 0} (R : X → X → Type 0) → ((x y z : X) → R x y → R y z → R x z) → (xs : List X)

@@ -11,9 +11,7 @@ port_after : (input : PortInput) (sent : List Departure) (trace : PortTrace) (ne
     → AreHeads input.arrivals trace.came trace.heads → HasReached input (trace.bit + 1) trace → HasReached input next trace
     → IsQuiet trace next → port_of input.arrivals sent trace ≡ port_in input trace.bit → trace.bit + n < next
     → port_in input (trace.bit + n) ≡ jumped n (port_of input.arrivals sent trace)
-port_after input sent trace next zero heads now later quiet here l =
-    let at : trace.bit + 0 ≡ trace.bit = omega arith in
-    ap (port_in input) at ∙ (sym here ∙ sym (jumped_none (port_of input.arrivals sent trace)))
+port_after input sent trace next zero heads now later quiet here l = grind (arith, jumped_none)
 port_after input sent trace next (suc n) heads now later quiet here l =
     let p : Port = port_of input.arrivals sent trace in
     let before : port_at input (trace.bit + suc n) ≡ jumped (suc n) p =
@@ -22,15 +20,11 @@ port_after input sent trace next (suc n) heads now later quiet here l =
 
 credit_a-after : (n : ℕ) (p : Port) (rate : Rate) → p.shaper.rate ≡ rate
     → (jumped n p).shaper.credit_a ≡ credit_after_bits n (bits_of rate) p.shaper.slope_a (does_send A p.line) (does_wait A p.waiting) p.shaper.credit_a
-credit_a-after n p rate e =
-    ap (λ (s : Shaper). s.credit_a) (after_bits_is n p.line (does_wait A p.waiting) (does_wait B p.waiting) p.shaper)
-    ∙ ap (λ (r : Rate). credit_after_bits n (bits_of r) p.shaper.slope_a (does_send A p.line) (does_wait A p.waiting) p.shaper.credit_a) e
+credit_a-after n p rate e = grind (arith, after_bits_is)
 
 credit_b-after : (n : ℕ) (p : Port) (rate : Rate) → p.shaper.rate ≡ rate
     → (jumped n p).shaper.credit_b ≡ credit_after_bits n (bits_of rate) p.shaper.slope_b (does_send B p.line) (does_wait B p.waiting) p.shaper.credit_b
-credit_b-after n p rate e =
-    ap (λ (s : Shaper). s.credit_b) (after_bits_is n p.line (does_wait A p.waiting) (does_wait B p.waiting) p.shaper)
-    ∙ ap (λ (r : Rate). credit_after_bits n (bits_of r) p.shaper.slope_b (does_send B p.line) (does_wait B p.waiting) p.shaper.credit_b) e
+credit_b-after n p rate e = grind (arith, after_bits_is)
 
 rate_in : (input : PortInput) (t : ℕ) → (port_in input t).shaper.rate ≡ input.rate
 rate_in input t = ap (λ (s : Shaper). s.rate) (shaper-port_in input t) ∙ rate_is input t

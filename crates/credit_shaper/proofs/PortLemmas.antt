@@ -21,15 +21,11 @@ last_change_all P t current (x ∷ xs) here all =
       | false ↦ last_change_all P t current xs here rest
     ]
 
-some_rate : (rate : Rate) → 0 < bits_of rate
-some_rate M100 = omega arith
-some_rate G1 = omega arith
-some_rate G10 = omega arith
+pub some_rate : (rate : Rate) → 0 < bits_of rate
+some_rate rate = grind arith
 
 pub rate_at_most : (rate : Rate) → bits_of rate ≤ 10000000000
-rate_at_most M100 = omega arith
-rate_at_most G1 = omega arith
-rate_at_most G10 = omega arith
+rate_at_most rate = grind arith
 
 -- the slopes in force are below the rate
 pub slope_a_below : (input : PortInput) (t : ℕ) → IsPortInput input → (slopes_at input t).slope_a < bits_of input.rate
@@ -42,11 +38,7 @@ slope_b_below input t valid =
 
 -- a start changes no credit, slope or rate
 pub shaper-with_start : (t : ℕ) (p : Port) → (with_start t p).shaper ≡ p.shaper
-shaper-with_start t p =
-    elim (nat_le p.free_from t) as (λ b. (cond b (starts t p (head_of (turn_of p.shaper p.waiting) p.waiting)) p).shaper ≡ p.shaper) [
-      | true ↦ elim (head_of (turn_of p.shaper p.waiting) p.waiting) as (λ o. (starts t p o).shaper ≡ p.shaper) [ None ↦ refl | Some x ↦ refl ]
-      | false ↦ refl
-    ]
+shaper-with_start t p = grind arith
 
 -- the shaper in a bit time: the credits as it began, with the slopes in force
 pub shaper-port_in : (input : PortInput) (t : ℕ)
@@ -95,9 +87,7 @@ credit_b_reach input (suc t) valid =
     (port_at input t).shaper.credit_b (ap bits_of (rate_is input t)) (slope_b_below input t valid) (credit_b_reach input t valid))
 
 far_within : (rate t : ℕ) (c : ℤ) → rate ≤ 10000000000 → t ≤ 2 ^ 41 → IsWithin (t * rate) c → IsWithin (2 ^ 100) c
-far_within rate t c fast short within =
-    let most : t * rate ≤ 2 ^ 41 * 10000000000 = mul-le-mul short fast in
-    (omega (arith, ints, within.0, most), omega (arith, ints, within.1, most))
+far_within rate t c fast short within = grind (arith, mul-le-mul, ints)
 
 -- so a shaper's step may be asked for in each bit time
 pub in_range : (input : PortInput) (t : ℕ) → IsPortInput input → t ≤ 2 ^ 41 → IsInRange (port_in input t).shaper

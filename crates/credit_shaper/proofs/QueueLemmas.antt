@@ -8,36 +8,18 @@ use Rattle.credit_shaper.proofs.MomentLemmas.{blank}
 
 -- traffics with one number are one
 pub same_traffic : (x y : Traffic) → (traffic_number x ≡ traffic_number y) → x ≡ y
-same_traffic A A e = refl
-same_traffic A B e = absurd (omega (arith, e))
-same_traffic A Other e = absurd (omega (arith, e))
-same_traffic B A e = absurd (omega (arith, e))
-same_traffic B B e = refl
-same_traffic B Other e = absurd (omega (arith, e))
-same_traffic Other A e = absurd (omega (arith, e))
-same_traffic Other B e = absurd (omega (arith, e))
-same_traffic Other Other e = refl
+same_traffic x y h1 = grind arith
 
 pub traffic_of : (traffic : Traffic) (x : Arrival) → is_of traffic x ≡ true → x.traffic ≡ traffic
 traffic_of traffic x e = same_traffic x.traffic traffic (eqb-true (traffic_number x.traffic) (traffic_number traffic) e)
 
 -- an index that is read after another was put: of the same traffic or not
 pub head_index-same : (traffic : Traffic) (n : ℕ) (h : Heads) → head_index (with_head_index traffic n h) traffic ≡ n
-head_index-same A n h = refl
-head_index-same B n h = refl
-head_index-same Other n h = refl
+head_index-same traffic n h = grind arith
 
 pub head_index-other : (traffic other : Traffic) (n : ℕ) (h : Heads) → (traffic_number other ≡ traffic_number traffic → ⊥)
     → head_index (with_head_index traffic n h) other ≡ head_index h other
-head_index-other A A n h ne = absurd (ne refl)
-head_index-other A B n h ne = refl
-head_index-other A Other n h ne = refl
-head_index-other B A n h ne = refl
-head_index-other B B n h ne = absurd (ne refl)
-head_index-other B Other n h ne = refl
-head_index-other Other A n h ne = refl
-head_index-other Other B n h ne = refl
-head_index-other Other Other n h ne = absurd (ne refl)
+head_index-other traffic other n h h1 = grind arith
 
 -- a fact of each traffic, with another index for one
 pub head_index-each : (P : Traffic → ℕ → Type 0) (traffic : Traffic) (n : ℕ) (h : Heads) → P traffic n
@@ -68,21 +50,12 @@ same_pending g h i (x ∷ xs) same =
 pub pending-append : (h : Heads) (i : ℕ) (xs ys : List Arrival)
     → pending h i (xs ++ ys) ≡ pending h i xs ++ pending h (i + length xs) ys
 pending-append h i [] ys = ap (λ n. pending h n ys) (omega arith)
-pending-append h i (x ∷ xs) ys =
-    let more : pending h (i + 1) (xs ++ ys) ≡ pending h (i + 1) xs ++ pending h (i + suc (length xs)) ys =
-    pending-append h (i + 1) xs ys ∙ ap (λ n. pending h (i + 1) xs ++ pending h n ys) (omega arith) in
-    elim (nat_le (head_index h x.traffic) i) as (λ b. cond b (x ∷ pending h (i + 1) (xs ++ ys)) (pending h (i + 1) (xs ++ ys))
-    ≡ cond b (x ∷ pending h (i + 1) xs) (pending h (i + 1) xs) ++ pending h (i + suc (length xs)) ys) [
-      | true ↦ ap (λ zs. x ∷ zs) more
-      | false ↦ more
-    ]
+pending-append h i (x ∷ xs) ys = grind (arith, pending-append h (i + 1) xs ys)
 
 -- where no queue begins later, all are pending
 pub pending-all : (h : Heads) (i : ℕ) (xs : List Arrival) → AreWithin i h → pending h i xs ≡ xs
 pending-all h i [] low = refl
-pending-all h i (x ∷ xs) low =
-    cond-true (nat_le (head_index h x.traffic) i) _ _ (le-leb (head_index h x.traffic) i (low x.traffic))
-    ∙ ap (λ zs. x ∷ zs) (pending-all h (i + 1) xs (λ traffic. omega (arith, low traffic)))
+pending-all h i (x ∷ xs) low = grind (arith, pending-all h (i + 1) xs (λ traffic. omega (arith, low traffic)), cond-true, le-leb)
 
 -- frames that come where no queue begins later join the waiting ones
 pub pending-join : (h : Heads) (xs ys : List Arrival) → AreWithin (length xs) h
@@ -96,60 +69,25 @@ pub head_of-at : (h : Heads) (traffic : Traffic) (xs : List Arrival) (i j : ℕ)
     → j < length xs → is_of traffic (get_or xs j blank) ≡ true
     → head_of traffic (pending h i xs) ≡ Some (get_or xs j blank)
 head_of-at h traffic [] i j e l here = absurd (omega (arith, l))
-head_of-at h traffic (x ∷ xs) i zero e l here =
-    let same : x.traffic ≡ traffic = traffic_of traffic x here in
-    let inside : nat_le (head_index h x.traffic) i ≡ true = le-leb (head_index h x.traffic) i (omega (arith, e, ap (head_index h) same)) in
-    rw inside (rw here refl)
-head_of-at h traffic (x ∷ xs) i (suc j) e l here =
-    let rest : head_of traffic (pending h (i + 1) xs) ≡ Some (get_or xs j blank) = head_of-at h traffic xs (i + 1) j (omega (arith, e)) (omega (arith, l)) here in
-    elim (cases_Bool (is_of traffic x)) [
-      | inl own ↦
-          let out : nat_le (head_index h x.traffic) i ≡ false = lt-leb (head_index h x.traffic) i (omega (arith, e, ap (head_index h) (traffic_of traffic x own))) in
-          rw out rest
-      | inr other ↦ elim (cases_Bool (nat_le (head_index h x.traffic) i)) [ inl y ↦ rw y (rw other rest) | inr n ↦ rw n rest ]
-    ]
+head_of-at h traffic (x ∷ xs) i zero e l here = grind (arith, traffic_of, le-leb)
+head_of-at h traffic (x ∷ xs) i (suc j) e l here = grind (arith, head_of-at h traffic xs (i + 1) j (omega (arith, e)) (omega (arith, l)) here, blank, cases_Bool, lt-leb, traffic_of)
 
 pub head_of-none : (h : Heads) (traffic : Traffic) (xs : List Arrival) (i : ℕ) → i + length xs ≤ head_index h traffic
     → head_of traffic (pending h i xs) ≡ None
 head_of-none h traffic [] i past = refl
-head_of-none h traffic (x ∷ xs) i past =
-    let rest : head_of traffic (pending h (i + 1) xs) ≡ None = head_of-none h traffic xs (i + 1) (omega (arith, past)) in
-    elim (cases_Bool (is_of traffic x)) [
-      | inl own ↦
-          let out : nat_le (head_index h x.traffic) i ≡ false = lt-leb (head_index h x.traffic) i (omega (arith, past, ap (head_index h) (traffic_of traffic x own))) in
-          rw out rest
-      | inr other ↦ elim (cases_Bool (nat_le (head_index h x.traffic) i)) [ inl y ↦ rw y (rw other rest) | inr n ↦ rw n rest ]
-    ]
+head_of-none h traffic (x ∷ xs) i past = grind (arith, head_of-none h traffic xs (i + 1) (omega (arith, past)), cases_Bool, lt-leb, traffic_of)
 
 -- frames after both indices of a traffic are taken in alike
 after_both : (g h : Heads) (i : ℕ) (xs : List Arrival) → ((traffic : Traffic) → (head_index g traffic ≡ head_index h traffic) ⊎ ((head_index g traffic ≤ i) × (head_index h traffic ≤ i)))
     → pending g i xs ≡ pending h i xs
-after_both g h i xs same =
-    same_pending g h i xs (λ k l.
-    elim (same (get_or xs k blank).traffic) [
-      | inl e ↦ ap (λ n. nat_le n (i + k)) e
-      | inr low ↦ le-leb (head_index g (get_or xs k blank).traffic) (i + k) (omega (arith, low.0)) ∙ sym (le-leb (head_index h (get_or xs k blank).traffic) (i + k) (omega (arith, low.1)))
-    ])
+after_both g h i xs same = grind (arith, same_pending, blank, le-leb)
 
 -- without the first of a queue, the queue begins at the next index
 pub without_head-at : (h : Heads) (traffic : Traffic) (xs : List Arrival) (i j : ℕ) → head_index h traffic ≡ i + j
     → j < length xs → is_of traffic (get_or xs j blank) ≡ true
     → without_head traffic (pending h i xs) ≡ pending (with_head_index traffic (i + j + 1) h) i xs
 without_head-at h traffic [] i j e l here = absurd (omega (arith, l))
-without_head-at h traffic (x ∷ xs) i zero e l here =
-    let g : Heads = with_head_index traffic (i + 0 + 1) h in
-    let same : x.traffic ≡ traffic = traffic_of traffic x here in
-    let put : head_index g traffic ≡ i + 0 + 1 = head_index-same traffic (i + 0 + 1) h in
-    let inside : nat_le (head_index h x.traffic) i ≡ true = le-leb (head_index h x.traffic) i (omega (arith, e, ap (head_index h) same)) in
-    let out : nat_le (head_index g x.traffic) i ≡ false = lt-leb (head_index g x.traffic) i (omega (arith, put, ap (head_index g) same)) in
-    let each : (other : Traffic) → (head_index h other ≡ head_index g other) ⊎ ((head_index h other ≤ i + 1) × (head_index g other ≤ i + 1)) =
-    λ other. elim (cases_eq (traffic_number other) (traffic_number traffic)) [
-      | inl f ↦ let one : other ≡ traffic = same_traffic other traffic f in
-          inr (omega (arith, e, ap (head_index h) one), omega (arith, put, ap (head_index g) one))
-      | inr ne ↦ inl (sym (head_index-other traffic other (i + 0 + 1) h ne))
-    ] in
-    let rest : pending h (i + 1) xs ≡ pending g (i + 1) xs = after_both h g (i + 1) xs each in
-    rw inside (rw (here, out) rest)
+without_head-at h traffic (x ∷ xs) i zero e l here = grind (arith, traffic_of, head_index-same, le-leb, lt-leb, cases_eq, same_traffic, head_index-other, after_both)
 without_head-at h traffic (x ∷ xs) i (suc j) e l here =
     let g : Heads = with_head_index traffic (i + suc j + 1) h in
     let put : head_index g traffic ≡ i + suc j + 1 = head_index-same traffic (i + suc j + 1) h in
@@ -175,49 +113,22 @@ without_head-at h traffic (x ∷ xs) i (suc j) e l here =
 pub pending-settled : (g h : Heads) (arrivals : List Arrival) (came : ℕ) → came ≤ length arrivals
     → ((traffic : Traffic) → (head_index g traffic ≤ head_index h traffic) × AllWithin (λ x. is_of traffic x ≡ false) arrivals (head_index g traffic) (head_index h traffic))
     → pending h 0 (take came arrivals) ≡ pending g 0 (take came arrivals)
-pending-settled g h arrivals came within moved =
-    same_pending h g 0 (take came arrivals) (λ k l.
-    let x : Arrival = get_or (take came arrivals) k blank in
-    let long : length (take came arrivals) ≡ came = length-take-le came arrivals within in
-    let read : x ≡ get_or arrivals k blank = get_or-take came arrivals k blank (omega (arith, long, l)) in
-    let skipped = moved x.traffic in
-    elim (cases_lt k (head_index g x.traffic)) [
-      | inl low ↦ lt-leb (head_index h x.traffic) (0 + k) (omega (arith, low, skipped.0)) ∙ sym (lt-leb (head_index g x.traffic) (0 + k) (omega (arith, low)))
-      | inr high ↦ elim (cases_lt k (head_index h x.traffic)) [
-        | inl between ↦
-            let other : is_of x.traffic (get_or arrivals k blank) ≡ false = skipped.1 k blank high between in
-            let own : is_of x.traffic x ≡ true = eq-eqb (traffic_number x.traffic) (traffic_number x.traffic) refl in
-            absurd (false≢true (sym other ∙ (ap (is_of x.traffic) (sym read) ∙ own)))
-        | inr over ↦ le-leb (head_index h x.traffic) (0 + k) (omega (arith, over)) ∙ sym (le-leb (head_index g x.traffic) (0 + k) (omega (arith, high)))
-      ]
-    ])
+pending-settled g h arrivals came within moved = grind (arith, same_pending, blank, length-take-le, get_or-take, cases_lt, lt-leb, eq-eqb, false≢true, le-leb)
 
 -- the first frame of a queue, where there is one
 pub frame_at : (h : Heads) (arrivals : List Arrival) (came : ℕ) (traffic : Traffic) → AreHeads arrivals came h
     → came ≤ length arrivals → head_index h traffic < came
     → head_of traffic (pending h 0 (take came arrivals)) ≡ Some (get_or arrivals (head_index h traffic) blank)
-frame_at h arrivals came traffic heads within l =
-    let j : ℕ = head_index h traffic in
-    let long : length (take came arrivals) ≡ came = length-take-le came arrivals within in
-    let read : get_or (take came arrivals) j blank ≡ get_or arrivals j blank = get_or-take came arrivals j blank l in
-    let here : is_of traffic (get_or arrivals j blank) ≡ true = (heads traffic).1 l blank in
-    head_of-at h traffic (take came arrivals) 0 j (omega arith) (omega (arith, long, l)) (ap (is_of traffic) read ∙ here)
-    ∙ ap (λ x. Some x) read
+frame_at h arrivals came traffic heads within l = grind (arith, length-take-le, blank, get_or-take, head_of-at)
 
 pub frame_none : (h : Heads) (arrivals : List Arrival) (came : ℕ) (traffic : Traffic) → came ≤ length arrivals
     → came ≤ head_index h traffic → head_of traffic (pending h 0 (take came arrivals)) ≡ None
-frame_none h arrivals came traffic within l =
-    let long : length (take came arrivals) ≡ came = length-take-le came arrivals within in
-    head_of-none h traffic (take came arrivals) 0 (omega (arith, long, l))
+frame_none h arrivals came traffic within l = grind (arith, length-take-le, head_of-none)
 
 -- a queue has a frame where its index is below the number of those that have come
 pub waits_is : (h : Heads) (arrivals : List Arrival) (came : ℕ) (traffic : Traffic) → AreHeads arrivals came h
     → came ≤ length arrivals → does_wait traffic (pending h 0 (take came arrivals)) ≡ nat_lt (head_index h traffic) came
-waits_is h arrivals came traffic heads within =
-    elim (cases_lt (head_index h traffic) came) [
-      | inl l ↦ ap is_some (frame_at h arrivals came traffic heads within l) ∙ sym (lt-ltb (head_index h traffic) came l)
-      | inr l ↦ ap is_some (frame_none h arrivals came traffic within l) ∙ sym (le-ltb (head_index h traffic) came l)
-    ]
+waits_is h arrivals came traffic heads within = grind (arith, cases_lt, frame_at, lt-ltb, frame_none, le-ltb)
 
 -- without its first frame, a queue begins at the next frame of its traffic
 pub without_first : (h : Heads) (arrivals : List Arrival) (came : ℕ) (x : Arrival) (n : ℕ) → AreHeads arrivals came h

@@ -16,18 +16,13 @@ jumped n p = record p { shaper = after_bits n p.line (does_wait A p.waiting) (do
 within_quiet : (input : PortInput) (t : ℕ) (p : Port) → arrivals_at input.arrivals t ≡ []
     → (slopes_at input t).slope_a ≡ p.shaper.slope_a → (slopes_at input t).slope_b ≡ p.shaper.slope_b
     → with_start t p ≡ p → within_bit input t p ≡ p
-within_quiet input t p none a b start =
-    let same : with_arrivals input t p ≡ p = rw (none, a, b, append-nil p.waiting) refl in
-    ap (with_start t) same ∙ start
+within_quiet input t p none a b start = grind (arith, append-nil)
 
 start_busy : (t : ℕ) (p : Port) → t < p.free_from → with_start t p ≡ p
 start_busy t p busy = cond-false (nat_le p.free_from t) _ _ (lt-leb p.free_from t busy)
 
 start_idle : (t : ℕ) (p : Port) → p.line ≡ Free → head_of (turn_of p.shaper p.waiting) p.waiting ≡ None → with_start t p ≡ p
-start_idle t p free none =
-    let rest : starts t p (head_of (turn_of p.shaper p.waiting) p.waiting) ≡ p =
-    ap (starts t p) none ∙ ap (λ (l : Line). record p { line = l }) (sym free) in
-    elim (nat_le p.free_from t) as (λ b. cond b (starts t p (head_of (turn_of p.shaper p.waiting) p.waiting)) p ≡ p) [ true ↦ rest | false ↦ refl ]
+start_idle t p free none = grind arith
 
 -- one step more
 jumped_more : (n : ℕ) (p : Port) → with_credits (jumped n p) ≡ jumped (suc n) p
@@ -59,10 +54,7 @@ stretch input t (suc n) p here quiet =
 
 no_turn_for : (waits : Bool) (rate slope n : ℕ) (c : ℤ) → IsShort waits c slope n
     → (waits && int_le (pos 0) (credit_after_bits n rate slope false waits c)) ≡ false
-no_turn_for true rate slope n c short =
-    let below : (c +ℤ pos (n * slope)) <ℤ pos 0 = short refl in
-    ap (int_le (pos 0)) (credit-waits n rate slope c) ∙ not_zero (c +ℤ pos (n * slope)) below
-no_turn_for false rate slope n c short = refl
+no_turn_for waits rate slope n c h1 = grind (arith, credit-waits, not_zero)
 
 -- a trace's queues wait where the port's do
 pub waits : (arrivals : List Arrival) (trace : PortTrace) (traffic : Traffic) → AreHeads arrivals trace.came trace.heads
@@ -70,28 +62,13 @@ pub waits : (arrivals : List Arrival) (trace : PortTrace) (traffic : Traffic) �
 waits arrivals trace traffic heads within = waits_is trace.heads arrivals trace.came traffic heads within
 
 no_head : (traffic : Traffic) (xs : List Arrival) → does_wait traffic xs ≡ false → head_of traffic xs ≡ None
-no_head traffic xs =
-    elim (head_of traffic xs) as (λ o. is_some o ≡ false → o ≡ None) [ None ↦ λ e. refl | Some x ↦ λ e. cc ]
+no_head traffic xs = grind arith
 
 -- on a free line nothing starts while the classes that wait are short of credit
 idle_start : (arrivals : List Arrival) (sent : List Departure) (trace : PortTrace) (t n : ℕ)
     → AreHeads arrivals trace.came trace.heads → trace.came ≤ length arrivals → IsIdle trace n
     → with_start t (jumped n (port_of arrivals sent trace)) ≡ jumped n (port_of arrivals sent trace)
-idle_start arrivals sent trace t n heads within idle =
-    let p : Port = port_of arrivals sent trace in
-    let s : Shaper = after_bits n trace.line (does_wait A p.waiting) (does_wait B p.waiting) trace.shaper in
-    let wa : does_wait A p.waiting ≡ has_frame trace A = waits arrivals trace A heads within in
-    let wb : does_wait B p.waiting ≡ has_frame trace B = waits arrivals trace B heads within in
-    let is = after_bits_is n trace.line (does_wait A p.waiting) (does_wait B p.waiting) trace.shaper in
-    let a : (does_wait A p.waiting && int_le (pos 0) s.credit_a) ≡ false =
-    rw (ap (λ r. r.credit_a) is, idle.line, wa) (no_turn_for (has_frame trace A) (bits_of trace.shaper.rate) trace.shaper.slope_a n trace.shaper.credit_a idle.class_a) in
-    let b : (does_wait B p.waiting && int_le (pos 0) s.credit_b) ≡ false =
-    rw (ap (λ r. r.credit_b) is, idle.line, wb) (no_turn_for (has_frame trace B) (bits_of trace.shaper.rate) trace.shaper.slope_b n trace.shaper.credit_b idle.class_b) in
-    let turn : turn_of s p.waiting ≡ Other =
-    cond-false (does_wait A p.waiting && int_le (pos 0) s.credit_a) A _ a ∙ cond-false (does_wait B p.waiting && int_le (pos 0) s.credit_b) B Other b in
-    let none : head_of (turn_of s p.waiting) p.waiting ≡ None =
-    ap (λ traffic. head_of traffic p.waiting) turn ∙ no_head Other p.waiting (waits arrivals trace Other heads within ∙ idle.other) in
-    start_idle t (jumped n p) idle.line none
+idle_start arrivals sent trace t n heads within idle = grind (arith, waits, after_bits_is, no_turn_for, cond-false, no_head, start_idle)
 
 -- up to the next moment each bit time leaves the port alone
 pub quiet_bit : (input : PortInput) (sent : List Departure) (trace : PortTrace) (next k : ℕ)

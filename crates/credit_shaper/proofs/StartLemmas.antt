@@ -1,47 +1,32 @@
 -- What starts in a bit time, and that what rests goes on resting.
 use Rattle.std.proofs.Common.{◌≡◌, ℕ, ◌≤◌, Bool, true, false, cond, List, length, get_or, Some, None, refl, sym, ◌∙◌, ap, subst, arith, inl, inr}
 use Rattle.std.specs.Prelude.{nat_le, is_some, ◌&&◌, ℤ, pos, ◌<ℤ◌, int_le, if◌then◌else◌}
-use Rattle.std.proofs.lemmas.{Bool.cases_Bool, Bool.and_cases, Bool.and_parts, Bool.cond-true, Bool.cond-false, Bool.le-leb, Bool.true≢false, Int.ints}
+use Rattle.std.proofs.lemmas.{Bool.cases_Bool, Bool.and_parts, Bool.cond-true, Bool.cond-false, Bool.le-leb, Bool.true≢false, Int.ints}
 use Rattle.credit_shaper.specs.{A, B, Other, Free, Arrival, PortInput, Departure, PortTrace, IsPortInput, head_of, turn_of, starts, with_start, frame_of, head_index, AreHeads, IsFirst, IsIdle, IsShort, port_of, turn_in, has_frame}
 use Rattle.credit_shaper.specs.Trace.{Port}
-use Rattle.credit_shaper.proofs.{CreditLemmas.below_zero, MomentLemmas.blank, QueueLemmas.waits_is, TraceLemmas.free_line}
+use Rattle.credit_shaper.proofs.{MomentLemmas.blank, QueueLemmas.waits_is, TraceLemmas.free_line, CreditLemmas.short_if}
 
 -- a start by the frame that starts
 pub start_found : (t : ℕ) (p : Port) (x : Arrival)
     → Some x ≡ (if nat_le p.free_from t then head_of (turn_of p.shaper p.waiting) p.waiting else None)
     → with_start t p ≡ starts t p (Some x)
-start_found t p x =
-    elim (nat_le p.free_from t) as (λ b. Some x ≡ cond b (head_of (turn_of p.shaper p.waiting) p.waiting) None
-    → cond b (starts t p (head_of (turn_of p.shaper p.waiting) p.waiting)) p ≡ starts t p (Some x)) [
-      | true ↦ λ e. ap (starts t p) (sym e)
-      | false ↦ λ e. cc
-    ]
+start_found t p x = grind arith
 
 pub start_none : (t : ℕ) (p : Port)
     → None ≡ (if nat_le p.free_from t then head_of (turn_of p.shaper p.waiting) p.waiting else None)
     → with_start t p ≡ (if nat_le p.free_from t then record p { line = Free } else p)
-start_none t p =
-    elim (nat_le p.free_from t) as (λ b. None ≡ cond b (head_of (turn_of p.shaper p.waiting) p.waiting) None
-    → cond b (starts t p (head_of (turn_of p.shaper p.waiting) p.waiting)) p ≡ cond b (record p { line = Free }) p) [
-      | true ↦ λ e. ap (starts t p) (sym e)
-      | false ↦ λ e. refl
-    ]
+start_none t p = grind arith
 
 -- a trace at rest stands for a port at rest
 pub port_at_rest : (arrivals : List Arrival) (sent : List Departure) (trace : PortTrace)
     → port_of arrivals sent (if nat_le trace.free_from trace.bit then record trace { line = Free } else trace)
     ≡ (if nat_le trace.free_from trace.bit then record (port_of arrivals sent trace) { line = Free } else port_of arrivals sent trace)
-port_at_rest arrivals sent trace =
-    elim (nat_le trace.free_from trace.bit) as (λ b. port_of arrivals sent (cond b (record trace { line = Free }) trace)
-    ≡ cond b (record (port_of arrivals sent trace) { line = Free }) (port_of arrivals sent trace)) [ true ↦ refl | false ↦ refl ]
+port_at_rest arrivals sent trace = grind arith
 
 -- a frame of the arrivals has bits
 pub some_bits : (input : PortInput) (trace : PortTrace) (x : Arrival) → IsPortInput input → trace.came ≤ length input.arrivals
     → IsFirst input.arrivals trace x → 336 ≤ x.bits
-some_bits input trace x valid within first =
-    let size : 336 ≤ (get_or input.arrivals (head_index trace.heads x.traffic) blank).bits =
-    (valid.arrivals.sizes (head_index trace.heads x.traffic) blank (omega (arith, first.came, within))).0 in
-    omega (arith, size, ap (λ y. y.bits) (first.here blank))
+some_bits input trace x valid within first = grind (arith, blank)
 
 -- where the queue whose turn it is has no frame, neither has the last, and a class that waits has no credit
 record HasNoTurn (trace : PortTrace) : Type 0 where
@@ -49,27 +34,8 @@ record HasNoTurn (trace : PortTrace) : Type 0 where
   class_b : has_frame trace B ≡ true → trace.shaper.credit_b <ℤ pos 0
   other : has_frame trace Other ≡ false
 
-short_of : (waits : Bool) (c : ℤ) → (waits && int_le (pos 0) c) ≡ false → waits ≡ true → c <ℤ pos 0
-short_of waits c e w =
-    elim (and_cases waits (int_le (pos 0) c) e) [ inl f ↦ absurd (true≢false (sym w ∙ f)) | inr f ↦ below_zero c f ]
-
 no_turn : (trace : PortTrace) → has_frame trace (turn_in trace) ≡ false → HasNoTurn trace
-no_turn trace =
-    let a : Bool = has_frame trace A && int_le (pos 0) trace.shaper.credit_a in
-    let b : Bool = has_frame trace B && int_le (pos 0) trace.shaper.credit_b in
-    elim (cases_Bool a) [
-      | inl y ↦ λ h. absurd (true≢false (sym (and_parts (has_frame trace A) (int_le (pos 0) trace.shaper.credit_a) y).0
-          ∙ (ap (has_frame trace) (sym (cond-true a A (cond b B Other) y)) ∙ h)))
-      | inr n ↦ elim (cases_Bool b) [
-        | inl y ↦ λ h. absurd (true≢false (sym (and_parts (has_frame trace B) (int_le (pos 0) trace.shaper.credit_b) y).0
-            ∙ (ap (has_frame trace) (sym (cond-false a A (cond b B Other) n ∙ cond-true b B Other y)) ∙ h)))
-        | inr m ↦ λ h. record {
-          class_a = short_of (has_frame trace A) trace.shaper.credit_a n;
-          class_b = short_of (has_frame trace B) trace.shaper.credit_b m;
-          other = ap (has_frame trace) (sym (cond-false a A (cond b B Other) n ∙ cond-false b B Other m)) ∙ h;
-        }
-      ]
-    ]
+no_turn trace = grind (arith, cases_Bool, true≢false, and_parts, cond-true, cond-false)
 
 short_now : (waits : Bool) (c : ℤ) (slope : ℕ) → (waits ≡ true → c <ℤ pos 0) → IsShort waits c slope 0
 short_now waits c slope h w = let below : c <ℤ pos 0 = h w in omega (arith, ints, below)

@@ -1,14 +1,14 @@
 -- What goes on in one bit time.
 use Rattle.std.proofs.Common.{◌≡◌, ℕ, zero, suc, ◌+◌, ◌-◌, ◌<◌, ◌≤◌, ◌⊎◌, Bool, true, false, cond, List, [], ◌∷◌, ◌++◌, Option, Some, None, refl, sym, ◌∙◌, ap, subst, arith, inl, inr}
 use Rattle.std.specs.Prelude.{All, nat_le, is_some, ◌&&◌, ℤ, pos, ◌≤ℤ◌, ◌<ℤ◌, int_le}
-use Rattle.std.proofs.lemmas.{Bool.cases_Bool, Bool.cases_lt, Bool.cases_eq, Bool.and_cases, Bool.and_parts, Bool.cond-true, Bool.cond-false, Bool.le-leb, Bool.lt-leb, Bool.true≢false, Bool.false≢true, Int.ints, List.Elements.Contains-append_left, List.Elements.Contains-push}
+use Rattle.std.proofs.lemmas.{Bool.cases_Bool, Bool.cases_lt, Bool.cases_eq, Bool.and_parts, Bool.cond-true, Bool.cond-false, Bool.le-leb, Bool.lt-leb, Bool.true≢false, Bool.false≢true, Int.ints, List.Elements.Contains-append_left, List.Elements.Contains-push}
 use Rattle.std.specs.List.{Contains}
 use Rattle.srp_base.proofs.Arithmetic.{at_least_zero}
 use Rattle.srp_base.specs.declared.bandwidth.Rate.{Rate}
 use Rattle.srp_base.specs.Bandwidth.{bits_of}
 use Rattle.credit_shaper.specs.{Traffic, A, B, Other, Sends, Shaper, Arrival, PortInput, Departure, credit_after, does_send, traffic_number, IsPortInput, IsFrameSize, is_of, arrivals_at, no_slopes, head_of, turn_of, does_wait, departure_at, starts, with_arrivals, port_at, port_in, credit_a_at, credit_b_at, slope_a_at, slope_b_at, is_on_line, KeepCaps, AreSlopesWithin, head_at, is_waiting, was_on_line, bits_left, bits_ahead, GoesOn, Starts, Rests, IsOneOfThree, WaitsWithCreditA, sent_of, DepartsAt}
 use Rattle.credit_shaper.specs.Trace.{Port}
-use Rattle.credit_shaper.proofs.{BoundLemmas.HasSizes, BoundLemmas.head_traffic, BoundLemmas.head_of-other, BoundLemmas.head_within, BoundLemmas.sizes_at, BoundLemmas.with_arrivals_sizes, CreditLemmas.below_zero, PortLemmas.shaper-port_in, PortLemmas.rate_is, PortLemmas.last_change_all, QueueLemmas.same_traffic, DepartureLemmas.Goes, DepartureLemmas.goes_by}
+use Rattle.credit_shaper.proofs.{BoundLemmas.HasSizes, BoundLemmas.head_traffic, BoundLemmas.head_of-other, BoundLemmas.head_within, BoundLemmas.sizes_at, BoundLemmas.with_arrivals_sizes, PortLemmas.shaper-port_in, PortLemmas.rate_is, PortLemmas.last_change_all, QueueLemmas.same_traffic, DepartureLemmas.Goes, DepartureLemmas.goes_by, CreditLemmas.short_if}
 
 -- ---- the credits
 
@@ -60,41 +60,8 @@ record IsTurnOf (s : Shaper) (w : List Arrival) : Type 0 where
   of_b : turn_of s w ≡ B → (does_wait B w ≡ true) × (pos 0 ≤ℤ s.credit_b) × (does_wait A w ≡ true → s.credit_a <ℤ pos 0)
   of_other : turn_of s w ≡ Other → (does_wait A w ≡ true → s.credit_a <ℤ pos 0) × (does_wait B w ≡ true → s.credit_b <ℤ pos 0)
 
-short_if : (waits : Bool) (c : ℤ) → (waits && int_le (pos 0) c) ≡ false → waits ≡ true → c <ℤ pos 0
-short_if waits c e w =
-    elim (and_cases waits (int_le (pos 0) c) e) [ inl f ↦ absurd (true≢false (sym w ∙ f)) | inr f ↦ below_zero c f ]
-
 turn_is_of : (s : Shaper) (w : List Arrival) → IsTurnOf s w
-turn_is_of s w =
-    let a : Bool = does_wait A w && int_le (pos 0) s.credit_a in
-    let b : Bool = does_wait B w && int_le (pos 0) s.credit_b in
-    elim (cases_Bool a) [
-      | inl y ↦
-          let is : turn_of s w ≡ A = cond-true a A (cond b B Other) y in
-          let own = and_parts (does_wait A w) (int_le (pos 0) s.credit_a) y in
-          record {
-            of_a = λ _. (own.0, at_least_zero s.credit_a own.1);
-            of_b = λ e. let f : 1 ≡ 0 = sym (ap traffic_number e) ∙ ap traffic_number is in absurd (omega (arith, f));
-            of_other = λ e. let f : 2 ≡ 0 = sym (ap traffic_number e) ∙ ap traffic_number is in absurd (omega (arith, f));
-          }
-      | inr n ↦ elim (cases_Bool b) [
-        | inl y ↦
-            let is : turn_of s w ≡ B = cond-false a A (cond b B Other) n ∙ cond-true b B Other y in
-            let own = and_parts (does_wait B w) (int_le (pos 0) s.credit_b) y in
-            record {
-              of_a = λ e. let f : 0 ≡ 1 = sym (ap traffic_number e) ∙ ap traffic_number is in absurd (omega (arith, f));
-              of_b = λ _. (own.0, at_least_zero s.credit_b own.1, short_if (does_wait A w) s.credit_a n);
-              of_other = λ e. let f : 2 ≡ 1 = sym (ap traffic_number e) ∙ ap traffic_number is in absurd (omega (arith, f));
-            }
-        | inr m ↦
-            let is : turn_of s w ≡ Other = cond-false a A (cond b B Other) n ∙ cond-false b B Other m in
-            record {
-              of_a = λ e. let f : 0 ≡ 2 = sym (ap traffic_number e) ∙ ap traffic_number is in absurd (omega (arith, f));
-              of_b = λ e. let f : 1 ≡ 2 = sym (ap traffic_number e) ∙ ap traffic_number is in absurd (omega (arith, f));
-              of_other = λ _. (short_if (does_wait A w) s.credit_a n, short_if (does_wait B w) s.credit_b m);
-            }
-      ]
-    ]
+turn_is_of s w = grind (arith, cases_Bool, cond-true, and_parts, at_least_zero, cond-false)
 
 -- what a port is once its line was free, in the words of a bit time
 record HasStarted (t : ℕ) (p q : Port) (traffic : Traffic) : Type 0 where
@@ -154,9 +121,7 @@ starts_of input t q Other is free turn has =
 
 -- nothing to start leaves the classes short and the rest without a frame
 no_start : (s : Shaper) (w : List Arrival) (traffic : Traffic) → turn_of s w ≡ traffic → head_of traffic w ≡ None → traffic ≡ Other
-no_start s w A turn none = absurd (true≢false (sym ((turn_is_of s w).of_a turn).0 ∙ ap is_some none))
-no_start s w B turn none = absurd (true≢false (sym ((turn_is_of s w).of_b turn).0 ∙ ap is_some none))
-no_start s w Other turn none = refl
+no_start s w traffic h1 h2 = grind (arith, true≢false, turn_is_of)
 
 free_cases : (input : PortInput) (t : ℕ) (q : Port) (o : Option Arrival) → q ≡ with_arrivals input t (port_at input t)
     → HasSizes t q → q.free_from ≤ t → port_in input t ≡ starts t q o → head_of (turn_of q.shaper q.waiting) q.waiting ≡ o
@@ -232,9 +197,7 @@ not_both c up down = omega (arith, ints, up, down)
 
 -- a start of a traffic is seen on the line
 starts_line : (input : PortInput) (traffic : Traffic) (t : ℕ) → Starts input traffic t → is_on_line input traffic t ≡ true
-starts_line input A t s = ap (does_send A) s.line
-starts_line input B t s = ap (does_send B) s.line
-starts_line input Other t s = ap (does_send Other) s.line
+starts_line input traffic t h1 = grind arith
 
 not_started : (input : PortInput) (t : ℕ) (traffic : Traffic) → is_waiting input A t ≡ true → pos 0 ≤ℤ credit_a_at input t
     → is_on_line input A t ≡ false → Starts input traffic t → ⊥
@@ -319,7 +282,7 @@ unfolding port_at
 stays_on input traffic x t valid head = stays_within input (suc t) traffic x valid head
 
 -- so a queue that isn't empty stays so
-waits_head : (o : Option Arrival) → is_some o ≡ true → (x : Arrival) × (o ≡ Some x)
+pub waits_head : (o : Option Arrival) → is_some o ≡ true → (x : Arrival) × (o ≡ Some x)
 waits_head None w = absurd (false≢true w)
 waits_head (Some x) w = (x, refl)
 
@@ -334,13 +297,7 @@ waits_on input traffic t valid waits =
 starts_first : (t : ℕ) (traffic : Traffic) (q : Port) (x : Arrival) (o : Option Arrival) → head_of traffic q.waiting ≡ Some x
     → head_of (turn_of q.shaper q.waiting) q.waiting ≡ o → (starts t q o).line ≡ Sends traffic
     → (starts t q o).sent ≡ q.sent ++ departure_at t x ∷ []
-starts_first t traffic q x None head e line = cc
-starts_first t traffic q x (Some y) head e line =
-    let own : y.traffic ≡ turn_of q.shaper q.waiting = head_traffic (turn_of q.shaper q.waiting) q.waiting y e in
-    let sends : y.traffic ≡ traffic = cc in
-    let both : Some y ≡ Some x = sym e ∙ (ap (λ k. head_of k q.waiting) (sym own ∙ sends) ∙ head) in
-    let one : y ≡ x = cc in
-    ap (λ z. q.sent ++ departure_at t z ∷ []) one
+starts_first t traffic q x o h1 h2 h3 = grind (arith, head_traffic)
 
 departs_within : (input : PortInput) (t : ℕ) (traffic : Traffic) (x : Arrival) → head_of traffic (port_at input t).waiting ≡ Some x
     → Starts input traffic t → (port_in input t).sent ≡ (port_at input t).sent ++ departure_at t x ∷ []

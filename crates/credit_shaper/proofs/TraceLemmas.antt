@@ -9,33 +9,23 @@ use Rattle.credit_shaper.proofs.{CreditLemmas.after_bits_is, MomentLemmas.blank,
 -- whose turn it is, by the indices
 pub turn_is : (arrivals : List Arrival) (trace : PortTrace) → AreHeads arrivals trace.came trace.heads
     → trace.came ≤ length arrivals → turn_of trace.shaper (waiting_of arrivals trace) ≡ turn_in trace
-turn_is arrivals trace heads within =
-    let a : does_wait A (waiting_of arrivals trace) ≡ has_frame trace A = waits_is trace.heads arrivals trace.came A heads within in
-    let b : does_wait B (waiting_of arrivals trace) ≡ has_frame trace B = waits_is trace.heads arrivals trace.came B heads within in
-    rw (a, b) refl
+turn_is arrivals trace heads within = grind (arith, waits_is)
 
 -- on a free line it is the first of the queue whose turn it is
 pub free_line : (arrivals : List Arrival) (trace : PortTrace) → AreHeads arrivals trace.came trace.heads
     → trace.came ≤ length arrivals → trace.free_from ≤ trace.bit
     → frame_of arrivals trace ≡ head_of (turn_in trace) (waiting_of arrivals trace)
-free_line arrivals trace heads within free =
-    cond-true (nat_le trace.free_from trace.bit) _ _ (le-leb trace.free_from trace.bit free)
-    ∙ ap (λ traffic. head_of traffic (waiting_of arrivals trace)) (turn_is arrivals trace heads within)
+free_line arrivals trace heads within free = grind (arith, cond-true, le-leb, turn_is)
 
 pub frame_found : (arrivals : List Arrival) (trace : PortTrace) (i : ℕ) → AreHeads arrivals trace.came trace.heads
     → trace.came ≤ length arrivals → trace.free_from ≤ trace.bit → i ≡ head_index trace.heads (turn_in trace)
     → i < trace.came → Some (get_or arrivals i blank) ≡ frame_of arrivals trace
-frame_found arrivals trace i heads within free e l =
-    ap (λ k. Some (get_or arrivals k blank)) e
-    ∙ sym (free_line arrivals trace heads within free
-    ∙ frame_at trace.heads arrivals trace.came (turn_in trace) heads within (omega (arith, e, l)))
+frame_found arrivals trace i heads within free e l = grind (arith, blank, free_line, frame_at)
 
 pub frame_missing : (arrivals : List Arrival) (trace : PortTrace) (i : ℕ) → AreHeads arrivals trace.came trace.heads
     → trace.came ≤ length arrivals → trace.free_from ≤ trace.bit → i ≡ head_index trace.heads (turn_in trace)
     → trace.came ≤ i → None ≡ frame_of arrivals trace
-frame_missing arrivals trace i heads within free e l =
-    sym (free_line arrivals trace heads within free
-    ∙ frame_none trace.heads arrivals trace.came (turn_in trace) within (omega (arith, e, l)))
+frame_missing arrivals trace i heads within free e l = grind (arith, free_line, frame_none)
 
 -- the step at a bit time's beginning
 pub arrivals_step : (input : PortInput) (trace : PortTrace) (came changed : ℕ) (heads : Heads) (slopes : SlopeChange)
@@ -67,40 +57,16 @@ pub reached_until : (input : PortInput) (trace : PortTrace) (s t : ℕ) → HasR
     → AllWithin (λ x. t ≤ x.bit) input.arrivals trace.came (length input.arrivals)
     → AllWithin (λ x. t ≤ x.bit) input.slopes trace.changed (length input.slopes)
     → HasReached input t trace
-reached_until input trace s t reached up arrivals changes =
-    record {
-      arrivals = record {
-        within = reached.arrivals.within;
-        before = λ k d from to. let f : (get_or input.arrivals k d).bit < s = reached.arrivals.before k d from to in omega (arith, f, up);
-        later = arrivals;
-      };
-      changes = record {
-        within = reached.changes.within;
-        before = λ k d from to. let f : (get_or input.slopes k d).bit < s = reached.changes.before k d from to in omega (arith, f, up);
-        later = changes;
-      };
-      slope_a = reached.slope_a;
-      slope_b = reached.slope_b;
-      heads = reached.heads;
-    }
+reached_until input trace s t reached up arrivals changes = grind arith
 
 -- what is quiet up to a bit time is so up to an earlier one
 pub quiet_until : (trace : PortTrace) (m n : ℕ) → m ≤ n → IsQuiet trace n → IsQuiet trace m
-quiet_until trace m n l (inl busy) = inl (omega (arith, busy, l))
-quiet_until trace m n l (inr idle) = inr (λ bits h. idle bits (omega (arith, h, l)))
+quiet_until trace m n h1 h2 = grind arith
 
 -- steps of the credits change nothing that has come
 pub reached_moved : (input : PortInput) (t next bits : ℕ) (trace : PortTrace) → HasReached input t trace
     → HasReached input t (moved_to next bits trace)
-reached_moved input t next bits trace reached =
-    let same = after_bits_is bits trace.line (has_frame trace A) (has_frame trace B) trace.shaper in
-    record {
-      arrivals = reached.arrivals;
-      changes = reached.changes;
-      slope_a = ap (λ s. s.slope_a) same ∙ reached.slope_a;
-      slope_b = ap (λ s. s.slope_b) same ∙ reached.slope_b;
-      heads = reached.heads;
-    }
+reached_moved input t next bits trace reached = grind (arith, after_bits_is)
 
 -- at the end all arrivals have come
 all_come : (input : PortInput) (trace : PortTrace) → IsPortInput input → HasReached input input.end trace
@@ -119,13 +85,7 @@ pub departures_found : (input : PortInput) (trace : PortTrace) (sent : List Depa
     → trace.bit ≡ input.end → HasReached input trace.bit trace → port_of input.arrivals sent trace ≡ port_at input trace.bit
     → left ≡ map (λ x. x.frame) (pending trace.heads 0 input.arrivals)
     → record { sent = sent; left = left } ≡ departures_of input
-departures_found input trace sent left valid end reached port is =
-    let last : port_of input.arrivals sent trace ≡ port_at input input.end = port ∙ ap (port_at input) end in
-    let all : take trace.came input.arrivals ≡ input.arrivals =
-    take_all trace.came input.arrivals (all_come input trace valid (subst (λ (t : ℕ). HasReached input t trace) end reached)) in
-    let rest : left ≡ map (λ x. x.frame) (port_at input input.end).waiting =
-    is ∙ (ap (λ xs. map (λ x. x.frame) (pending trace.heads 0 xs)) (sym all) ∙ ap (λ p. map (λ x. x.frame) p.waiting) last) in
-    rw (rest, ap (λ p. p.sent) last) refl
+departures_found input trace sent left valid end reached port is = grind (arith, take_all, all_come)
 
 pub port_at_start : (input : PortInput) → fresh_port input ≡ port_at input 0
 unfolding port_at

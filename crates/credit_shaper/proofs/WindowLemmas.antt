@@ -11,7 +11,7 @@ use Rattle.credit_shaper.specs.Trace.{Port}
 use Rattle.credit_shaper.proofs.{PortLemmas.shaper-port_in, PortLemmas.rate_is, PortLemmas.last_change_all, BoundLemmas.credit_within}
 
 -- a bit time raises a credit by no more than the slope, less the rate where the class sends
-spent_by : (rate slope : ℕ) (sends waits : Bool) (c : ℤ)
+pub spent_by : (rate slope : ℕ) (sends waits : Bool) (c : ℤ)
     → (credit_after rate slope sends waits c +ℤ pos (rate * cond sends 1 0)) ≤ℤ (c +ℤ pos slope)
 spent_by rate slope true waits c = omega (arith, ints)
 spent_by rate slope false true c = omega (arith, ints)
@@ -106,10 +106,7 @@ waited input t waits idle =
 
 waited_over : (input : PortInput) (from n : ℕ) → DoesWaitA input from (from + n)
     → credit_a_at input (from + n) ≡ credit_a_at input from +ℤ pos (sum_by (slope_a_at input) (range_with_len from n))
-waited_over input from zero wait =
-    let at : from + 0 ≡ from = omega arith in
-    let none : credit_a_at input from ≡ credit_a_at input from +ℤ pos 0 = omega (arith, ints) in
-    ap (credit_a_at input) at ∙ none
+waited_over input from zero wait = grind (arith, ints)
 waited_over input from (suc n) wait =
     let here = wait from (omega arith) (omega arith) in
     let one : from + 1 ≡ suc from = omega arith in

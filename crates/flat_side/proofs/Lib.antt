@@ -5,3 +5,4 @@ mod Places
 mod ProperLemmas
 mod SendingLemmas
 mod SettlingLemmas
+pub mod Lists

@@ -18,10 +18,6 @@ pub record Changes {K : Type 0} (cmp : K → K → Ordering) : Type 0 where
   pub withdraw : (s : Part K) (key : K) → AreRows cmp s.rows
       → ChangesOnly cmp key (after_withdraw (find cmp key s.rows)) s.rows (withdrawn_state cmp key s).rows
 
-some_withdrawn : {K : Type 0} (o : Option (Row K (Unit {0}))) → IsSome (after_withdraw o) → IsSome o
-some_withdrawn None h = h
-some_withdrawn (Some r) h = refl
-
 module _ {K : Type 0} (cmp : K → K → Ordering) (laws : KeyLaws cmp) (IsKey : K → Type 0) where
   -- ---- a new side
 

@@ -9,10 +9,10 @@ use Rattle.credit_shaper.specs.declared.port.SlopeChange.{SlopeChange}
 use Rattle.credit_shaper.specs.Port.{last_change, no_slopes}
 use Rattle.frame_flow.specs.{bits_of_ticks, tick_at, in_force, last_upto, does_change, slopes_of_change, first_slopes, later_slopes, slopes_over, HasSlopes}
 use Rattle.credit_shaper.proofs.PairLemmas.{pairs-head, pairs-tail}
-use Rattle.frame_flow.proofs.SlopeLemmas.{IsBefore, slopes-after}
+use Rattle.frame_flow.proofs.SlopeLemmas.{IsBefore, slopes-after, first-zero}
 
 -- a tick has begun by a bit time where its first bit time has
-begun : (rate : Rate) (c t : ℕ) → bits_of_ticks rate c ≤ t → c ≤ tick_at rate t
+pub begun : (rate : Rate) (c t : ℕ) → bits_of_ticks rate c ≤ t → c ≤ tick_at rate t
 begun M100 c t h = omega (arith, h)
 begun G1 c t h = omega (arith, h)
 begun G10 c t h = omega (arith, h)
@@ -137,29 +137,22 @@ slopes-on rate ticks t early last newest (c ∷ cs) some up same =
           ])
     ]
 
-first-bit : (force : Option PortChange) → (first_slopes force).bit ≡ 0
-first-bit None = refl
-first-bit (Some c) = refl
-
 -- from what is in force in tick 0 on
 slopes-from : (rate : Rate) (ticks t : ℕ) → tick_at rate t < ticks → (zeroth : Option PortChange) (cs : List PortChange) → All (λ c. 0 < c.tick) cs → AllPairs IsBefore cs
     → HasSlopes (last_change t no_slopes (first_slopes zeroth ∷ later_slopes rate ticks (first_slopes zeroth) cs)) (last_upto (tick_at rate t) zeroth cs)
 slopes-from rate ticks t early zeroth cs some up =
     let first = first_slopes zeroth in
     let L = later_slopes rate ticks first cs in
-    let begins : nat_le first.bit t ≡ true = le-leb first.bit t (omega (arith, first-bit zeroth)) in
+    let begins : nat_le first.bit t ≡ true = le-leb first.bit t (omega (arith, first-zero zeroth)) in
     subst (λ (x : SlopeChange). HasSlopes (last_change t x L) (last_upto (tick_at rate t) zeroth cs)) (sym (cond-true (nat_le first.bit t) first no_slopes begins))
     (slopes-on rate ticks t early first zeroth cs some up (refl, refl))
 
-tick-early : (rate : Rate) (ticks t : ℕ) → t < bits_of_ticks rate ticks → tick_at rate t < ticks
-tick-early rate ticks t h = not-begun rate ticks t h
-
 pub slopes-in-force : (rate : Rate) (ticks t : ℕ) (cs : List PortChange) → AllPairs IsBefore cs → t < bits_of_ticks rate ticks
     → HasSlopes (last_change t no_slopes (slopes_over rate ticks cs)) (in_force (tick_at rate t) cs)
-slopes-in-force rate ticks t [] up h = slopes-from rate ticks t (tick-early rate ticks t h) None [] (λ k d below. absurd (omega (arith, below))) up
+slopes-in-force rate ticks t [] up h = slopes-from rate ticks t (not-begun rate ticks t h) None [] (λ k d below. absurd (omega (arith, below))) up
 slopes-in-force rate ticks t (c ∷ cs) up h =
     let tick = tick_at rate t in
-    let early = tick-early rate ticks t h in
+    let early = not-begun rate ticks t h in
     let after = pairs-head IsBefore c cs up in
     let L = later_slopes rate ticks in
     elim (cases_lt 0 c.tick) [

@@ -1,14 +1,14 @@
 -- The copies at a node: those of them that leave by a port are, in order, those that arrive at it, and they stay so
 -- while ports of the same level get their flows.
-use Rattle.std.proofs.Common.{◌≡◌, ◌≢◌, ℕ, ◌+◌, ◌<◌, ◌≤◌, ◌⊎◌, inl, inr, Bool, true, false, List, [], ◌∷◌, ◌++◌, length, get_or, set, take, map, append-nil, Option, Some, None, refl, sym, ◌∙◌, ap, subst, arith}
+use Rattle.std.proofs.Common.{◌≡◌, ◌≢◌, ℕ, ◌+◌, ◌<◌, ◌≤◌, ◌⊎◌, inl, inr, true, false, List, [], ◌∷◌, ◌++◌, length, get_or, set, take, map, append-nil, Option, Some, None, refl, sym, ◌∙◌, ap, subst, arith}
 use Rattle.std.specs.Prelude.{All, not, filter_map, flat_map, sum_by, nat_lt, ◌==◌, ◌&&◌}
 use Rattle.std.specs.{List.cons_option, List.range_with_len, List.Sorted.IsPermutation}
 use Rattle.std.proofs.lemmas.{Bool.cond_both, Bool.cond-true, Bool.cond-false, Bool.cases_Bool, Bool.eq-eqb, Bool.ne_eqb, Bool.eqb-true, Bool.and_from, Bool.and_left, Bool.and_right, Bool.false≢true, List.take_more, List.Elements.filter_map-append, List.Elements.All-nil, List.Elements.All-head, List.Elements.All-tail, List.Elements.All-append, List.Elements.All-weaker, List.Elements.All-same, List.FromFn.get_or-range_with_len, List.FromFn.length-range_with_len, List.Sums.sum_by-cons, List.Sorted.sum_by-IsPermutation, List.Sorted.All-permutation}
 use Rattle.srp_base.proofs.Lists.{All-flat_map}
 use Rattle.srp_base.specs.declared.{numbers.EgressPort.EgressPort, numbers.NodeNo.NodeNo, numbers.PortNo.PortNo, bandwidth.Rate.Rate}
 use Rattle.tree_topology.specs.declared.graph.Link.{Link}
-use Rattle.tree_topology.specs.{Topology.Topology, Topology.HasNode, Topology.HasPort, Ports.neighbours, Ports.peer_of, Walk.is_behind, PortLaws.HasPortLaws}
-use Rattle.frame_flow.specs.{Frame, FrameCopy, Route, Stream, To, AtNode, Place, PortFlow, bits_of_ticks, bit_from, is_port, IsKnown, Reached, all_places, arriving, comes_over, copy_of, flow_at, goes_by, handed_by, in_order, port_of, ports_at, frames_reaching, sent_from, Setting, port_flow, IsInOrder, IsRoute, IsSetting, AreAt, level_at, level_of, AreSourcesBelow, AreKept, AreOfSetting, HasArriving, incoming_at, incoming_by, incoming_of, leaving, leaving_by, station_of}
+use Rattle.tree_topology.specs.{Topology.Topology, Topology.HasPort, Ports.neighbours, Ports.peer_of, PortLaws.HasPortLaws}
+use Rattle.frame_flow.specs.{Frame, FrameCopy, AtNode, Place, PortFlow, bits_of_ticks, bit_from, is_port, IsKnown, Reached, all_places, arriving, comes_over, copy_of, flow_at, goes_by, handed_by, in_order, port_of, ports_at, frames_reaching, sent_from, Setting, port_flow, IsInOrder, IsRoute, IsSetting, AreAt, level_at, level_of, AreSourcesBelow, AreKept, AreOfSetting, HasArriving, incoming_at, incoming_by, incoming_of, leaving, leaving_by}
 use Rattle.frame_flow.specs.Incoming.{Incoming}
 use Rattle.frame_flow.proofs.{CopyLemmas.All-any, CopyLemmas.All-filter_map, CopyLemmas.All-handed_by, CopyLemmas.All-sent_from, CopyLemmas.arriving-same, CopyLemmas.known-each, OrderLemmas.IsKnownCopy, OrderLemmas.All-in_order, OrderLemmas.order-in_order, OrderLemmas.ordered-one, OrderLemmas.sorted-is, OrderLemmas.sum-in_order, LevelLemmas.IsPortOf, LevelLemmas.at-index, LevelLemmas.level-read, LevelLemmas.places-are, LevelLemmas.ports-are, LevelLemmas.same-port, LevelLemmas.set-apart, LevelLemmas.source-below}
 
@@ -67,17 +67,6 @@ left-in-order s links p copies left sorted of_ is moved order =
     let known = known-left s.frames links p copies (All-weaker (λ c. K c × IsRoute s.tree c.copy.frame.route) K (λ c h. h.0) copies of_) in
     sorted-is s.frames left sorted (All-same (IsKnownCopy s.frames) left (leaving links p copies) is known) moved order
     ∙ ap (λ (t : List FrameCopy). in_order t) is
-
--- a frame goes by a port as its station tells
-pub station-node : (tree : Topology) (route : Route) → IsRoute tree route → station_of route ≢ 0 → HasNode tree (station_of route)
-station-node tree (Stream stream traffic) is ne = absurd (ne refl)
-station-node tree (To station) is ne = is
-
-pub goes-as : (tree : Topology) (p : EgressPort) (to : ℕ) (goes : Bool) (route : Route) → IsRoute tree route → to ≡ station_of route
-    → (to ≡ 0 → goes ≡ true) → (to ≢ 0 → goes ≡ is_behind tree.links p to) → goes ≡ goes_by tree.links p route
-goes-as tree p to goes (Stream stream traffic) is e each behind = each e
-goes-as tree p to goes (To station) is e each behind =
-    behind (λ none. omega (arith, none, e, is.0)) ∙ ap (λ (x : ℕ). is_behind tree.links p x) e
 
 -- what leaves of a node's copies with one copy more
 left-take : (links : List Link) (p : EgressPort) (copies : List Incoming) (i : ℕ) (d : Incoming) → i < length copies

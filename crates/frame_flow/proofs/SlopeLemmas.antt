@@ -1,5 +1,5 @@
 -- What a port's shaper is given is in order and in its ranges.
-use Rattle.std.proofs.Common.{◌≡◌, ℕ, ◌+◌, ◌^◌, ◌<◌, ◌≤◌, inl, inr, Bool, true, cond, List, [], ◌∷◌, length, get_or, map, Option, Some, None, refl, sym, ◌∙◌, ap, subst, arith}
+use Rattle.std.proofs.Common.{◌≡◌, ℕ, ◌+◌, ◌^◌, ◌<◌, ◌≤◌, inl, inr, Bool, true, cond, List, [], ◌∷◌, length, get_or, map, Option, Some, None, refl, sym, ◌∙◌, subst, arith}
 use Rattle.std.specs.Prelude.{All, AllPairs, Contains, filter, nat_lt, nat_le, ◌==◌, ◌&&◌, not}
 use Rattle.std.specs.List.{AllAdjacentBelow}
 use Rattle.std.proofs.lemmas.{Bool.cond_both, Bool.eqb-true, Bool.ltb-true, Bool.and_parts, List.Elements.All-nil, List.Elements.All-cons, List.Elements.All-head, List.Elements.All-tail, List.Elements.All-map, List.Elements.All-filter, List.Elements.All-weaker, List.Elements.All-contains, List.Elements.filter_passes, List.Kept.AllPairs-cons, List.Kept.AllPairs-filter}
@@ -10,9 +10,9 @@ use Rattle.srp_base.specs.declared.bandwidth.Rate.TheVariants.{M100, G1, G10}
 use Rattle.srp_base.specs.Bandwidth.{bits_of}
 use Rattle.credit_shaper.specs.declared.port.SlopeChange.{SlopeChange}
 use Rattle.credit_shaper.specs.Port.{IsPortInput, AreSlopes, AreArrivals, IsNotAfter, IsFrameSize}
-use Rattle.credit_shaper.proofs.PairLemmas.{AllPairs-map, AllPairs-weaker, pairs-from-adjacent, pairs-head, pairs-none, pairs-tail}
+use Rattle.credit_shaper.proofs.{PairLemmas.AllPairs-map, PairLemmas.AllPairs-weaker, PairLemmas.pairs-from-adjacent, PairLemmas.pairs-head, PairLemmas.pairs-none, PairLemmas.pairs-tail, PortLemmas.some_rate}
 use Rattle.frame_flow.specs.{Frame, FrameCopy, Place, tick_bits_of, bits_of_ticks, is_port, changes_at, in_force, last_upto, does_change, slopes_of_change, first_slopes, later_slopes, slopes_over, PortFlow, is_not_after, all_places, arriving, Setting, arrival_of, may_send, force_on, port_input, IsInOrder, IsEarlier, IsFrame, IsSetting, HasSlopesBelow}
-use Rattle.frame_flow.proofs.{OrderLemmas.lex-is, CopyLemmas.IsArrived, CopyLemmas.All-arriving, CopyLemmas.order-arriving}
+use Rattle.frame_flow.proofs.{OrderLemmas.lex-is, CopyLemmas.IsArrived, CopyLemmas.All-arriving, CopyLemmas.order-arriving, LevelLemmas.same-port as one-port}
 
 -- ---- slopes
 
@@ -91,18 +91,13 @@ force-is P tick newest (c ∷ cs) now all =
     force-is P tick (cond (nat_le c.tick tick) (Some c) newest) cs
     (cond_both (nat_le c.tick tick) (Some c) newest (IfForce P) (λ e. All-head P c cs all) (λ e. now)) (All-tail P c cs all)
 
-first-zero : (force : Option PortChange) → (first_slopes force).bit ≡ 0
+pub first-zero : (force : Option PortChange) → (first_slopes force).bit ≡ 0
 first-zero None = refl
 first-zero (Some c) = refl
 
 first-below : (rate : Rate) (force : Option PortChange) → 0 < bits_of rate → IfForce (IsBelow rate) force → AreBelow rate (first_slopes force)
 first-below rate None some h = (some, some)
 first-below rate (Some c) some h = (omega (arith, h), omega (arith, h))
-
-rate-some : (rate : Rate) → 0 < bits_of rate
-rate-some M100 = lit< tt
-rate-some G1 = lit< tt
-rate-some G10 = lit< tt
 
 pub slopes-good : (rate : Rate) (ticks : ℕ) (cs : List PortChange) → AllPairs IsBefore cs → All (IsBelow rate) cs → AreSlopes rate (slopes_over rate ticks cs)
 slopes-good rate ticks cs up below =
@@ -117,7 +112,7 @@ slopes-good rate ticks cs up below =
           (slopes-after rate ticks 0 first cs (λ k d lt some. some)))
           (slopes-ascend rate ticks first cs up);
       below = All-cons (AreBelow rate) first later
-          (first-below rate force (rate-some rate) (force-is (IsBelow rate) 0 None cs tt below)) (slopes-below rate ticks first cs below);
+          (first-below rate force (some_rate rate) (force-is (IsBelow rate) 0 None cs tt below)) (slopes-below rate ticks first cs below);
     }
 
 -- ---- arrivals
@@ -158,12 +153,6 @@ same-port : (p q : EgressPort) → is_port p q ≡ true → (p.node.0 ≡ q.node
 same-port p q is =
     let parts = and_parts (p.node.0 == q.node.0) (p.port.0 == q.port.0) is in
     (eqb-true p.node.0 q.node.0 parts.0, eqb-true p.port.0 q.port.0 parts.1)
-
-one-port : (p q : EgressPort) → is_port p q ≡ true → p ≡ q
-one-port p q is =
-    let parts = same-port p q is in
-    let to : ℕ → ℕ → EgressPort = λ x k. record { node = record { 0 = x }; port = record { 0 = k } } in
-    ap (λ (x : ℕ). to x p.port.0) parts.0 ∙ ap (λ (k : ℕ). to q.node.0 k) parts.1
 
 earlier-there : (p : EgressPort) (c d : PortChange) → is_port c.at p ≡ true → is_port d.at p ≡ true → IsEarlier c d → IsBefore c d
 earlier-there p c d here there (inl lt) =

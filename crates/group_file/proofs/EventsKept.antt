@@ -1,6 +1,6 @@
 -- What every group scenario keeps of its events, from the rules that its table passed.
-use Rattle.std.proofs.Common.{◌≡◌, ℕ, suc, zero, ◌+◌, ◌<◌, ◌≤◌, Bool, true, false, if◌then◌else◌, List, [], ◌∷◌, Option, Some, None, option_map, Result, Ok, refl, sym, subst, length, leb-true, ltb-true, ltb-false, IfSome, IfOk, arith}
-use Rattle.std.proofs.lemmas.List.Elements.{All-nil, All-cons, All-weaker, All-map}
+use Rattle.std.proofs.Common.{◌≡◌, ℕ, ◌<◌, ◌≤◌, List, Option, Some, None, option_map, Result, Ok, refl, sym, subst, length, leb-true, ltb-true, IfSome, IfOk, arith}
+use Rattle.std.proofs.lemmas.List.Elements.{All-weaker, All-map}
 use Rattle.std.specs.{Cmp.Lexicographic.pointwise, List.All, List.Sorted.IsNonDecreasing}
 use Rattle.std.specs.Prelude.{nat_le, nat_lt, nat_eq, codes}
 use Rattle.srp_base.proofs.Options.{opened as some-says}
@@ -9,7 +9,7 @@ use Rattle.toml.specs.Data.{Members}
 use Rattle.toml_rules.specs.{Fields.number, Fields.text, Fields.has_only, Rules.each_entry, Rules.first_fall}
 use Rattle.topology_file.specs.declared.{entries.NodeEntry.NodeEntry, entries.LinkEntry.LinkEntry}
 use Rattle.topology_file.specs.{Entries.name_at, Entries.station_named, Events.tick_at, Kinds.AreJoinedNumbers, Kinds.IsAtPdu, Kinds.IsStationNumber, Kinds.pdu_at}
-use Rattle.topology_file.proofs.Chains.{and_then-if, map-if, when-if, either-if, chain-if, chain-none, ok-all, ok-says, each-all, each-map, each-keeps, alike-length}
+use Rattle.topology_file.proofs.{Chains.and_then-if, Chains.map-if, Chains.when-if, Chains.either-if, Chains.chain-if, Chains.chain-none, Chains.ok-all, Chains.ok-says, Chains.each-all, Chains.each-map, Chains.each-keeps, Chains.alike-length, EventsKept.ticks-ascend}
 use Rattle.group_file.specs.{GroupEntry, GroupForm, GroupKind, IsKnownGroup, event_form, form_ticks, group_entry, group_ticks, kind_form, mac_at, member_at, member_form, member_keys, pdu_form, groups_of}
 use Rattle.group_file.specs.declared.entries.GroupKind.TheVariants as kinds
 
@@ -35,25 +35,6 @@ pub record GroupsKeep (ticks : ℕ) (nodes : List NodeEntry) (links : List LinkE
   pub within : All (λ t. t < ticks) (group_ticks events)
   pub order : IsNonDecreasing (group_ticks events)
   pub known : All (λ e. IsKnownGroup nodes links e.kind) events
-
--- ticks that never fall ascend
-ticks-ascend : (n before : ℕ) (ts : List ℕ) → first_fall n before ts ≡ None → All (λ t. before ≤ t) ts × IsNonDecreasing ts
-ticks-ascend n before [] e = (All-nil (λ t. before ≤ t), λ i j d le lt. absurd (omega (arith, lt)))
-ticks-ascend n before (t ∷ ts) e =
-    let p = by (nat_lt t before) (first_fall (n + 1) t ts) e in
-    let le : before ≤ t = ltb-false t before p.0 in
-    let rest = ticks-ascend (n + 1) t ts p.1 in
-    (All-cons (λ u. before ≤ u) t ts le (All-weaker (λ u. t ≤ u) (λ u. before ≤ u) (λ u h. omega (arith, le, h)) ts rest.0), pairs rest.0 rest.1)
-  where
-    by : (b : Bool) (o : Option ℕ) → (if b then Some n else o) ≡ None → (b ≡ false) × (o ≡ None)
-    by true o e = absurd (let no : Some n ≡ None → ⊥ = λ q. cc in no e)
-    by false o e = (refl, e)
-
-    pairs : All (λ u. t ≤ u) ts → IsNonDecreasing ts → IsNonDecreasing (t ∷ ts)
-    pairs above h zero zero d le lt = omega arith
-    pairs above h zero (suc j) d le lt = above j d (omega (arith, lt))
-    pairs above h (suc i) zero d le lt = absurd (omega (arith, le))
-    pairs above h (suc i) (suc j) d le lt = h i j d (omega (arith, le)) (omega (arith, lt))
 
 module _ (law : NamesAreKnown) (nodes : List NodeEntry) (links : List LinkEntry) where
   member-known : (ms : Members) → IfSome (member_at nodes ms) (λ p. IfSome p.0 (λ x. IsStationNumber nodes x.0) × Unit {0})

@@ -1,13 +1,14 @@
 -- What happens in a tick may happen.
-use Rattle.std.proofs.Common.{◌≡◌, ◌≢◌, ◌⊎◌, inl, inr, ℕ, zero, suc, ◌-◌, ◌<◌, Bool, true, false, ◌&&◌, List, [], ◌∷◌, ◌++◌, length, filter, get_or, refl, sym, ap, subst, ◌∙◌, arith}
-use Rattle.std.specs.Prelude.{slice_get, Some, ◌==◌, if◌then◌else◌, flat_map, replicate}
+use Rattle.std.proofs.Common.{◌≡◌, ◌≢◌, inl, inr, ℕ, zero, suc, ◌-◌, Bool, true, false, List, [], ◌∷◌, ◌++◌, length, filter, refl, sym, ap, subst, ◌∙◌, arith}
+use Rattle.std.specs.Prelude.{slice_get, ◌==◌, if◌then◌else◌, flat_map, replicate}
 use Rattle.std.specs.List.{AllByRecursion, list_any, range_with_len}
-use Rattle.srp_base.proofs.{Bools.or_true, Lists.each_append as append, Bools.both as and_true, Lists.each_filter as kept_of, Lists.each_of_map as mapped, Lists.all_each as each_of, Arithmetic.numbers, Lists.each_more as same, Arithmetic.same_where_equal as same_number}
+use Rattle.srp_base.proofs.{Lists.each_append as append, Lists.each_filter as kept_of, Lists.each_of_map as mapped, Lists.all_each as each_of, Arithmetic.numbers, Lists.each_more as same}
 use Rattle.srp_base.specs.declared.{numbers.Cs.Cs, numbers.NodeNo.NodeNo, numbers.EgressPort.EgressPort}
-use Rattle.tree_topology.specs.declared.{graph.Link.Link, graph.NodeKind.NodeKind, graph.NodeKind.TheVariants.Station, graph.NodeKind.TheVariants.Bridge}
-use Rattle.tree_topology.specs.{Graph.Joins, Graph.Joined, Topology.Topology, Topology.HasNode, Topology.HasPort, Topology.IsSound, Topology.link_ports, Ports.neighbours, Ports.port_to, PortLaws.HasPortLaws, Refusal.is_station}
-use Rattle.topology_file.specs.declared.{entries.NodeEntry.NodeEntry, entries.LinkEntry.LinkEntry}
-use Rattle.topology_file.specs.{Entries.joins_both, Kinds.IsStationNumber, Scenario.node_kinds, Scenario.tree_links}
+use Rattle.tree_topology.specs.declared.{graph.Link.Link}
+use Rattle.tree_topology.specs.{Graph.Joined, Topology.Topology, Topology.HasNode, Topology.HasPort, Topology.IsSound, Topology.link_ports, Ports.neighbours, Ports.port_to, PortLaws.HasPortLaws}
+use Rattle.topology_file.specs.declared.{entries.NodeEntry.NodeEntry}
+use Rattle.topology_file.specs.{Entries.joins_both, Kinds.IsStationNumber, Scenario.node_kinds}
+use Rattle.topology_file.proofs.EntryLemmas.{some_joins, station_kind}
 use Rattle.group_file.specs.declared.{entries.GroupEntry.GroupEntry, entries.GroupKind.GroupKind}
 use Rattle.group_file.specs.declared.entries.GroupKind.TheVariants as kinds
 use Rattle.group_file.specs.{Events.IsKnownGroup, Plan.GroupPlan, Scenario.KeepsGroupRules}
@@ -103,34 +104,9 @@ steps_allowed w =
 
 -- ---- the events of a file
 
-a_station : (k : NodeKind) → is_station k ≡ true → k ≡ Station
-a_station Station h = refl
-a_station Bridge h = cc
-
-station_kind : (nodes : List NodeEntry) (i : ℕ) → i < length nodes → ((d : NodeEntry) → is_station (get_or nodes i d).kind ≡ true) → slice_get (node_kinds nodes) i ≡ Some Station
-station_kind [] i lt h = absurd (omega arith)
-station_kind (n ∷ nodes) zero lt h = ap Some (a_station n.kind (h n))
-station_kind (n ∷ nodes) (suc i) lt h = let less : i < length nodes = omega arith in station_kind nodes i less h
-
 kinds_many : (nodes : List NodeEntry) → length (node_kinds nodes) ≡ length nodes
 kinds_many [] = refl
 kinds_many (n ∷ nodes) = ap suc (kinds_many nodes)
-
--- a link that joins two nodes joins them the other way round
-link_joins : (l : LinkEntry) (x y : ℕ) → joins_both x y l ≡ true → Joins (record { a = l.a; b = l.b }) y x
-link_joins l x y h = by (or_true (l.a.0 == x && l.b.0 == y) (l.a.0 == y && l.b.0 == x) h)
-  where
-    by : ((l.a.0 == x && l.b.0 == y) ≡ true) ⊎ ((l.a.0 == y && l.b.0 == x) ≡ true) → Joins (record { a = l.a; b = l.b }) y x
-    by (inl e) = let both = and_true _ _ e in inr (same_number l.a.0 x both.0, same_number l.b.0 y both.1)
-    by (inr e) = let both = and_true _ _ e in inl (same_number l.a.0 y both.0, same_number l.b.0 x both.1)
-
-some_joins : (ls : List LinkEntry) (x y : ℕ) → list_any (joins_both x y) ls ≡ true → Joined (tree_links ls) y x
-some_joins [] x y h = cc
-some_joins (l ∷ ls) x y h = by (or_true (joins_both x y l) (list_any (joins_both x y) ls) h) (some_joins ls x y)
-  where
-    by : (joins_both x y l ≡ true) ⊎ (list_any (joins_both x y) ls ≡ true) → (list_any (joins_both x y) ls ≡ true → Joined (tree_links ls) y x) → Joined (tree_links (l ∷ ls)) y x
-    by (inl e) later = inl (link_joins l x y e)
-    by (inr e) later = inr (later e)
 
 module _ (plan : GroupPlan) (rules : KeepsGroupRules plan) where
   joined_nodes : (x y : ℕ) → list_any (joins_both x y) plan.links ≡ true → Joined plan.tree.links y x

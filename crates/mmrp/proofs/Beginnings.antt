@@ -1,33 +1,23 @@
 -- The network of a file keeps what every network keeps, at its start.
 use Rattle.std.proofs.Common.{◌≡◌, ℕ, zero, suc, ◌+◌, ◌-◌, ◌*◌, Bool, true, false, if◌then◌else◌, List, [], ◌∷◌, ◌++◌, length, map, refl, sym, ap, subst, ◌∙◌, arith}
-use Rattle.std.specs.Prelude.{slice_get, Some, None, ◌==◌}
-use Rattle.std.specs.{List.AllByRecursion, List.cons_option, Ordering.nat_cmp}
+use Rattle.std.specs.Prelude.{slice_get, Some, ◌==◌}
+use Rattle.std.specs.{List.AllByRecursion, Ordering.nat_cmp}
 use Rattle.std.proofs.lemmas.List.{length-map}
 use Rattle.srp_base.specs.declared.{numbers.Cs.Cs, numbers.EgressPort.EgressPort, ports.PortSetup.PortSetup}
-use Rattle.tree_topology.specs.{Topology.Topology, Topology.HasPort, Topology.IsSound, Ports.peer_of, Ports.far_end, Ports.neighbours, PortLaws.HasPortLaws}
+use Rattle.tree_topology.specs.{Topology.Topology, Topology.HasPort, Topology.IsSound, Ports.peer_of, Ports.neighbours, PortLaws.HasPortLaws}
 use Rattle.topology_file.specs.declared.{entries.NodeEntry.NodeEntry, entries.LinkEntry.LinkEntry}
-use Rattle.topology_file.specs.{Network.KeepsNetworkRules, Scenario.tree_links, Scenario.ends_of_entry}
+use Rattle.topology_file.specs.{Network.KeepsNetworkRules, Scenario.tree_links}
 use Rattle.mrp_participant.specs.{State.IsTime, State.new_state, Link.AreDutiesMet, Link.new_link}
 use Rattle.attribute_propagation.specs.Ports.{place_of}
 use Rattle.flat_side.specs.Side.{new_flat}
-use Rattle.mmrp.specs.{Part, IsProper, NodeGroups, IsProperNode, box_at, new_node, ports_of, period_of, setup_of, end_setup, setups_from, nodes_from, net_of, NetGroups, inbox, outbox, AreGroupDutiesMet, part_at, part_in, IsKeptNet}
+use Rattle.topology_file.proofs.EntryLemmas.{one_end}
+use Rattle.mmrp.specs.{Part, IsProper, NodeGroups, IsProperNode, box_at, new_node, ports_of, period_of, setup_of, setups_from, nodes_from, net_of, NetGroups, inbox, outbox, AreGroupDutiesMet, part_at, part_in, IsKeptNet}
 use Rattle.mmrp.proofs.{Boxes.IsShortPdu, Boxes.each_new, Nodes.Base, Nodes.node_there, Nodes.part_is, Nodes.inbox_is, Nodes.outbox_is, Views.met_same}
 
 -- a port for each link of the node
-one_end : (n x : ℕ) (l : LinkEntry) (rest : List PortSetup) (others : List ℕ) → length rest ≡ length others
-    → length (end_setup n x l ++ rest) ≡ length (cons_option (far_end x (ends_of_entry l)) others)
-one_end n x l rest others e = by (l.a.0 == x) (l.b.0 == x)
-  where
-    by : (a b : Bool)
-        → length ((if a then setup_of (2 * n - 1) l ∷ [] else if b then setup_of (2 * n) l ∷ [] else []) ++ rest)
-        ≡ length (cons_option (if a then Some l.b.0 else (if b then Some l.a.0 else None)) others)
-    by true b = ap suc e
-    by false true = ap suc e
-    by false false = e
-
 pub ports_length : (n x : ℕ) (links : List LinkEntry) → length (setups_from n x links) ≡ length (neighbours (tree_links links) x)
 ports_length n x [] = refl
-ports_length n x (l ∷ links) = one_end n x l (setups_from (n + 1) x links) (neighbours (tree_links links) x) (ports_length (n + 1) x links)
+ports_length n x (l ∷ links) = one_end x l (setup_of (2 * n - 1) l) (setup_of (2 * n) l) (setups_from (n + 1) x links) (neighbours (tree_links links) x) (ports_length (n + 1) x links)
 
 module _ (leave_time : Cs) (periodic : Bool) (links : List LinkEntry) where
   -- the node at a place is a new one

@@ -1,30 +1,14 @@
 -- What changes at the two ends of one link, and nowhere else, keeps the duties of all links if it keeps those of this one.
-use Rattle.std.proofs.Common.{◌≡◌, ◌≢◌, ◌⊎◌, inl, inr, ℕ, ◌-◌, refl, sym, ap, subst, ◌∙◌, arith}
-use Rattle.std.specs.Prelude.{Some, option_map, IsTrue}
+use Rattle.std.proofs.Common.{◌≡◌, ◌≢◌, ◌⊎◌, inl, inr, ℕ, refl, sym, ap, subst, ◌∙◌, arith}
+use Rattle.std.specs.Prelude.{Some, option_map}
 use Rattle.srp_base.specs.declared.numbers.EgressPort.{EgressPort}
-use Rattle.tree_topology.specs.{Topology.Topology, Topology.HasPort, Ports.peer_of, PortLaws.HasPortLaws, Walk.is_behind}
+use Rattle.tree_topology.specs.{Topology.Topology, Topology.HasPort, Ports.peer_of, PortLaws.HasPortLaws}
 use Rattle.std.specs.Ordering.{nat_cmp}
 use Rattle.mrp_participant.specs.Link.{Link, AreDutiesMet, other_view}
+use Rattle.tree_topology.proofs.EgressPorts.{decide_port, other_place, other_node}
 use Rattle.attribute_propagation.specs.Ports.{place_of}
 use Rattle.mmrp.specs.{Part, NodeGroups, box_at, NetGroups, node_at, with_changed, inbox, outbox, AreGroupDutiesMet, part_at}
-use Rattle.mmrp.proofs.{Lists.decide_port, Lists.same_numbers, Views.KeepsLink, Views.boxed, Views.boxed_same, Nodes.Base, Nodes.SameAt, Nodes.SameAtPort, Nodes.same_port, Nodes.node_same, Nodes.node_there, Nodes.part_there, Nodes.part_is, Nodes.inbox_is, Nodes.outbox_is}
-
-module _ (tree : Topology) (laws : HasPortLaws tree) where
-  -- a port's peer is at another node
-  pub other_node : (p : EgressPort) → HasPort tree p → (peer_of tree.links p).node.0 ≢ p.node.0
-  other_node p has e = laws.own p has (subst (λ (x : ℕ). IsTrue (is_behind tree.links p x)) e (laws.far p has))
-
-  pub other_end : (p : EgressPort) → HasPort tree p → peer_of tree.links p ≢ p
-  other_end p has e = other_node p has (ap (λ (r : EgressPort). r.node.0) e)
-
--- ports of one node that differ have other places
-pub other_place : (tree : Topology) (p e : EgressPort) → HasPort tree p → HasPort tree e → e.node.0 - 1 ≡ p.node.0 - 1 → p ≢ e → place_of e.port ≢ place_of p.port
-other_place tree p e hp he same ne is =
-    let p1 = hp.0.0 in
-    let e1 = he.0.0 in
-    let p2 = hp.1 in
-    let e2 = he.1 in
-    ne (same_numbers p e (omega (arith, same, p1, e1)) (omega (arith, is, p2, e2)))
+use Rattle.mmrp.proofs.{Views.KeepsLink, Views.boxed, Views.boxed_same, Nodes.Base, Nodes.SameAt, Nodes.SameAtPort, Nodes.same_port, Nodes.node_same, Nodes.node_there, Nodes.part_there, Nodes.part_is, Nodes.inbox_is, Nodes.outbox_is}
 
 -- the link of a port of a tree in a network
 abbrev pub link_on : Topology → NetGroups → EgressPort → Part → Part → Link ℕ (Unit {0})

@@ -7,10 +7,12 @@ use Rattle.srp_base.proofs.Options.{one_some}
 use Rattle.srp_base.specs.declared.{numbers.NodeNo.NodeNo, numbers.EgressPort.EgressPort}
 use Rattle.tree_topology.specs.{Topology.HasPort, Ports.peer_of, PortLaws.HasPortLaws}
 use Rattle.mrp_participant.specs.{Link.AreDutiesMet, Link.with_repeat, Link.EndEvent.Repeats, Link.LinkEvent.AtFar}
+use Rattle.tree_topology.proofs.EgressPorts.{other_place, other_node}
 use Rattle.attribute_propagation.specs.Ports.{place_of}
+use Rattle.flat_side.proofs.Lists.{said_twice}
 use Rattle.mmrp.specs.{GroupStep, GroupEvent, Join, Port, Lose, Repeat, Carry, Clock, Part, NodeGroups, Waiting, asked, box_at, lost_at, port_step, repeated_at, spoilt_at, with_carried, with_outbox, NetGroups, node_at, with_changed, inbox, outbox, has_index, with_unsound_ends, with_loss, after_repeat, group_step, CanHappen, AreGroupDutiesMet, message_of, part_at, part_in}
 use Rattle.mmrp.specs.declared.events.GroupEvent.TheVariants.{Part as Parted}
-use Rattle.mmrp.proofs.{Lists.said_twice, Boxes.box_got, Boxes.box_other, Boxes.box_none, Views.LinkLaws, Views.KeepsLink, Views.boxed, Views.boxed_same, Views.met_same, Views.unsound, Nodes.Base, Nodes.SameAtPort, Nodes.same_then, Nodes.same_port, Nodes.node_same, Nodes.node_other, Nodes.node_there, Nodes.place_within, Nodes.inbox_there, Nodes.part_there, Nodes.part_is, Nodes.inbox_is, Nodes.outbox_is, Nodes.proper_at, PartSteps.WrittenLaw, PartSteps.asked_same, PartSteps.spoilt_apart, PartSteps.spoilt_own, PartSteps.step_apart, PartSteps.step_kept, Ends.one_link, Ends.other_node, Ends.other_place, Ends.on_tree, Ends.nowhere, Ends.duties_changed}
+use Rattle.mmrp.proofs.{Boxes.box_got, Boxes.box_other, Boxes.box_none, Views.LinkLaws, Views.KeepsLink, Views.boxed, Views.boxed_same, Views.met_same, Views.unsound, Nodes.Base, Nodes.SameAtPort, Nodes.same_then, Nodes.same_port, Nodes.node_same, Nodes.node_other, Nodes.node_there, Nodes.place_within, Nodes.inbox_there, Nodes.part_there, Nodes.part_is, Nodes.inbox_is, Nodes.outbox_is, Nodes.proper_at, PartSteps.WrittenLaw, PartSteps.asked_same, PartSteps.spoilt_apart, PartSteps.spoilt_own, PartSteps.step_apart, PartSteps.step_kept, Ends.one_link, Ends.on_tree, Ends.nowhere, Ends.duties_changed}
 
 module _ (links : LinkLaws) (written : WrittenLaw) where
   -- ---- a request, and a step of a port

@@ -11,9 +11,11 @@ use Rattle.tree_topology.specs.declared.{graph.NodeKind.NodeKind, graph.NodeKind
 use Rattle.tree_topology.specs.{Topology.HasNode, Topology.HasPort, Ports.neighbours, Ports.peer_of, Ports.far_node, Ports.LiesBehind, Refusal.is_station, Walk.is_behind, PortLaws.HasPortLaws, PortLaws.IsPropagated, PortLaws.HasBeyond, PortLaws.HasBehind}
 use Rattle.attribute_propagation.specs.{Dirty.is_awaiting, Flat.elsewhere, Ports.place_of}
 use Rattle.mrp_participant.specs.{Link.Link, Link.AreDutiesMet, State.is_still, State.registered_at, State.declared_at}
+use Rattle.tree_topology.proofs.EgressPorts.{same_numbers}
+use Rattle.attribute_propagation.proofs.{Lists.get-empty, Lists.range-from, Lists.range-at, FlatLemmas.flat-cases, FlatLemmas.flat-own, FlatLemmas.flat-other, FlatLemmas.some_elsewhere, FlatLemmas.elsewhere_some}
 use Rattle.flat_side.specs.Side.{are_still, is_flat}
 use Rattle.mmrp.specs.{Part, registers, declares, has_joined, NodeGroups, Waiting, are_all_sound, are_empty, box_at, is_still_node, NetGroups, node_at, inbox, outbox, in_flight, link_of, message_of, part_at, part_in, IsKeptNet, is_registered, is_station_at, is_joined_at, is_joined_behind, HasJoinedBehind, GroupsMatch, IsAtRest}
-use Rattle.mmrp.proofs.Places.{empty-box, get-empty, is_other, other-at, other-from, flat-cases, flat-own, flat-other, range-from, range-at}
+use Rattle.mmrp.proofs.Places.{empty-box}
 
 -- what a still link registers at its near end
 abbrev pub StillLink : Type 0
@@ -168,16 +170,13 @@ module _ (w : NetGroups) (kept : IsKeptNet w) (rest : IsAtRest w) (laws : HasPor
       q : EgressPort
       q = peer_of w.tree.links p
 
-      by : (has_joined mac b.s.side ≡ true) ⊎ (is_other (place_of (peer_of w.tree.links p).port) (map (registers mac) b.s.side.parts) ≡ true)
+      by : (has_joined mac b.s.side ≡ true) ⊎ (elsewhere (place_of (peer_of w.tree.links p).port) (map (registers mac) b.s.side.parts) ≡ true)
           → (is_joined_at w mac (far_node w.tree.links p) ≡ true) ⊎ HasBeyond w.tree (is_registered w mac) p
       by (inl o) = inl (joined-is p b mac ∙ both (is_station_at w (far_node w.tree.links p)) (has_joined mac b.s.side) (station-own p h b mac o) o)
       by (inr r) =
-          let j = other-at (place_of (peer_of w.tree.links p).port) (map (registers mac) b.s.side.parts) r in
+          let j = some_elsewhere (place_of (peer_of w.tree.links p).port) (map (registers mac) b.s.side.parts) r in
           let x = get-map (registers mac) b.s.side.parts j.0 j.2 in
           inr (to-beyond p h b mac j.0 x.0 j.1 x.1 x.2)
-
-  same-port : (q r : EgressPort) → q.node.0 ≡ r.node.0 → q.port.0 ≡ r.port.0 → q ≡ r
-  same-port q r e f = ap (λ (n : ℕ). record { node = record { 0 = n }; port = q.port }) e ∙ ap (λ (n : ℕ). record { node = r.node; port = record { 0 = n } }) f
 
   backward : (p : EgressPort) → HasPort w.tree p → (b : At (peer_of w.tree.links p)) (mac : ℕ)
       → (is_joined_at w mac (far_node w.tree.links p) ≡ true) ⊎ HasBeyond w.tree (is_registered w mac) p → is_registered w mac p ≡ true
@@ -193,10 +192,10 @@ module _ (w : NetGroups) (kept : IsKeptNet w) (rest : IsAtRest w) (laws : HasPor
       let same : c.s ≡ b.s = one (node_at q.node w) c.s b.s (ap (λ (n : ℕ). slice_get w.nodes (n - 1)) (sym r.2) ∙ c.node) b.node in
       let has : slice_get b.s.side.parts (place_of r.0.port) ≡ Some c.part = ap (λ (s : NodeGroups). slice_get s.side.parts (place_of r.0.port)) (sym same) ∙ c.has in
       let t : registers mac c.part ≡ true = sym (registered-is r.0 c mac) ∙ r.4 in
-      let other : place_of r.0.port ≢ place_of q.port = λ e. r.3 (same-port r.0 q r.2 (omega (arith, e, r.1.1, hq.1))) in
+      let other : place_of r.0.port ≢ place_of q.port = λ e. r.3 (same_numbers r.0 q r.2 (omega (arith, e, r.1.1, hq.1))) in
       far-rule p h b mac
       ∙ flat-other (place_of q.port) (has_joined mac b.s.side) (map (registers mac) b.s.side.parts)
-      (other-from (place_of q.port) (map (registers mac) b.s.side.parts) (place_of r.0.port) other (map-get (registers mac) b.s.side.parts (place_of r.0.port) c.part has t))
+      (elsewhere_some (place_of q.port) (map (registers mac) b.s.side.parts) (place_of r.0.port) other (map-get (registers mac) b.s.side.parts (place_of r.0.port) c.part has t))
 
   propagated : (mac : ℕ) → IsPropagated w.tree (is_registered w mac) (is_joined_at w mac)
   propagated mac p h =

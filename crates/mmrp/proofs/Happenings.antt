@@ -8,8 +8,9 @@ use Rattle.srp_base.proofs.Lists.{set_set, get_set}
 use Rattle.srp_base.specs.declared.{numbers.Cs.Cs, numbers.EgressPort.EgressPort}
 use Rattle.tree_topology.specs.{Topology.Topology, Ports.peer_of}
 use Rattle.attribute_propagation.specs.Ports.{IsLinkPort, place_of}
-use Rattle.mmrp.specs.{NodeGroups, Waiting, Stepped, box_at, lost_at, ports_of, spoilt_at, with_carried, with_outbox, NetGroups, StandsAt, after_carrying, answer_of, has_index, nodes_with, outbox, with_loss, Done}
-use Rattle.mmrp.proofs.{Boxes.set_same, Lists.set_each, Sizes.of_spoilt}
+use Rattle.attribute_propagation.proofs.Lists.{set_each}
+use Rattle.mmrp.specs.{NodeGroups, Waiting, box_at, lost_at, ports_of, spoilt_at, with_carried, with_outbox, NetGroups, StandsAt, after_carrying, has_index, nodes_with, outbox, with_loss, Done}
+use Rattle.mmrp.proofs.{Boxes.set_same, Sizes.of_spoilt}
 
 -- ---- the node that was read at a port's place
 
@@ -49,11 +50,6 @@ stands_still p nodes i s t stands at value ports q others =
 pub ports_spoilt : (at : ℕ) (s : NodeGroups) → ports_of (spoilt_at at s) ≡ ports_of s
 ports_spoilt at s = of_spoilt at s.side
 
--- the answer of the node that was read
-pub answer_is : (p : EgressPort) (nodes : List NodeGroups) (s : NodeGroups) (step : NodeGroups → Stepped) → slice_get nodes (p.node.0 - 1) ≡ Some s
-    → answer_of (slice_get nodes (p.node.0 - 1)) step ≡ (step s).1
-answer_is p nodes s step is = ap (λ o. answer_of o step) is
-
 -- ---- the PDU of an index
 
 index_in : EgressPort → ℕ → Option NodeGroups → Bool
@@ -89,19 +85,6 @@ none_carried q nodes = by (slice_get nodes (q.node.0 - 1)) refl
         let k = place_of q.port in
         ap (λ boxes. slice_set nodes (q.node.0 - 1) (record s { inboxes = boxes })) (ap (slice_set s.inboxes k) (append-nil (box_at k s.inboxes)) ∙ set_same s.inboxes k)
         ∙ set_back nodes (q.node.0 - 1) s is
-
--- an empty outbox is taken and leaves all as it is
-none_taken : (p : EgressPort) (nodes : List NodeGroups) → option_map_or (λ s. box_at (place_of p.port) s.outboxes) (slice_get nodes (p.node.0 - 1)) [] ≡ []
-    → nodes_with p.node (with_outbox (place_of p.port) []) nodes ≡ nodes
-none_taken p nodes none = by (slice_get nodes (p.node.0 - 1)) refl none
-  where
-    by : (o : Option NodeGroups) → slice_get nodes (p.node.0 - 1) ≡ o → option_map_or (λ s. box_at (place_of p.port) s.outboxes) o [] ≡ []
-        → option_map_or (λ s. slice_set nodes (p.node.0 - 1) (with_outbox (place_of p.port) [] s)) o nodes ≡ nodes
-    by None is empty = refl
-    by (Some s) is empty =
-        let k = place_of p.port in
-        ap (λ boxes. slice_set nodes (p.node.0 - 1) (record s { outboxes = boxes })) (ap (slice_set s.outboxes k) (sym empty) ∙ set_same s.outboxes k)
-        ∙ set_back nodes (p.node.0 - 1) s is
 
 -- where a port's outbox is empty, nothing else happens than that it is taken
 pub carry_nothing : (p : EgressPort) (tree : Topology) (clock : Cs) (nodes a : List NodeGroups) (pdus : Waiting) → pdus ≡ outbox p (record { tree = tree; clock = clock; nodes = nodes })

@@ -1,5 +1,4 @@
 pub mod Writable
-pub mod Lists
 pub mod Boxes
 pub mod Views
 pub mod LinkSteps

@@ -7,8 +7,8 @@ use Rattle.srp_base.proofs.{Arithmetic.decide, Lists.get_set, Lists.get_set_othe
 use Rattle.srp_base.specs.declared.{numbers.NodeNo.NodeNo, numbers.EgressPort.EgressPort}
 use Rattle.tree_topology.specs.{Topology.HasPort, Topology.IsSound, Ports.neighbours}
 use Rattle.attribute_propagation.specs.Ports.{place_of}
+use Rattle.attribute_propagation.proofs.Lists.{set_each}
 use Rattle.mmrp.specs.{Part, NodeGroups, Waiting, IsProperNode, box_at, ports_of, NetGroups, node_at, nodes_with, with_changed, inbox, outbox, part_at, part_in}
-use Rattle.mmrp.proofs.Lists.{set_each}
 
 module _ (n : NodeNo) (change : NodeGroups → NodeGroups) (w : NetGroups) where
   -- the node itself, and the others

@@ -1,5 +1,5 @@
 -- What the steps of a node make of the participants, and of the boxes at their ports.
-use Rattle.std.proofs.Common.{◌≡◌, ◌≢◌, ℕ, Bool, true, false, if◌then◌else◌, List, [], ◌∷◌, ◌++◌, map, refl, ap, subst, ◌∙◌}
+use Rattle.std.proofs.Common.{◌≡◌, ◌≢◌, ℕ, Bool, true, false, if◌then◌else◌, List, [], ◌∷◌, ◌++◌, refl, ap, subst, ◌∙◌}
 use Rattle.std.proofs.lemmas.Option.{slice_get_within}
 use Rattle.std.specs.Prelude.{slice_get, slice_set, Option, Some, None, option_map, Result, Ok, Err}
 use Rattle.std.specs.{Option.option_map_or, Ordering.nat_cmp}
@@ -8,9 +8,11 @@ use Rattle.srp_base.specs.declared.{numbers.Cs.Cs, mrp.MrpEvent.MrpEvent}
 use Rattle.mmrp_codec.specs.declared.pdu.GroupPdu.{GroupPdu}
 use Rattle.mmrp_codec.specs.{Meaning.mmrp_reading, Writing.mmrp_spelling}
 use Rattle.mrp_participant.specs.State.{Messages, AreRows, is_active, is_silent, declared_state, withdrawn_state, due_state, left_keys, sent_messages, sent_events}
+use Rattle.attribute_propagation.proofs.Lists.{set_at, set_at_there, set_at_other}
 use Rattle.flat_side.specs.{Part.same_content, Part.settled_key, Part.settled_part, Part.told_by_receipt, Side.with_part, Side.at_part, Side.with_part_at, Side.with_told_part, Side.awaiting_at, Side.has_own, Side.is_flat, Side.received_flat, Side.due_flat, Side.settled_flat, Side.sent_flat, Side.spoilt_flat}
+use Rattle.flat_side.proofs.Lists.{contents_again}
 use Rattle.mmrp.specs.{GroupStep, Work, Due, Settle, Send, Part, Groups, HasMacRows, IsWritten, base, octets, pdu_sent, received_part, sent_part, NodeGroups, Waiting, IsProperNode, after_work, asked, box_at, port_step, sent_octets, spoilt_at, worked, message_of, part_in, said_by}
-use Rattle.mmrp.proofs.{Lists.set_at, Lists.set_at_there, Lists.set_at_other, Boxes.box_got, Boxes.box_other, Boxes.box_set, Views.LinkLaws, Views.KeepsLink, Views.unsound, Nodes.SameAt, Nodes.outbox_there, LinkSteps.KeepsNear, LinkSteps.HasSpoken, LinkSteps.declares, LinkSteps.withdraws, LinkSteps.fires, LinkSteps.all_keep, LinkSteps.by_call, LinkSteps.called, LinkSteps.hearing, LinkSteps.taken, LinkSteps.spoken, LinkSteps.still}
+use Rattle.mmrp.proofs.{Boxes.box_got, Boxes.box_other, Boxes.box_set, Views.LinkLaws, Views.KeepsLink, Views.unsound, Nodes.SameAt, Nodes.outbox_there, LinkSteps.KeepsNear, LinkSteps.HasSpoken, LinkSteps.declares, LinkSteps.withdraws, LinkSteps.fires, LinkSteps.all_keep, LinkSteps.by_call, LinkSteps.called, LinkSteps.hearing, LinkSteps.taken, LinkSteps.spoken, LinkSteps.still}
 
 -- what the public laws of what is sent say
 abbrev pub WrittenLaw : Type 0
@@ -129,18 +131,13 @@ module _ (links : LinkLaws) (written : WrittenLaw) where
           same None = refl
           same (Some x) = refl
 
-  -- events without their content, and with it again, are the same
-  again : (es : List (MrpEvent × ℕ × Unit {0})) → map (λ (e : MrpEvent × ℕ). (e.0, e.1, tt)) (map (λ (e : MrpEvent × ℕ × Unit {0}). (e.0, e.1)) es) ≡ es
-  again [] = refl
-  again (e ∷ es) = ap (λ (later : List (MrpEvent × ℕ × Unit {0})). e ∷ later) (again es)
-
   -- the octets say what the participant sends
   said_is : (now : Cs) (x : Part) → AreRows nat_cmp x.rows → HasMacRows x → is_silent x ≡ false
       → message_of (mmrp_spelling (pdu_sent now x)) ≡ Some (sent_messages base octets nat_cmp now x)
   said_is now x rows own speaks =
       ap said_by (written now x rows own speaks).reads
       ∙ ap (λ (es : List (MrpEvent × ℕ × Unit {0})). let m : Messages ℕ (Unit {0}) = record { leave_all = is_active x.leave_all; events = es } in Some m)
-      (again (sent_events base octets nat_cmp now x))
+      (contents_again (sent_events base octets nat_cmp now x))
 
   spoken_there : (now : Cs) (at : ℕ) (s : NodeGroups) → IsProperNode s → (x : Part) → slice_get s.side.parts at ≡ Some x → is_silent x ≡ false
       → HasSpoken links now at s (sent_octets now at (Some (mmrp_spelling (pdu_sent now x))) s).0 x

@@ -8,7 +8,7 @@ use Rattle.srp_base.specs.declared.{numbers.Cs.Cs, numbers.EgressPort.EgressPort
 use Rattle.attribute_propagation.specs.Dirty.{is_awaiting}
 use Rattle.tree_topology.specs.declared.{graph.NodeKind.NodeKind, graph.NodeKind.TheVariants.Station, graph.NodeKind.TheVariants.Bridge}
 use Rattle.tree_topology.specs.{Refusal.is_station, Topology.Topology, Topology.HasNode, Topology.HasPort, Ports.peer_of, PortLaws.HasPortLaws}
-use Rattle.mmrp.specs.{GroupEvent, GroupReply, NodeGroups, NetGroups, Happened, IsStation, StandsAt, CanHappen, IsKeptNet, has_joined, is_joined_at}
+use Rattle.mmrp.specs.{GroupReply, NodeGroups, NetGroups, Happened, IsStation, StandsAt, IsKeptNet, has_joined, is_joined_at}
 use Rattle.mmrp.proofs.{Nodes.node_there, Nodes.place_within, Keeping.base_kept}
 
 -- a port of the tree stands at its node
@@ -37,10 +37,6 @@ station_there w kept n station =
     let few = station.0.1 in
     let many = kept.many in
     omega (arith, few, many)
-
--- an event that may happen, in other words
-pub can_as : (e f : GroupEvent) (v w : NetGroups) → e ≡ f → v ≡ w → CanHappen e v → CanHappen f w
-can_as e f v w same is can = subst (λ (x : GroupEvent). CanHappen x w) same (subst (CanHappen e) is can)
 
 -- after an event that keeps what every network keeps, or after want of memory, it is kept
 pub kept_either : {E : Type 0} (r : Result GroupReply E) (h : Happened) (tree : Topology) (clock : Cs) (nodes new : List NodeGroups)

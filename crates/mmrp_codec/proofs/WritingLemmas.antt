@@ -1,9 +1,9 @@
 -- What `encode` writes, vector by vector.
-use Rattle.std.proofs.Common.{◌≡◌, ℕ, ◌+◌, zero, suc, ◌<◌, ◌≤◌, ◌^◌, Bool, true, false, List, [], ◌∷◌, ◌++◌, length, map, get_or, drop, take, refl, sym, ap, ◌∙◌, append_assoc, append-nil, arith}
-use Rattle.std.proofs.lemmas.List.{drop_all, drop_more}
+use Rattle.std.proofs.Common.{◌≡◌, ℕ, ◌+◌, zero, suc, ◌<◌, ◌^◌, Bool, true, false, List, [], ◌∷◌, ◌++◌, length, map, get_or, drop, take, refl, sym, ap, ◌∙◌, append_assoc, arith}
+use Rattle.std.proofs.lemmas.List.{drop_more}
 use Rattle.mrpdu_codec.specs.declared.{form.AppForm.TheVariants.Mmrp, pdu.VectorAttr.VectorAttr}
 use Rattle.mrpdu_codec.specs.{Tree.vector_octets, Tree.vectors_octets, Canonical.vector_for, Canonical.vectors_for}
-use Rattle.mmrp_codec.specs.{MacEvent, AreMacs, leave_vector, event_vector, event_vectors}
+use Rattle.mmrp_codec.specs.{MacEvent, AreMacs, event_vector, event_vectors}
 
 -- the octets of the vectors of these events
 abbrev pub octets_of : Bool → List MacEvent → List ℕ
@@ -29,26 +29,6 @@ octets_more done more total leave events i d lt so_far is =
     ∙ append_assoc done here later
     ∙ ap (λ (os : List ℕ). done ++ os) (sym (first_octets leave (get_or events i d) (drop (i + 1) events)))
     ∙ ap (λ (es : List MacEvent). done ++ octets_of leave es) (sym (drop_more events i d lt))
-    ∙ so_far
-
--- no event is left, and the LeaveAll is written
-pub octets_end : (done total : List ℕ) (leave : Bool) (events : List MacEvent) (i : ℕ) → length events ≤ i → leave ≡ false
-    → done ++ octets_of leave (drop i events) ≡ total → done ≡ total
-octets_end done total leave events i le said so_far =
-    sym (append-nil done)
-    ∙ ap (λ (es : List MacEvent). done ++ octets_of false es) (sym (drop_all i events le))
-    ∙ ap (λ (b : Bool). done ++ octets_of b (drop i events)) (sym said)
-    ∙ so_far
-
--- no event is left, and a LeaveAll alone is written
-pub octets_alone : (done more total : List ℕ) (leave : Bool) (events : List MacEvent) (i : ℕ) → length events ≤ i → leave ≡ true
-    → more ≡ done ++ vector_octets (vector_for (leave_vector (0 ∷ 0 ∷ 0 ∷ 0 ∷ 0 ∷ 0 ∷ [])))
-    → done ++ octets_of leave (drop i events) ≡ total → more ≡ total
-octets_alone done more total leave events i le unsaid is so_far =
-    is
-    ∙ ap (λ (os : List ℕ). done ++ os) (sym (append-nil (vector_octets (vector_for (leave_vector (0 ∷ 0 ∷ 0 ∷ 0 ∷ 0 ∷ 0 ∷ []))))))
-    ∙ ap (λ (es : List MacEvent). done ++ octets_of true es) (sym (drop_all i events le))
-    ∙ ap (λ (b : Bool). done ++ octets_of b (drop i events)) (sym unsaid)
     ∙ so_far
 
 -- one MAC address more

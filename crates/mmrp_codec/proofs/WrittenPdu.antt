@@ -17,9 +17,6 @@ ReadBack = (n number : ℕ) → number < 256 ^ n → number_high_first (bytes_hi
 abbrev pub HasLength : Type 0
 HasLength = (n number : ℕ) → length (bytes_high_first n number) ≡ n
 
-zeros : List ℕ
-zeros = 0 ∷ 0 ∷ 0 ∷ 0 ∷ 0 ∷ 0 ∷ []
-
 -- ---- what it says
 
 event_again : ReadBack → (leave : Bool) (x : MacEvent) → x.1 < 2 ^ 48 → vector_events (event_vector leave x) ≡ x ∷ []

@@ -5,7 +5,7 @@
 //! Ethernet    0180c2000021 001122334455 88f5 | 00 01020001 ..          destination, source, EtherType | PDU
 //!             0180c2000021 001122334455 8100 e002 88f5 | 00 ..         the same with a tag: 8100 or 88a8, and two octets
 //! cooked      0002 0001 0006 0011223344550000 88f5 | 00 ..             .., source in eight octets, EtherType | PDU
-//! cooked 2    88f5 0000 00000002 0001 02 06 0011223344550000 | 00 ..   EtherType, .., source in eight octets | PDU
+//! cooked 2    88f5 0000 00000002 00010206 0011223344550000 | 00 ..   EtherType, .., source in eight octets | PDU
 //!
 //! frame_of   Record { link, octets, .. } -> MrpFrame { address: 001122334455, app: Mvrp, pdu: 00.. }, or None
 //! ```

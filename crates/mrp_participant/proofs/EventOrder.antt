@@ -2,14 +2,10 @@
 use Rattle.std.proofs.Common.{◌≡◌, Bool, true, false, not, ◌&&◌, if◌then◌else◌, List, [], ◌∷◌, length, filter, fold, refl, sym, ap, ◌∙◌, option_map, arith}
 use Rattle.std.specs.{declared.option.Option.Option, declared.cmp.Ordering.Ordering, declared.cmp.Ordering.TheVariants.Less, declared.cmp.Ordering.TheVariants.Equal, declared.cmp.Ordering.TheVariants.Greater, Ordering.is_eq, Ordering.is_lt, Ordering.ordering_reverse, Cmp.IsTotalOrder, List.Sorted.ties, List.Sorted.IsPermutation, List.Sorted.IsStableByKey}
 use Rattle.std.proofs.lemmas.List.Sorted.{length_permutation}
-use Rattle.srp_base.proofs.Lists.{no_more}
+use Rattle.srp_base.proofs.Lists.{filter-along, no_more}
 use Rattle.srp_base.specs.declared.{numbers.Cs.Cs, mrp.MrpEvent.MrpEvent}
 use Rattle.mrp_participant.specs.declared.row.Row.{Row}
 use Rattle.mrp_participant.specs.{same, leave_all_row, after_hear, row_hearing, row_after_receive}
-
-filter-along : {X : Type 0} (p q : X → Bool) → ((x : X) → p x ≡ q x) → (xs : List X) → filter p xs ≡ filter q xs
-filter-along p q each [] = refl
-filter-along {X} p q each (x ∷ xs) = grind (arith, filter-along p q each xs)
 
 tied_by : (c d : Ordering) → d ≡ ordering_reverse c → (not (is_lt d) && not (is_lt c)) ≡ is_eq c
 tied_by Less d e = rw e refl

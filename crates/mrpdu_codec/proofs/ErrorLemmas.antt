@@ -9,8 +9,7 @@ use Rattle.srp_base.specs.Results.{Gives}
 use Rattle.mrpdu_codec.proofs.{ReadRegions.region_left, ReadMessages.reading_holds, SpelledMessages.spells_reads, SpelledMessages.breaks_reads}
 
 pub region_within : (e : ReadErr) (row : Option TypeForm) (len size : ℕ) (octets : List ℕ) → Fails e (region_at row len size (take size octets)) → IsWithin e (length (take size octets))
-region_within errors.NoMemory row len size octets h = tt
-region_within (errors.Left left) row len size octets h = region_left row len size octets left h
+region_within e row len size octets h1 = grind (arith, region_left)
 
 -- ---- decode
 
@@ -40,8 +39,7 @@ unfolding reading
 reading_err form octets left h = ap (placed_in (length octets)) h
 
 answered : (read : Result Pdu ℕ) (all : ℕ) (pdu : Pdu) → placed_in all read ≡ Ok pdu → read ≡ Ok pdu
-answered (Ok p) all pdu h = h
-answered (Err left) all pdu h = absurd cc
+answered read all pdu h1 = grind arith
 
 answered_err : (read : Result Pdu ℕ) (all place : ℕ) → placed_in all read ≡ Err place → (left : ℕ) × (read ≡ Err left) × (all - left ≡ place)
 answered_err (Ok p) all place h = absurd cc

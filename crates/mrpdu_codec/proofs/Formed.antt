@@ -18,47 +18,27 @@ all_append p (x ∷ xs) ys h k = let q = and_parts (p x) (list_all p xs) h in an
 
 -- ---- a vector
 
-three_each : (octets : List ℕ) → length (flat_map three_events octets) ≡ 3 * length octets
+pub three_each : (octets : List ℕ) → length (flat_map three_events octets) ≡ 3 * length octets
 three_each [] = refl
 three_each (o ∷ octets) = omega (arith, length-append (three_events o) (flat_map three_events octets), three_each octets)
 
-four_each : (octets : List ℕ) → length (flat_map four_params octets) ≡ 4 * length octets
+pub four_each : (octets : List ℕ) → length (flat_map four_params octets) ≡ 4 * length octets
 four_each [] = refl
 four_each (o ∷ octets) = omega (arith, length-append (four_params o) (flat_map four_params octets), four_each octets)
 
 small_each : (octets : List ℕ) → AllUpTo 255 octets → list_all (λ p. leb p 3) (flat_map four_params octets) ≡ true
 small_each [] h = refl
-small_each (o ∷ octets) h =
-    all_append (λ p. leb p 3) (four_params o) (flat_map four_params octets)
-    (and_from _ _ (le-leb (o / 64) 3 (omega (arith, h.0)))
-    (and_from _ _ (le-leb (o / 16 % 4) 3 (omega arith)) (and_from _ _ (le-leb (o / 4 % 4) 3 (omega arith)) (and_from _ _ (le-leb (o % 4) 3 (omega arith)) refl))))
-    (small_each octets h.1)
+small_each (o ∷ octets) h = grind (arith, small_each octets h.1, all_append, and_from, le-leb)
 
 params_formed : (b : Bool) (n events : ℕ) (fours : List ℕ) → length fours ≡ cond b (quarters n) 0 → AllUpTo 255 fours → events ≡ n
     → (let params = take n (flat_map four_params fours) in cond b (eqb (length params) events && list_all (λ p. leb p 3) params) (eqb (length params) 0)) ≡ true
-params_formed true n events fours size each e =
-    let all : length (take n (flat_map four_params fours)) ≡ n = length-take-le n (flat_map four_params fours) (omega (arith, four_each fours, size)) in
-    and_from _ _ (eq-eqb _ events (all ∙ sym e)) (all_take (λ p. leb p 3) n (flat_map four_params fours) (small_each fours each))
-params_formed false zero events [] size each e = refl
-params_formed false (suc n) events [] size each e = refl
-params_formed false n events (f ∷ fours) size each e = absurd (omega arith)
+params_formed b n events fours h1 h2 h3 = grind (arith, length-take-le, four_each, and_from, eq-eqb, all_take, small_each)
 
 leave_or_some : (h : ℕ) → 0 < h → (ltb 0 (h / 8192) || ltb 0 (h % 8192)) ≡ true
-leave_or_some h some =
-    elim (cases_Bool (ltb 0 (h / 8192))) [
-      | inl leaves ↦ rw leaves refl
-      | inr none ↦ let le = ltb-false 0 (h / 8192) none in rw (none, lt-ltb 0 (h % 8192) (omega arith)) refl
-    ]
+leave_or_some h some = grind (arith, cases_Bool, ltb-false, lt-ltb)
 
 vector_formed : (row : TypeForm) (len : ℕ) (v : Vector) → len ≡ row.length → IsVector (Some row) len v → vector_fits row (attr_of v) ≡ true
-vector_formed row len v e is =
-    let n = count v in
-    let events : length (take n (flat_map three_events v.three_packed)) ≡ n = length-take-le n (flat_map three_events v.three_packed) (omega (arith, three_each v.three_packed, is.three_packed)) in
-    and_from _ _ (and_from _ _ (and_from _ _
-    (eq-eqb (length v.first) row.length (is.first ∙ e))
-    (ap (λ (k : ℕ). ltb 0 (header v / 8192) || ltb 0 k) events ∙ leave_or_some (header v) is.no_mark))
-    (le-leb _ 8191 (omega (arith, events))))
-    (params_formed row.four_packed n (length (take n (flat_map three_events v.three_packed))) v.four_packed is.four_packed is.params events)
+vector_formed row len v e is = grind (arith, length-take-le, three_each, and_from, eq-eqb, leave_or_some, le-leb, params_formed)
 
 vectors_formed : (row : TypeForm) (len : ℕ) (vs : List Vector) → len ≡ row.length → AreVectors (Some row) len vs → list_all (vector_fits row) (map attr_of vs) ≡ true
 vectors_formed row len [] e all = refl
@@ -68,25 +48,15 @@ vectors_formed row len (v ∷ vs) e all = and_from _ _ (vector_formed row len v 
 
 region_formed : (form : AppForm) (row : TypeForm) (len : ℕ) (list_length : List ℕ) (region : AttributeList) (mark : List ℕ) → len ≡ row.length → IsBody form (Some row) len list_length region mark
     → list_all (vector_fits row) (list_attrs region) ≡ true
-region_formed Mvrp row len list_length (Vectors vs) mark e is = vectors_formed row len vs e is.1
-region_formed Msrp row len list_length (Vectors vs) mark e is = vectors_formed row len vs e is.1
-region_formed Mmrp row len list_length (Vectors vs) mark e is = vectors_formed row len vs e is.1
-region_formed Mvrp row len list_length (Skipped octets) mark e is = absurd is
-region_formed Msrp row len list_length (Skipped octets) mark e is = absurd is
-region_formed Mmrp row len list_length (Skipped octets) mark e is = absurd is
+region_formed form row len list_length region mark h1 h2 = grind (arith, vectors_formed)
 
 message_formed : (form : AppForm) (row : Option TypeForm) (kind len : ℕ) (list_length : List ℕ) (region : AttributeList) (mark : List ℕ) → row_of form kind ≡ row → length_fits row len ≡ true
     → IsBody form row len list_length region mark → list_all (has_form form) (messages_from row kind (list_attrs region)) ≡ true
-message_formed form None kind len list_length region mark e fits is = refl
-message_formed form (Some row) kind len list_length region mark e fits is =
-    and_from _ _ (ap (λ (r : Option TypeForm). vectors_fit r (list_attrs region)) e ∙ region_formed form row len list_length region mark (eqb-true len row.length fits) is) refl
+message_formed form row kind len list_length region mark h1 h2 h3 = grind (arith, and_from, region_formed, eqb-true)
 
 messages_formed : (form : AppForm) (bs : List MessageTree) (after : Option (List ℕ)) → AreMessages form bs after → list_all (has_form form) (flat_map (messages_meant form) bs) ≡ true
 messages_formed form [] after all = refl
-messages_formed form (b ∷ bs) after all =
-    all_append (has_form form) (messages_meant form b) (flat_map (messages_meant form) bs)
-    (message_formed form (row_of form b.kind) b.kind b.len b.list_length b.list b.end_mark refl all.0.len all.0.body)
-    (messages_formed form bs after all.2)
+messages_formed form (b ∷ bs) after all = grind (arith, messages_formed form bs after all.2, all_append, message_formed)
 
 pub pdu_formed : (form : AppForm) (octets : List ℕ) (pdu : Pdu) → Spells form octets pdu → list_all (has_form form) pdu.messages ≡ true
 pdu_formed form octets pdu s = ap (λ (p : Pdu). list_all (has_form form) p.messages) s.meaning ∙ messages_formed form s.tree.messages s.tree.after s.rules.messages

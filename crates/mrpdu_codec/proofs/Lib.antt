@@ -17,6 +17,8 @@ pub mod Longer
 pub mod PlacesLemmas
 pub mod PlacesOfTree
 pub mod PlacesStand
+pub mod ValuePlaces
+pub mod FirstFailing
 pub mod Kept
 pub mod RawLemmas
 pub mod NumberLemmas

@@ -3,11 +3,7 @@ use Rattle.std.proofs.Common.{◌≡◌, ℕ, suc, ◌+◌, ◌≤◌, List, ◌
 use Rattle.mrpdu_codec.specs.{Vector, vector_octets, MessageTree, message_octets, list_octets}
 
 pub vector_longer : (octets : List ℕ) (v : Vector) (rest : List ℕ) → octets ≡ vector_octets v ++ rest → length rest + 2 ≤ length octets
-vector_longer octets v rest e =
-    let h : length octets ≡ suc (suc (length ((v.first ++ (v.three_packed ++ v.four_packed)) ++ rest))) = ap length e in
-    omega (arith, length-append (v.first ++ (v.three_packed ++ v.four_packed)) rest)
+vector_longer octets v rest e = grind (arith, length-append)
 
 pub message_longer : (octets : List ℕ) (b : MessageTree) (rest : List ℕ) → octets ≡ message_octets b ++ rest → length rest + 2 ≤ length octets
-message_longer octets b rest e =
-    let h : length octets ≡ suc (suc (length ((b.list_length ++ (list_octets b.list ++ b.end_mark)) ++ rest))) = ap length e in
-    omega (arith, length-append (b.list_length ++ (list_octets b.list ++ b.end_mark)) rest)
+message_longer octets b rest e = grind (arith, length-append)

@@ -13,14 +13,10 @@ stops limit n i octets lt le all h =
     ∙ ap (λ (k : ℕ). let e : Result (List ℕ × List ℕ) ℕ = Err k in e) (length-drop i octets)
 
 pub packed_ends : (limit n i : ℕ) (octets : List ℕ) → i < n → i ≡ length octets → AllUpTo limit (take i octets) → packed_at limit n octets ≡ Err 0
-packed_ends limit n i octets lt e all =
-    let none : length octets - i ≡ 0 = omega arith in
-    let end : drop i octets ≡ [] = drop_all i octets (omega arith) in
-    stops limit n i octets lt (omega arith) all (subst (λ (o : List ℕ). OctetBreaks limit o) (sym end) tt) ∙ ap (λ (k : ℕ). let e : Result (List ℕ × List ℕ) ℕ = Err k in e) none
+packed_ends limit n i octets lt e all = grind (arith, drop_all, stops)
 
 pub packed_above : (limit n i : ℕ) (octets : List ℕ) → i < n → i < length octets → AllUpTo limit (take i octets) → limit < get_or octets i 0 → packed_at limit n octets ≡ Err (length octets - i)
-packed_above limit n i octets lt le all h =
-    stops limit n i octets lt (omega arith) all (subst (λ (o : List ℕ). OctetBreaks limit o) (sym (drop_more octets i 0 le)) h)
+packed_above limit n i octets lt le all h = grind (arith, stops, drop_more)
 
 pub packed_whole : (limit n : ℕ) (octets : List ℕ) → n ≤ length octets → AllUpTo limit (take n octets) → packed_at limit n octets ≡ Ok (take n octets, drop n octets)
 packed_whole limit n octets le all =

@@ -34,8 +34,7 @@ type_some (o ∷ octets) kind after h =
     (ap (λ (i : ℕ). i ∷ octets) k ∙ ap (λ (os : List ℕ). kind ∷ os) r, ap (λ (i : ℕ). eqb i 0) (sym k) ∙ p.0)
 
 nil_at_end : (b : Bool) (n : ℕ) (ms : List Message) → cond b (Ok []) (Err n) ≡ Ok ms → ms ≡ []
-nil_at_end true n ms h = cc
-nil_at_end false n ms h = absurd cc
+nil_at_end b n ms h1 = grind arith
 
 end_is_nil : (octets : List ℕ) (ms : List Message) → end_at octets ≡ Ok ms → ms ≡ []
 unfolding end_at
@@ -101,8 +100,7 @@ abbrev pub with_messages : List Message → Result (List Message) ℕ → Result
 with_messages front read = read >>= λ ms. Ok (front ++ ms)
 
 with_more : (front ms : List Message) (read : Result (List Message) ℕ) → with_messages front (read >>= λ others. Ok (ms ++ others)) ≡ with_messages (front ++ ms) read
-with_more front ms (Ok others) = ap (λ (x : List Message). let y : Result (List Message) ℕ = Ok x in y) (sym (append_assoc front ms others))
-with_more front ms (Err left) = refl
+with_more front ms read = grind (arith, append_assoc)
 
 module _ (form : AppForm) (total : Result (List Message) ℕ) (front : List Message) (octets : List ℕ) (so_far : with_messages front (messages_of form octets) ≡ total) where
   pub goes_on : (kind : ℕ) (after : List ℕ) (ms : List Message) (rest : List ℕ) → type_at octets ≡ Ok (Some (kind, after)) → message_at form kind after ≡ Ok (ms, rest)

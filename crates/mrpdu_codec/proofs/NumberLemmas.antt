@@ -11,9 +11,7 @@ use Rattle.mrpdu_codec.specs.{two_octets}
 -- one octet more
 pub number_more : (octets : List ℕ) (i number octet : ℕ) → i < length octets → number ≡ number_high_first (take i octets) → octet ≡ get_or octets i 0
     → number * 256 + octet ≡ number_high_first (take (i + 1) octets)
-number_more octets i number octet lt e is =
-    ap (λ (n : ℕ). n * 256 + octet) e ∙ ap (λ (o : ℕ). number_high_first (take i octets) * 256 + o) is
-    ∙ sym (fold_more (λ (n o : ℕ). n * 256 + o) 0 octets i 0 lt)
+number_more octets i number octet lt e is = grind (arith, fold_more)
 
 pub below_more : (i number octet : ℕ) → number < 256 ^ i → octet < 256 → number * 256 + octet < 256 ^ (i + 1)
 below_more i number octet h o =
@@ -40,17 +38,13 @@ bytes_length (suc n) number = let e = bytes_length n number in omega (arith, e)
 
 -- the last octets of some are those of fewer
 pub last_bytes : (k n number : ℕ) → drop k (bytes_high_first (k + n) number) ≡ bytes_high_first n number
-last_bytes zero n number =
-    let e : 0 + n ≡ n = omega arith in
-    ap (λ (i : ℕ). bytes_high_first i number) e
+last_bytes zero n number = grind arith
 last_bytes (suc k) n number =
     let e : suc k + n ≡ suc (k + n) = omega arith in
     ap (λ (i : ℕ). drop (suc k) (bytes_high_first i number)) e ∙ last_bytes k n number
 
 pub bytes_behind : (m n number : ℕ) → n ≤ m → drop (m - n) (bytes_high_first m number) ≡ bytes_high_first n number
-bytes_behind m n number le =
-    let e : m - n + n ≡ m = omega arith in
-    ap (λ (i : ℕ). drop (m - n) (bytes_high_first i number)) (sym e) ∙ last_bytes (m - n) n number
+bytes_behind m n number le = grind (arith, last_bytes)
 
 -- ---- what is read of it
 
@@ -69,27 +63,15 @@ digits_split n m c hm hc =
     ap (λ (x : ℕ). x % (m * c)) split ∙ mul-add-mod_self_right (n / c / m) (m * c) (n / c % m * c + n % c) ∙ mod-eq_of_lt (omega arith)
 
 byte_at-pow : (k number : ℕ) → byte_at k number ≡ number / 256 ^ k % 256
-byte_at-pow zero number = ap (λ (y : ℕ). y % 256) (sym (div-one number))
-byte_at-pow (suc k) number = refl
+byte_at-pow k number = grind (arith, div-one)
 
 -- read on behind a number
 behind : (front n number : ℕ) → fold (λ (m o : ℕ). m * 256 + o) front (bytes_high_first n number) ≡ front * 256 ^ n + number % 256 ^ n
 behind front zero number = omega arith
-behind front (suc n) number =
-    let some : 0 < 256 ^ n = let h = one-le-pow n 256 (omega arith) in omega arith in
-    let place = 256 ^ n in
-    let digit = number / place % 256 in
-    behind (front * 256 + byte_at n number) n number
-    ∙ ap (λ (b : ℕ). (front * 256 + b) * place + number % place) (byte_at-pow n number)
-    ∙ ap (λ (x : ℕ). x + number % place) (add-mul (front * 256) digit place ∙ ap (λ (x : ℕ). x + digit * place) (mul_assoc front 256 place))
-    ∙ add_assoc (front * (256 * place)) (digit * place) (number % place)
-    ∙ ap (λ (x : ℕ). front * (256 * place) + x) (sym (digits_split number 256 place (omega arith) some))
-    ∙ ap (λ (p : ℕ). front * p + number % p) (sym (pow-succ' 256 n))
+behind front (suc n) number = grind (arith, behind (front * 256 + byte_at n number) n number, one-le-pow, byte_at-pow, add-mul, mul_assoc, add_assoc, digits_split, pow-succ')
 
 pub read_back : (n number : ℕ) → number < 256 ^ n → number_high_first (bytes_high_first n number) ≡ number
 read_back n number fits = behind 0 n number ∙ omega (arith, mod-eq_of_lt fits)
 
 pub two_bytes : (number : ℕ) → number < 65536 → bytes_high_first 2 number ≡ two_octets number
-two_bytes number fits =
-    let high : number / 256 ^ 1 % 256 ≡ number / 256 = omega arith in
-    ap (λ (h : ℕ). h ∷ number % 256 ∷ []) high
+two_bytes number fits = grind arith

@@ -1,5 +1,5 @@
 -- The FirstValues of a PDU that octets spell are octets.
-use Rattle.std.proofs.Common.{◌≡◌, ℕ, suc, ◌<◌, List, [], ◌∷◌, ◌++◌, map, Option, Some, None, sym, subst}
+use Rattle.std.proofs.Common.{◌≡◌, ℕ, suc, ◌<◌, List, [], ◌∷◌, ◌++◌, map, Option, Some, None, sym, subst, arith}
 use Rattle.std.specs.Prelude.{slice_index}
 use Rattle.std.specs.List.{AllByRecursion, flat_map}
 use Rattle.mrpdu_codec.specs.{AppForm, TypeForm, VectorAttr, Message, Pdu, AreOctets, row_of, Vector, attr_of, vector_octets, vectors_octets, AttributeList, list_octets, list_attrs, MessageTree, message_octets, messages_octets, messages_from, messages_meant, after_octets, Spells, HasOctets}
@@ -22,13 +22,10 @@ SayOctets ms = AllByRecursion (λ (m : Message). HaveOctets m.vectors) ms
 
 vectors-firsts : (vs : List Vector) → AreOctets (vectors_octets vs) → HaveOctets (map attr_of vs)
 vectors-firsts [] all = tt
-vectors-firsts (v ∷ vs) all =
-    let own = front (vector_octets v) (vectors_octets vs) all in
-    (front v.first (v.three_packed ++ v.four_packed) own.1.1, vectors-firsts vs (behind (vector_octets v) (vectors_octets vs) all))
+vectors-firsts (v ∷ vs) all = grind (arith, vectors-firsts vs (behind (vector_octets v) (vectors_octets vs) all), front, behind)
 
 list-firsts : (list : AttributeList) → AreOctets (list_octets list) → HaveOctets (list_attrs list)
-list-firsts (Vectors vs) all = vectors-firsts vs all
-list-firsts (Skipped octets) all = tt
+list-firsts list h1 = grind (arith, vectors-firsts)
 
 said-append : (xs ys : List Message) → SayOctets xs → SayOctets ys → SayOctets (xs ++ ys)
 said-append [] ys a b = b

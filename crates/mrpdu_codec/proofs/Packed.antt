@@ -9,25 +9,13 @@ use Rattle.mrpdu_codec.specs.{thirds, quarters, event_numbered, event_number, th
 -- ---- events
 
 event_again : (e : MrpEvent) → event_numbered (event_number e) ≡ e
-event_again New = refl
-event_again JoinIn = refl
-event_again OnlyIn = refl
-event_again JoinMt = refl
-event_again OnlyMt = refl
-event_again Lv = refl
+event_again e = grind arith
 
 pub number_limit : (e : MrpEvent) → event_number e ≤ 5
-number_limit New = omega arith
-number_limit JoinIn = omega arith
-number_limit OnlyIn = omega arith
-number_limit JoinMt = omega arith
-number_limit OnlyMt = omega arith
-number_limit Lv = omega arith
+number_limit e = grind arith
 
 three_limit : (a b c : MrpEvent) → three a b c ≤ 215
-three_limit a b c =
-    let x = number_limit a in let y = number_limit b in let z = number_limit c in
-    omega (arith, number_limit a, number_limit b, number_limit c)
+three_limit a b c = grind (arith, number_limit)
 
 high_digit : (x y z : ℕ) → y ≤ 5 → z ≤ 5 → ((x * 6 + y) * 6 + z) / 36 ≡ x
 high_digit x y z p q = omega arith
@@ -49,10 +37,7 @@ low_event a b c = ap event_numbered (low_digit (event_number a) (event_number b)
 
 -- an octet's three events
 unpacked : (a b c : MrpEvent) → three_events (three a b c) ≡ a ∷ b ∷ c ∷ []
-unpacked a b c =
-    ap (λ (e : MrpEvent). e ∷ event_numbered (three a b c / 6 % 6) ∷ event_numbered (three a b c % 6) ∷ []) (high_event a b c)
-    ∙ ap (λ (e : MrpEvent). a ∷ e ∷ event_numbered (three a b c % 6) ∷ []) (middle_event a b c)
-    ∙ ap (λ (e : MrpEvent). a ∷ b ∷ e ∷ []) (low_event a b c)
+unpacked a b c = grind (arith, high_event, middle_event, low_event)
 
 -- the first n events of an octet and of what follows
 unpacked_on : (n : ℕ) (a b c : MrpEvent) (octets : List ℕ) → take n (three_events (three a b c) ++ flat_map three_events octets) ≡ take n (a ∷ b ∷ c ∷ flat_map three_events octets)
@@ -85,15 +70,7 @@ first_small : (p : ℕ) (params : List ℕ) → Small (p ∷ params) → (p ≤ 
 first_small p params h = let a = and_parts (leb p 3) (list_all (λ q. leb q 3) params) h in (leb-true p 3 a.0, a.1)
 
 params_of : (a b c d : ℕ) → a ≤ 3 → b ≤ 3 → c ≤ 3 → d ≤ 3 → four_params (four a b c d) ≡ a ∷ b ∷ c ∷ d ∷ []
-params_of a b c d p q r s =
-    let e1 : four a b c d / 64 ≡ a = omega arith in
-    let e2 : four a b c d / 16 % 4 ≡ b = omega arith in
-    let e3 : four a b c d / 4 % 4 ≡ c = omega arith in
-    let e4 : four a b c d % 4 ≡ d = omega arith in
-    ap (λ (x : ℕ). x ∷ four a b c d / 16 % 4 ∷ four a b c d / 4 % 4 ∷ four a b c d % 4 ∷ []) e1
-    ∙ ap (λ (x : ℕ). a ∷ x ∷ four a b c d / 4 % 4 ∷ four a b c d % 4 ∷ []) e2
-    ∙ ap (λ (x : ℕ). a ∷ b ∷ x ∷ four a b c d % 4 ∷ []) e3
-    ∙ ap (λ (x : ℕ). a ∷ b ∷ c ∷ x ∷ []) e4
+params_of a b c d p q r s = grind arith
 
 params_on : (n a b c d : ℕ) (octets : List ℕ) → a ≤ 3 → b ≤ 3 → c ≤ 3 → d ≤ 3
     → take n (four_params (four a b c d) ++ flat_map four_params octets) ≡ take n (a ∷ b ∷ c ∷ d ∷ flat_map four_params octets)
@@ -102,15 +79,8 @@ params_on n a b c d octets p q r s = ap (λ (xs : List ℕ). take n (xs ++ flat_
 pub params_again : (params : List ℕ) → Small params → take (length params) (flat_map four_params (pack_params params)) ≡ params
 params_again [] h = refl
 params_again (a ∷ []) h = let p = first_small a [] h in params_on 1 a 0 0 0 [] p.0 (omega arith) (omega arith) (omega arith)
-params_again (a ∷ b ∷ []) h =
-    let p = first_small a (b ∷ []) h in
-    let q = first_small b [] p.1 in
-    params_on 2 a b 0 0 [] p.0 q.0 (omega arith) (omega arith)
-params_again (a ∷ b ∷ c ∷ []) h =
-    let p = first_small a (b ∷ c ∷ []) h in
-    let q = first_small b (c ∷ []) p.1 in
-    let r = first_small c [] q.1 in
-    params_on 3 a b c 0 [] p.0 q.0 r.0 (omega arith)
+params_again (a ∷ b ∷ []) h = grind (arith, params_on)
+params_again (a ∷ b ∷ c ∷ []) h = grind (arith, params_on)
 params_again (a ∷ b ∷ c ∷ d ∷ params) h =
     let p = first_small a (b ∷ c ∷ d ∷ params) h in
     let q = first_small b (c ∷ d ∷ params) p.1 in
@@ -128,15 +98,8 @@ fours_length (a ∷ b ∷ c ∷ d ∷ params) = omega (arith, fours_length param
 pub fours_limit : (params : List ℕ) → Small params → AllUpTo 255 (pack_params params)
 fours_limit [] h = tt
 fours_limit (a ∷ []) h = let p = first_small a [] h in (omega arith, tt)
-fours_limit (a ∷ b ∷ []) h =
-    let p = first_small a (b ∷ []) h in
-    let q = first_small b [] p.1 in
-    (omega arith, tt)
-fours_limit (a ∷ b ∷ c ∷ []) h =
-    let p = first_small a (b ∷ c ∷ []) h in
-    let q = first_small b (c ∷ []) p.1 in
-    let r = first_small c [] q.1 in
-    (omega arith, tt)
+fours_limit (a ∷ b ∷ []) h = grind arith
+fours_limit (a ∷ b ∷ c ∷ []) h = grind arith
 fours_limit (a ∷ b ∷ c ∷ d ∷ params) h =
     let p = first_small a (b ∷ c ∷ d ∷ params) h in
     let q = first_small b (c ∷ d ∷ params) p.1 in
@@ -151,12 +114,7 @@ rest-after xs k n is = take_all (length xs - n) (drop n xs) (omega (arith, lengt
 
 packed-events : (events : List MrpEvent) → 0 < length events
     → pack_events events ≡ three (get_or events 0 New) (get_or events 1 New) (get_or events 2 New) ∷ pack_events (drop (min (length events) 3) events)
-packed-events [] some = absurd (omega arith)
-packed-events (a ∷ []) some = refl
-packed-events (a ∷ b ∷ []) some = refl
-packed-events (a ∷ b ∷ c ∷ events) some =
-    let all : 3 ≡ min (length (a ∷ b ∷ c ∷ events)) 3 = omega arith in
-    ap (λ n. three a b c ∷ pack_events (drop n (a ∷ b ∷ c ∷ events))) all
+packed-events events h1 = grind arith
 
 pub first-events : (events : List MrpEvent) (a b c : MrpEvent) (n octet : ℕ) → 0 < length events → a ≡ get_or events 0 New → b ≡ get_or events 1 New
     → c ≡ get_or events 2 New → octet ≡ three a b c → n ≡ min (length events) 3 → pack_events events ≡ octet ∷ pack_events (take (length events - n) (drop n events))
@@ -164,13 +122,7 @@ first-events events a b c n octet some p q r packed is = let whole = packed-even
 
 packed-params : (params : List ℕ) → 0 < length params
     → pack_params params ≡ four (get_or params 0 0) (get_or params 1 0) (get_or params 2 0) (get_or params 3 0) ∷ pack_params (drop (min (length params) 4) params)
-packed-params [] some = absurd (omega arith)
-packed-params (a ∷ []) some = refl
-packed-params (a ∷ b ∷ []) some = refl
-packed-params (a ∷ b ∷ c ∷ []) some = refl
-packed-params (a ∷ b ∷ c ∷ d ∷ params) some =
-    let all : 4 ≡ min (length (a ∷ b ∷ c ∷ d ∷ params)) 4 = omega arith in
-    ap (λ n. four a b c d ∷ pack_params (drop n (a ∷ b ∷ c ∷ d ∷ params))) all
+packed-params params h1 = grind arith
 
 pub first-params : (params : List ℕ) (a b c d n octet : ℕ) → 0 < length params → a ≡ get_or params 0 0 → b ≡ get_or params 1 0 → c ≡ get_or params 2 0
     → d ≡ get_or params 3 0 → octet ≡ four a b c d → n ≡ min (length params) 4 → pack_params params ≡ octet ∷ pack_params (take (length params - n) (drop n params))

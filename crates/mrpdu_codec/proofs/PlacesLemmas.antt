@@ -81,10 +81,7 @@ module _ (row : Option TypeForm) (len : ℕ) where
       ]
 
 pub header_falls : (header : ℕ) (octets after : List ℕ) → header_in octets ≡ Some (header, after) → length after < length octets
-header_falls header [] after h = absurd cc
-header_falls header (o ∷ []) after h = absurd cc
-header_falls header (high ∷ low ∷ octets) after h =
-    omega (arith, ap length (header_parts header high low octets after h).2)
+header_falls header octets after h1 = grind arith
 
 pub drop_falls : (n : ℕ) (octets : List ℕ) → length (drop n octets) ≤ length octets
 drop_falls n octets = omega (arith, length-drop n octets)
@@ -122,14 +119,10 @@ behind_list_falls row [] = omega arith
 behind_list_falls row (len ∷ octets) = omega (arith, drop_falls 2 (behind_vectors row len 0 octets), behind_vectors_falls row len 0 octets)
 
 behind_counted_falls : (row : Option TypeForm) (octets : List ℕ) → length (behind_body Msrp row octets) ≤ length octets
-behind_counted_falls row [] = omega arith
-behind_counted_falls row (a ∷ []) = omega arith
-behind_counted_falls row (a ∷ b ∷ []) = omega arith
-behind_counted_falls row (len ∷ high ∷ low ∷ octets) = omega (arith, drop_falls (number high low) octets)
+behind_counted_falls row octets = grind (arith, drop_falls)
 
 behind_mmrp : (row : Option TypeForm) (octets : List ℕ) → behind_body Mmrp row octets ≡ behind_body Mvrp row octets
-behind_mmrp row [] = refl
-behind_mmrp row (len ∷ octets) = refl
+behind_mmrp row octets = grind arith
 
 pub behind_body_falls : (form : AppForm) (row : Option TypeForm) (octets : List ℕ) → length (behind_body form row octets) ≤ length octets
 behind_body_falls Mvrp row octets = behind_list_falls row octets
@@ -175,23 +168,17 @@ from_end form end (k ∷ octets) h =
     ]
 
 pub kind_falls : (kind : ℕ) (octets after : List ℕ) → kind_in octets ≡ Some (kind, after) → length after < length octets
-kind_falls kind [] after h = absurd cc
-kind_falls kind (k ∷ octets) after h =
-    omega (arith, ap length (kind_parts kind k octets after h).2)
+kind_falls kind octets after h1 = grind arith
 
 -- ---- one Message passed, of those of known types that are counted down
 
 known_passed : (row : Option TypeForm) (ps : List ℕ) (more : List (List ℕ)) (before vector : ℕ) → (is_some row && eqb before 0) ≡ false
     → first_value_place (known_places row ps ++ more) before vector ≡ first_value_place more (before - length (known_places row [])) vector
-known_passed None ps more before vector h = let e : before - 0 ≡ before = omega arith in rw e refl
-known_passed (Some t) ps more zero vector h = absurd cc
-known_passed (Some t) ps more (suc before) vector h = let e : suc before - 1 ≡ before = omega arith in rw e refl
+known_passed row ps more before vector h1 = grind arith
 
 known_here : (row : Option TypeForm) (ps : List ℕ) (more : List (List ℕ)) (before vector : ℕ) → (is_some row && eqb before 0) ≡ true
     → first_value_place (known_places row ps ++ more) before vector ≡ slice_get ps vector
-known_here None ps more before vector h = absurd cc
-known_here (Some t) ps more zero vector h = refl
-known_here (Some t) ps more (suc before) vector h = let e = eqb-true (suc before) 0 h in absurd (omega arith)
+known_here row ps more before vector h1 = grind (arith, eqb-true)
 
 module _ (form : AppForm) (end kind : ℕ) (octets after : List ℕ) (starts : kind_in octets ≡ Some (kind, after)) (before vector : ℕ) where
   pub message_here : (is_some (row_of form kind) && eqb before 0) ≡ true

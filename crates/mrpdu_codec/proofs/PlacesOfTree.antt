@@ -51,21 +51,14 @@ module _ (row : Option TypeForm) (len : ℕ) where
 
 -- no vector begins at an EndMark, nor where the octets end
 no_header : (mark more : List ℕ) → (mark ≡ []) ⊎ (mark ≡ 0 ∷ 0 ∷ []) → (mark ≡ [] → more ≡ []) → header_in (mark ++ more) ≡ None
-no_header mark more (inl e) ends = ap (λ (o : List ℕ). header_in (o ++ more)) e ∙ ap header_in (ends e)
-no_header mark more (inr e) ends = ap (λ (o : List ℕ). header_in (o ++ more)) e
+no_header mark more h1 h2 = grind arith
 
 mark_passed : (mark more : List ℕ) → (mark ≡ []) ⊎ (mark ≡ 0 ∷ 0 ∷ []) → (mark ≡ [] → more ≡ []) → drop 2 (mark ++ more) ≡ more
-mark_passed mark more (inl e) ends = ap (λ (o : List ℕ). drop 2 (o ++ more)) e ∙ ap (drop 2) (ends e) ∙ sym (ends e)
-mark_passed mark more (inr e) ends = ap (λ (o : List ℕ). drop 2 (o ++ more)) e
+mark_passed mark more h1 h2 = grind arith
 
 -- what AttributeListLength counts is passed
 counted_passed : (list mark more : List ℕ) → (mark ≡ []) ⊎ (length mark ≡ 2) → (mark ≡ [] → more ≡ []) → drop (length list + 2) ((list ++ mark) ++ more) ≡ more
-counted_passed list mark more (inl e) ends =
-    ap (λ (o : List ℕ). drop (length list + 2) ((list ++ o) ++ more)) e
-    ∙ ap (λ (o : List ℕ). drop (length list + 2) ((list ++ []) ++ o)) (ends e)
-    ∙ drop_all (length list + 2) ((list ++ []) ++ []) (omega (arith, length-append (list ++ []) [], length-append list []))
-    ∙ sym (ends e)
-counted_passed list mark more (inr e) ends = drop_at (list ++ mark) more (length list + 2) (omega (arith, length-append list mark, e))
+counted_passed list mark more h1 h2 = grind (arith, drop_all, length-append, drop_at)
 
 two_long : (mark : List ℕ) → (mark ≡ []) ⊎ (mark ≡ 0 ∷ 0 ∷ []) → (mark ≡ []) ⊎ (length mark ≡ 2)
 two_long mark (inl e) = inl e
@@ -86,11 +79,7 @@ module _ (row : Option TypeForm) (len end : ℕ) (mark more : List ℕ) (ends : 
       ∙ append-nil (vector_places at vs)
 
   listed_behind : (vs : List Vector) → AreVectors row len vs → (mark ≡ []) ⊎ (mark ≡ 0 ∷ 0 ∷ []) → drop 2 (behind_vectors row len 0 ((vectors_octets vs ++ mark) ++ more)) ≡ more
-  listed_behind vs are is =
-      ap (drop 2) (ap (behind_vectors row len 0) (append_assoc (vectors_octets vs) mark more)
-      ∙ behind_of row len vs (mark ++ more) are
-      ∙ behind_end row len (mark ++ more) (no_header mark more is ends))
-      ∙ mark_passed mark more is ends
+  listed_behind vs are is = grind (arith, append_assoc, behind_of, behind_end, no_header, mark_passed)
 
   counted_places : (at high low : ℕ) (vs : List Vector) → AreVectors row len vs → number high low ≡ length (vectors_octets vs) + 2
       → at + length ((vectors_octets vs ++ mark) ++ more) ≡ end
@@ -151,9 +140,7 @@ body_walked Msrp None at end len counted (Vectors vs) mark more is ends e = absu
 
 -- an EndMark that is missing is the last
 last_mark : (form : AppForm) (b : MessageTree) (bs : List MessageTree) (after : Option (List ℕ)) → AreMessages form (b ∷ bs) after → b.end_mark ≡ [] → messages_octets bs ++ after_octets after ≡ []
-last_mark form b bs after are h =
-    let last = are.1 h in
-    ap (λ (x : List MessageTree). messages_octets x ++ after_octets after) last.0 ∙ ap after_octets last.1
+last_mark form b bs after are h = grind arith
 
 messages_walked : (form : AppForm) (at end : ℕ) (bs : List MessageTree) (after : Option (List ℕ)) → AreMessages form bs after → at + length (messages_octets bs ++ after_octets after) ≡ end
     → places_from (length (messages_octets bs ++ after_octets after)) form end (messages_octets bs ++ after_octets after) ≡ messages_places form at bs

@@ -1,8 +1,9 @@
 -- At each place of the syntax tree stands the FirstValue of its vector.
-use Rattle.std.proofs.Common.{◌≡◌, ℕ, ◌+◌, List, [], ◌∷◌, ◌++◌, length, take, drop, map, Option, Some, None, refl, sym, ap, ◌∙◌, append_assoc, length-append, arith}
+use Rattle.std.proofs.Common.{◌≡◌, ℕ, zero, suc, ◌+◌, List, [], ◌∷◌, ◌++◌, length, take, drop, map, Option, Some, None, refl, sym, ap, subst, ◌∙◌, append_assoc, length-append, arith}
+use Rattle.std.specs.Prelude.{slice_get}
 use Rattle.std.specs.List.{flat_map}
 use Rattle.std.proofs.lemmas.List.{drop_at, take_at}
-use Rattle.mrpdu_codec.specs.{AppForm, TypeForm, Message, Pdu, row_of, Vector, attr_of, vector_octets, vectors_octets, AttributeList, list_octets, list_attrs, MessageTree, message_octets, messages_octets, messages_from, messages_meant, MrpduTree, tree_octets, after_octets, pdu_of, Spells, vector_places, list_places, known_places, messages_places, tree_places, first_places, StandAt, AllStandAt}
+use Rattle.mrpdu_codec.specs.{AppForm, TypeForm, VectorAttr, Message, Pdu, row_of, Vector, attr_of, vector_octets, vectors_octets, AttributeList, list_octets, list_attrs, MessageTree, message_octets, messages_octets, messages_from, messages_meant, MrpduTree, tree_octets, after_octets, pdu_of, Spells, vector_places, list_places, known_places, messages_places, tree_places, first_places, first_value_place, StandAt, AllStandAt}
 use Rattle.mrpdu_codec.specs.Tree.AttributeList.{Vectors, Skipped}
 use Rattle.mrpdu_codec.proofs.PlacesOfTree.{tree_walked}
 
@@ -33,8 +34,7 @@ list_stands octets front (Skipped skipped) more at e f = tt
 with_known : (octets : List ℕ) (row : Option TypeForm) (kind at : ℕ) (list : AttributeList) (pss : List (List ℕ)) (ms : List Message)
     → StandAt octets (list_places at list) (list_attrs list) → AllStandAt octets pss ms
     → AllStandAt octets (known_places row (list_places at list) ++ pss) (messages_from row kind (list_attrs list) ++ ms)
-with_known octets None kind at list pss ms h k = k
-with_known octets (Some t) kind at list pss ms h k = (h, k)
+with_known octets row kind at list pss ms h1 h2 = grind arith
 
 messages_stand : (form : AppForm) (octets front : List ℕ) (bs : List MessageTree) (more : List ℕ) (at : ℕ) → octets ≡ front ++ (messages_octets bs ++ more) → at ≡ length front
     → AllStandAt octets (messages_places form at bs) (flat_map (messages_meant form) bs)
@@ -57,5 +57,22 @@ tree_stands : (form : AppForm) (tree : MrpduTree) → AllStandAt (tree_octets tr
 tree_stands form tree = messages_stand form (tree_octets tree) (tree.version ∷ []) tree.messages (after_octets tree.after) 1 refl refl
 
 pub first_values_stand : (form : AppForm) (octets : List ℕ) (pdu : Pdu) → Spells form octets pdu → AllStandAt octets (first_places form octets) pdu.messages
-first_values_stand form octets pdu s =
-    rw (s.spelling, s.meaning, tree_walked form s.tree s.rules) (tree_stands form s.tree)
+first_values_stand form octets pdu s = grind (arith, tree_walked, tree_stands)
+
+-- ---- vectors that stand at places have one each
+
+place_stands : (octets : List ℕ) (ps : List ℕ) (vs : List VectorAttr) (y : ℕ) (v : VectorAttr) → StandAt octets ps vs → slice_get vs y ≡ Some v → (p : ℕ) × (slice_get ps y ≡ Some p)
+place_stands octets ps [] y v stand is = absurd cc
+place_stands octets [] (w ∷ vs) y v stand is = absurd stand
+place_stands octets (p ∷ ps) (w ∷ vs) zero v stand is = (p, refl)
+place_stands octets (p ∷ ps) (w ∷ vs) (suc y) v stand is = place_stands octets ps vs y v stand.1 is
+
+pub has_place : (octets : List ℕ) (pss : List (List ℕ)) (ms : List Message) (n y : ℕ) (m : Message) (v : VectorAttr) → AllStandAt octets pss ms → slice_get ms n ≡ Some m
+    → slice_get m.vectors y ≡ Some v
+    → (p : ℕ) × (first_value_place pss n y ≡ Some p)
+has_place octets pss [] n y m v stand is_message is_vector = absurd cc
+has_place octets [] (w ∷ ms) n y m v stand is_message is_vector = absurd stand
+has_place octets (ps ∷ pss) (w ∷ ms) zero y m v stand is_message is_vector =
+    let same : w ≡ m = cc in
+    place_stands octets ps m.vectors y v (subst (λ (x : Message). StandAt octets ps x.vectors) same stand.0) is_vector
+has_place octets (ps ∷ pss) (w ∷ ms) (suc n) y m v stand is_message is_vector = has_place octets pss ms n y m v stand.1 is_message is_vector

@@ -23,8 +23,7 @@ pub record TookMessage (form : AppForm) (octets : List ℕ) (messages : List Mes
   pub last : tree.end_mark ≡ [] → rest ≡ []
 
 regroup : (kind len : ℕ) (list_length region mark rest : List ℕ) → kind ∷ len ∷ (list_length ++ (region ++ (mark ++ rest))) ≡ (kind ∷ len ∷ (list_length ++ (region ++ mark))) ++ rest
-regroup kind len list_length region mark rest =
-    ap (λ (o : List ℕ). kind ∷ len ∷ o) (ap (λ (o : List ℕ). list_length ++ o) (sym (append_assoc region mark rest)) ∙ sym (append_assoc list_length (region ++ mark) rest))
+regroup kind len list_length region mark rest = grind (arith, append_assoc)
 
 pub message_match : (form : AppForm) (kind : ℕ) (octets : List ℕ) → 0 < kind
     → MatchResult (message_at form kind octets) (λ x. TookMessage form (kind ∷ octets) x.0 x.1) (λ left. Broken (MessageBreaks form) (kind ∷ octets) left)
@@ -155,8 +154,7 @@ messages_match (suc fuel) form (kind ∷ rest) enough =
 some_messages : (bs : List MessageTree) (after : Option (List ℕ)) (kind : ℕ) (rest : List ℕ) → 0 < kind → kind ∷ rest ≡ messages_octets bs ++ after_octets after → 0 < length bs
 some_messages (b ∷ bs) after kind rest some e = omega arith
 some_messages [] None kind rest some e = absurd cc
-some_messages [] (Some more) kind rest some e =
-    let k : kind ≡ 0 = cc in omega arith
+some_messages [] (Some more) kind rest some e = grind arith
 
 no_later : (kind : ℕ) (rest : List ℕ) → 0 < kind → LaterTypeBreaks (kind ∷ rest) → ⊥
 no_later kind [] some h = omega arith

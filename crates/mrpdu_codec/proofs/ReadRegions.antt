@@ -129,11 +129,7 @@ before_match beyond (Ok x) P Q Q' h f = h
 before_match beyond (Err left) P Q Q' h f = f left h
 
 parts_of : (size : ℕ) (octets : List ℕ) → IsRegion size (take size octets) (drop size octets)
-parts_of size octets =
-    elim (cases_lt (length octets) size) [
-      | inl lt ↦ inr (omega (arith, length-take size octets), drop_all size octets (omega arith))
-      | inr le ↦ inl (length-take-le size octets le)
-    ]
+parts_of size octets = grind (arith, cases_lt, length-take, drop_all, length-take-le)
 
 record TookKnown (t : TypeForm) (len size : ℕ) (octets : List ℕ) (attrs : List VectorAttr) (rest : List ℕ) : Type 0 where
   vs : List Vector

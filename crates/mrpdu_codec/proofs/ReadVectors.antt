@@ -12,8 +12,7 @@ whole3 octets high low rest first after packed last h f p = h ∙ ap (λ (t : Li
 
 whole4 : (octets : List ℕ) (high low : ℕ) (rest first after packed behind fours last : List ℕ) → octets ≡ high ∷ low ∷ rest → rest ≡ first ++ after → after ≡ packed ++ behind → behind ≡ fours ++ last
     → octets ≡ (high ∷ low ∷ (first ++ (packed ++ fours))) ++ last
-whole4 octets high low rest first after packed behind fours last h f p q =
-    whole3 octets high low rest first after (packed ++ fours) last h f (p ∙ ap (λ (t : List ℕ). packed ++ t) q ∙ sym (append_assoc packed fours last))
+whole4 octets high low rest first after packed behind fours last h f p q = grind (arith, whole3, append_assoc)
 
 -- ---- what was read
 

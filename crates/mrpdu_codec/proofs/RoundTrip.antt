@@ -27,8 +27,7 @@ record ParamsFacts (b : Bool) (n : ℕ) (params : List ℕ) : Type 0 where
   again : take n (flat_map four_params (pack_params params)) ≡ params
 
 take_nil : (n : ℕ) → take {A = ℕ} n [] ≡ []
-take_nil zero = refl
-take_nil (suc n) = refl
+take_nil n = grind arith
 
 params_facts : (b : Bool) (n : ℕ) (params : List ℕ) → cond b (eqb (length params) n && list_all (λ p. leb p 3) params) (eqb (length params) 0) ≡ true → ParamsFacts b n params
 params_facts true n params h =
@@ -43,10 +42,7 @@ header_again h = omega arith
 
 attr_is : (b c : Bool) (first : List ℕ) (es fs : List MrpEvent) (ps qs : List ℕ) → b ≡ c → es ≡ fs → ps ≡ qs
     → (let v : VectorAttr = record { leave_all = b; first = first; events = es; params = ps } in v) ≡ record { leave_all = c; first = first; events = fs; params = qs }
-attr_is b c first es fs ps qs e f g =
-    ap (λ (x : Bool). let v : VectorAttr = record { leave_all = x; first = first; events = es; params = ps } in v) e
-    ∙ ap (λ (x : List MrpEvent). let v : VectorAttr = record { leave_all = c; first = first; events = x; params = ps } in v) f
-    ∙ ap (λ (x : List ℕ). let v : VectorAttr = record { leave_all = c; first = first; events = fs; params = x } in v) g
+attr_is b c first es fs ps qs e f g = grind arith
 
 vector_again : (t : TypeForm) (v : VectorAttr) → vector_fits t v ≡ true → IsVector (Some t) t.length (vector_for v) × (attr_of (vector_for v) ≡ v)
 vector_again t v fits =
@@ -107,10 +103,7 @@ body_again form (Some t) m fits = record {
   rules Mmrp = (refl, vectors.0, inr refl)
 
 known_kind : (form : AppForm) (kind : ℕ) (vs : List VectorAttr) → vectors_fit (row_of form kind) vs ≡ true → 0 < kind
-known_kind Mvrp zero vs fits = absurd (false≢true fits)
-known_kind Msrp zero vs fits = absurd (false≢true fits)
-known_kind Mmrp zero vs fits = absurd (false≢true fits)
-known_kind form (suc kind) vs fits = omega arith
+known_kind form kind vs h1 = grind (arith, false≢true)
 
 message_again : (form : AppForm) (m : Message) → has_form form m ≡ true → IsMessage form (message_for form m) × (messages_meant form (message_for form m) ≡ m ∷ [])
 message_again form m fits =
@@ -146,9 +139,7 @@ spells_again form pdu fits =
 
 -- and so does what stands behind other octets
 pub spells_behind : (form : AppForm) (pdu : Pdu) (before after : List ℕ) → well_formed form pdu ≡ true → after ≡ before ++ spelling form pdu → Spells form (drop (length before) after) pdu
-spells_behind form pdu before after fits e =
-    let behind : drop (length before) after ≡ spelling form pdu = ap (λ (octets : List ℕ). drop (length before) octets) e ∙ drop_at before (spelling form pdu) (length before) refl in
-    subst (λ (octets : List ℕ). Spells form octets pdu) (sym behind) (spells_again form pdu fits)
+spells_behind form pdu before after fits e = grind (arith, drop_at, spells_again)
 
 -- ---- what a writer asks of its vectors
 
@@ -166,8 +157,7 @@ can_put t (v ∷ vs) fits =
     (record { events = leb-true (length v.events) 8191 r.1; params = params_small t.four_packed (length v.events) v.params q.1 }, can_put t vs p.1)
 
 can_put_known : (row : Option TypeForm) (vs : List VectorAttr) → vectors_fit row vs ≡ true → AllByRecursion CanPut vs
-can_put_known None vs fits = absurd (false≢true fits)
-can_put_known (Some t) vs fits = can_put t vs fits
+can_put_known row vs h1 = grind (arith, false≢true, can_put)
 
 pub message_can_put : (form : AppForm) (m : Message) → message_fits form m ≡ true → AllByRecursion CanPut m.vectors
 message_can_put form m fits = can_put_known (row_of form m.kind) m.vectors (and_parts _ _ fits).0

@@ -1,13 +1,12 @@
 -- How many octets the canonical spelling has.
-use Rattle.std.proofs.Common.{◌≡◌, ℕ, ◌+◌, ◌<◌, List, [], ◌∷◌, ◌++◌, length, get_or, take, map, refl, sym, ap, ◌∙◌, length-append, arith}
-use Rattle.std.specs.List.{flat_map, sum_by}
-use Rattle.std.proofs.lemmas.{List.append-nil, List.map-append, List.take_more, List.Sums.sum_by-cons, List.Concat.flat_map-append}
+use Rattle.std.proofs.Common.{◌≡◌, ℕ, ◌+◌, List, [], ◌∷◌, ◌++◌, length, map, refl, sym, ap, ◌∙◌, length-append, arith}
+use Rattle.std.specs.List.{sum_by}
+use Rattle.std.proofs.lemmas.{List.Sums.sum_by-cons}
 use Rattle.mrpdu_codec.specs.{AppForm, Mvrp, Msrp, Mmrp, VectorAttr, Message, Pdu, thirds, quarters, vector_octets, vectors_octets, message_octets, messages_octets, pack_events, pack_params, vector_for, vectors_for, message_for, spelling, vector_size, vectors_size, message_size, pdu_size}
 use Rattle.mrpdu_codec.proofs.Packed.{packed_length, fours_length}
 
 pub vector_length : (v : VectorAttr) → length (vector_octets (vector_for v)) ≡ ((length v.first + thirds (length v.events)) + quarters (length v.params)) + 2
-vector_length v =
-    omega (arith, length-append v.first (pack_events v.events ++ pack_params v.params), length-append (pack_events v.events) (pack_params v.params), packed_length v.events, fours_length v.params)
+vector_length v = grind (arith, length-append, packed_length, fours_length)
 
 vector_written : (v : VectorAttr) → length (vector_octets (vector_for v)) ≡ vector_size v
 vector_written v = omega (arith, vector_length v)
@@ -21,9 +20,7 @@ vectors_written (v ∷ vs) =
     ∙ sym (sum_by-cons vector_size v vs)
 
 message_written : (form : AppForm) (m : Message) → length (message_octets (message_for form m)) ≡ message_size form m
-message_written Mvrp m = omega (arith, length-append (vectors_octets (vectors_for m.vectors)) (0 ∷ 0 ∷ []), vectors_written m.vectors)
-message_written Msrp m = omega (arith, length-append (vectors_octets (vectors_for m.vectors)) (0 ∷ 0 ∷ []), vectors_written m.vectors)
-message_written Mmrp m = omega (arith, length-append (vectors_octets (vectors_for m.vectors)) (0 ∷ 0 ∷ []), vectors_written m.vectors)
+message_written form m = grind (arith, length-append, vectors_written)
 
 messages_written : (form : AppForm) (ms : List Message) → length (messages_octets (map (message_for form) ms)) ≡ sum_by (message_size form) ms
 messages_written form [] = refl
@@ -35,12 +32,3 @@ messages_written form (m ∷ ms) =
 
 pub pdu_written : (form : AppForm) (pdu : Pdu) → length (spelling form pdu) ≡ pdu_size form pdu
 pdu_written form pdu = omega (arith, length-append (messages_octets (map (message_for form) pdu.messages)) (0 ∷ 0 ∷ []), messages_written form pdu.messages)
-
--- one item more
-pub grows : {A B : Type 0} (f : B → List ℕ) (h : A → B) (xs : List A) (i : ℕ) (x : A) → i < length xs → x ≡ get_or xs i x
-    → flat_map f (map h (take (i + 1) xs)) ≡ flat_map f (map h (take i xs)) ++ f (h x)
-grows {A = A} f h xs i x lt e =
-    ap (λ (ys : List A). flat_map f (map h ys)) (take_more xs i x lt ∙ ap (λ (y : A). take i xs ++ y ∷ []) (sym e))
-    ∙ ap (λ ys. flat_map f ys) (map-append h (take i xs) (x ∷ []))
-    ∙ flat_map-append f (map h (take i xs)) (h x ∷ [])
-    ∙ ap (λ (ys : List ℕ). flat_map f (map h (take i xs)) ++ ys) (append-nil (f (h x)))

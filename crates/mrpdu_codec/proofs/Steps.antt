@@ -1,5 +1,5 @@
 -- One reader after another: what holds of each step holds of the chain.
-use Rattle.std.proofs.Common.{◌≡◌, ℕ, Bool, true, false, cond, List, ◌++◌, length, Result, Ok, Err, MatchResult, refl}
+use Rattle.std.proofs.Common.{◌≡◌, ℕ, Bool, true, false, cond, List, ◌++◌, length, Result, Ok, Err, MatchResult, refl, arith}
 use Rattle.srp_base.specs.Results.{◌>>=◌}
 
 pub then_match : {A B : Type 0} (r : Result A ℕ) (f : A → Result B ℕ) (P : A → Type 0) (Q : ℕ → Type 0) (P' : B → Type 0) (Q' : ℕ → Type 0)
@@ -29,9 +29,7 @@ weaker_match (Err left) P Q P' Q' h f g = g left h
 -- ---- two chains that begin alike
 
 pub same_after : {A B : Type 0} (r : Result A ℕ) (f g : A → Result B ℕ) → ((x : A) → r ≡ Ok x → f x ≡ g x) → (r >>= f) ≡ (r >>= g)
-same_after (Ok x) f g h = h x refl
-same_after (Err left) f g h = refl
+same_after r f g h1 = grind arith
 
 pub same_choice : {A : Type 0} (b : Bool) (x y z : A) → (b ≡ false → y ≡ z) → cond b x y ≡ cond b x z
-same_choice true x y z h = refl
-same_choice false x y z h = h refl
+same_choice b x y z h1 = grind arith

@@ -46,16 +46,13 @@ vectors_fail : (row : Option TypeForm) (len : ℕ) (octets : List ℕ) (left : �
 unfolding vectors_of vectors_at ends_list
 vectors_fail row len octets left going e = step (length octets) octets refl going e where
   step : (n : ℕ) (os : List ℕ) → length os ≡ n → ends_list os ≡ false → vector_at row len os ≡ Err left → vectors_at n row len os ≡ Err left
-  step zero [] k g h = absurd (false≢true (sym g))
-  step zero (o ∷ os) k g h = absurd (omega arith)
-  step (suc n) os k g h = rw (g, h) refl
+  step n os h1 h2 h3 = grind (arith, false≢true)
 
 vectors_end : (row : Option TypeForm) (len : ℕ) (octets : List ℕ) → ends_list octets ≡ true → vectors_of row len octets ≡ Ok ([], octets)
 unfolding vectors_of vectors_at
 vectors_end row len octets ended = step (length octets) ended where
   step : (n : ℕ) → ends_list octets ≡ true → vectors_at n row len octets ≡ Ok ([], octets)
-  step zero h = refl
-  step (suc n) h = rw h refl
+  step n h1 = grind arith
 
 -- ---- what was read before, and what is still read
 
@@ -65,13 +62,10 @@ with_front front read = read >>= λ x. Ok (front ++ x.0, x.1)
 -- one vector more, of what is kept
 with_more : (row : Option TypeForm) (front : List VectorAttr) (v : VectorAttr) (read : Result (List VectorAttr × List ℕ) ℕ)
     → with_front front (list_kept row (read >>= λ x. Ok (v ∷ x.0, x.1))) ≡ with_front (front ++ kept_attr row v) (list_kept row read)
-with_more None front v (Ok x) = ap (λ (vs : List VectorAttr). let y : Result (List VectorAttr × List ℕ) ℕ = Ok (vs, x.1) in y) (sym (append-nil (front ++ [])))
-with_more (Some t) front v (Ok x) = ap (λ (vs : List VectorAttr). let y : Result (List VectorAttr × List ℕ) ℕ = Ok (vs, x.1) in y) (sym (append_assoc front (v ∷ []) x.0))
-with_more row front v (Err left) = refl
+with_more row front v read = grind (arith, append-nil, append_assoc)
 
 kept_nil : (row : Option TypeForm) (front : List VectorAttr) (octets : List ℕ) → with_front front (list_kept row (Ok ([], octets))) ≡ Ok (front, octets)
-kept_nil None front octets = ap (λ (vs : List VectorAttr). let y : Result (List VectorAttr × List ℕ) ℕ = Ok (vs, octets) in y) (append-nil front)
-kept_nil (Some t) front octets = ap (λ (vs : List VectorAttr). let y : Result (List VectorAttr × List ℕ) ℕ = Ok (vs, octets) in y) (append-nil front)
+kept_nil row front octets = grind (arith, append-nil)
 
 module _ (row : Option TypeForm) (len : ℕ) (total : Result (List VectorAttr × List ℕ) ℕ) (front : List VectorAttr) (octets : List ℕ) (so_far : with_front front (list_kept row (vectors_of row len octets)) ≡ total) where
   after_all : (read : Result (List VectorAttr × List ℕ) ℕ) → vectors_of row len octets ≡ read → total ≡ with_front front (list_kept row read)

@@ -36,7 +36,7 @@ seen_clocked now side s =
     (map_twice (listener_row s) (clocked_port now) side.ports (λ q. refl))
 
 -- where every want's fit is the same, what is declared of a Talker is
-same_fit : (f g : Want → Fit) (o : Option Want) → ((w : Want) → f w ≡ g w) → option_map f o ≡ option_map g o
+pub same_fit : (f g : Want → Fit) (o : Option Want) → ((w : Want) → f w ≡ g w) → option_map f o ≡ option_map g o
 same_fit f g None same = refl
 same_fit f g (Some w) same = ap (λ x. Some x) (same w)
 

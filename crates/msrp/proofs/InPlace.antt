@@ -5,14 +5,13 @@ use Rattle.std.specs.List.{list_any}
 use Rattle.std.proofs.lemmas.Option.{slice_get-map, slice_get_read}
 use Rattle.std.proofs.lemmas.Bool.{or_parts as or_false}
 use Rattle.srp_base.proofs.Lists.{map-set}
-use Rattle.registrar.specs.declared.{Registrar.Registrar, RegEvent.TheVariants.RxLeaveAll}
-use Rattle.registrar.specs.declared.Registrar.TheVariants.{Held, Leaving, Empty}
-use Rattle.registrar.specs.Table.{is_leaving, is_registered_in, next}
+use Rattle.registrar.specs.Table.{is_leaving}
 use Rattle.srp_base.specs.declared.{numbers.Cs.Cs, numbers.StreamId.StreamId, streams.Talker.Talker}
 use Rattle.attribute_propagation.specs.{Dirty.KeySet, Ports.HasRoom, Ports.keys_in}
 use Rattle.mrp_participant.specs.{Lookup.find, Lookup.key_of, Lookup.same, Row.after_hear, Row.leave_all_row, Row.leave_is_due, Row.registered_in, Row.row_after_receive, Row.row_hearing, State.after, State.changed_keys, State.left_keys, State.received_state, State.registered_at}
 use Rattle.msrp_codec.specs.declared.pdu.MsrpKey.{MsrpKey}
 use Rattle.msrp_codec.specs.declared.pdu.MsrpKey.TheVariants as keys
+use Rattle.registrar.proofs.RegistrarLemmas.{leave_all-registered}
 use Rattle.msrp.specs.{DomainSet, key_cmp, same_content, are_counted, is_domain, is_domain_leaving, is_domain_told, known_keys, told_sets, IsKept, Streams, at_port, with_part, with_port_at, with_told_port, PortHolding, ports_in, streams_of}
 use Rattle.msrp.specs.PortState.{PortState}
 use Rattle.msrp.specs.Part.{Part}
@@ -126,14 +125,9 @@ unheard leave k (e ∷ events) r is none =
     let parts = or_false (is_domain e.1) (list_any (λ (x : MsrpHeard). is_domain x.1) events) none in
     ap (λ b. fold (row_hearing key_cmp leave k) (if b then after_hear e.0 e.1 e.2 leave r else r) events) (domain_apart e.1 k parts.0 is) ∙ unheard leave k events r is parts.1
 
-leaving_all : (g : Registrar) → is_registered_in (next RxLeaveAll g) ≡ is_registered_in g
-leaving_all Held = refl
-leaving_all Leaving = refl
-leaving_all Empty = refl
-
 left_alone : (leave : Cs) (b : Bool) (r : Option MsrpRow) → registered_in (if b then option_map (leave_all_row leave) r else r) ≡ registered_in r
 left_alone leave true None = refl
-left_alone leave true (Some r) = ap (λ x. if x then Some r.heard else None) (leaving_all r.registrar)
+left_alone leave true (Some r) = ap (λ x. if x then Some r.heard else None) (leave_all-registered r.registrar)
 left_alone leave false r = refl
 
 -- the law that each told key's registration has changed, and that of each key's row

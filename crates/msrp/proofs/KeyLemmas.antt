@@ -21,6 +21,3 @@ key_self (keys.Domain c) = grind (arith, nat_tests)
 
 pub stream_is : (s t : StreamId) → is_eq (stream_cmp s t) ≡ true → s ≡ t
 stream_is s t h = let e : s.0 ≡ t.0 = grind (arith, nat_tests, h) in ap (λ n. record { 0 = n }) e
-
-pub stream_self : (s : StreamId) → is_eq (stream_cmp s s) ≡ true
-stream_self s = grind (arith, nat_tests)

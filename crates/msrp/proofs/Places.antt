@@ -1,17 +1,11 @@
 -- One place of a list is changed: what stands there, and what a function makes of the list.
 use Rattle.std.proofs.Common.{◌≡◌, ℕ, zero, suc, List, [], ◌∷◌, ◌++◌, length, drop, get_or, refl, sym, ap, subst, ◌∙◌, ◌+◌, ◌<◌, append_assoc, arith}
-use Rattle.std.specs.Prelude.{slice_get, slice_index_or, Option, Some, None, Result, Ok, Err, OnOk}
+use Rattle.std.specs.Prelude.{Option, Some, None, Result, Ok, Err, OnOk}
 use Rattle.std.specs.List.{AllByRecursion}
 use Rattle.std.proofs.lemmas.List.{drop_more}
 use Rattle.registrar.specs.Table.{is_leaving}
 use Rattle.mrp_participant.specs.declared.row.Row.{Row}
 use Rattle.mrp_participant.specs.Row.{is_leaving_in, registrar_of}
-
--- what is read at a place is what stands there
-pub read-get : {X : Type 0} (xs : List X) (i : ℕ) (x : X) → slice_get xs i ≡ Some x → x ≡ slice_index_or xs i x
-read-get [] i x h = refl
-read-get (y ∷ xs) zero x h = cc
-read-get (y ∷ xs) (suc i) x h = read-get xs i x h
 
 -- what holds of each element holds of the one at a place
 pub each-at : {X : Type 0} (P : X → Type 0) (xs : List X) (i : ℕ) (x : X) → i < length xs → x ≡ get_or xs i x → AllByRecursion P xs → P x

@@ -1,8 +1,7 @@
 -- What is sent is of its keys.
-use Rattle.std.proofs.Common.{◌≡◌, ◌≢◌, ◌≤◌, Bool, true, false, ◌||◌, List, [], ◌∷◌, length, refl, subst, arith}
-use Rattle.std.specs.Prelude.{nat_lt, Option, Some, None, Contains, option_map, option_to_list}
+use Rattle.std.proofs.Common.{◌≡◌, ◌≤◌, List, [], length, refl, subst, arith}
+use Rattle.std.specs.Prelude.{Option, Some, None, Contains, option_map, option_to_list}
 use Rattle.std.specs.List.{AllByRecursion}
-use Rattle.std.proofs.lemmas.Bool.Decides.{nat_tests}
 use Rattle.srp_base.proofs.Lists.{each-contained as of_each, each_filter as all_filtered, each_append as all_joined}
 use Rattle.mrp_participant.specs.Lookup.{find}
 use Rattle.msrp_codec.specs.declared.{pdu.MsrpKey.MsrpKey, pdu.MsrpContent.MsrpContent}
@@ -35,12 +34,6 @@ in_order P es all =
     (all_joined P (of_type Failed es) _ (all_filtered P (has_type Failed) es all)
     (all_joined P (of_type Listener es) _ (all_filtered P (has_type Listener) es all)
     (all_joined P (of_type Domain es) [] (all_filtered P (has_type Domain) es all) tt)))
-
--- there is a LeaveAll or an event
-pub says_some : {X : Type 0} (leave : Bool) (es : List X) → (leave ≡ false → es ≢ []) → (leave || nat_lt 0 (length es)) ≡ true
-says_some true es says = refl
-says_some false [] says = absurd (says refl refl)
-says_some false (e ∷ es) says = grind (arith, nat_tests)
 
 pub one_at_most : {X : Type 0} (xs : List X) (o : Option X) → xs ≡ option_to_list o → length xs ≤ 1
 one_at_most xs None e = rw e (omega arith)

@@ -21,7 +21,7 @@ use Rattle.msrp_codec.specs.declared.pdu.MsrpContent.TheVariants as contents
 use Rattle.msrp.specs.PortState.{PortState}
 use Rattle.msrp.specs.Part.{Part}
 use Rattle.msrp.specs.{key_cmp, stream_cmp, registered_listener, registered_talker, listener_kind_of, settled_part, talker_content, talker_reg_of, domain_key, Registrations, advertise_of, edge_at, is_listened, is_talker_port, listener_at, listener_row, own_listener, stated_at, talk_of, talker_at, first_talker, talkers_of, want_of_talker, wanted_at, listener_keys, moved_streams, next_book, settled_book, settling_keys, streams_in, talker_keys, Streams, IsKept, IsPort, IsSettled, IsSettledAt, seen_by, settled_streams}
-use Rattle.msrp.proofs.{Telling.Awaits, Telling.unmarked, Talkers.HasRows, Talkers.absent_stated, Talkers.no_talker, Talkers.stated_by, Talkers.wanted_by, Domains.edge_same, Participants.PartLaws, Participants.declared-settled, Participants.own-settled, Participants.registered-settled, Participants.rows-settled, Ledgers.BookLaws, Ledgers.IsLike, Ledgers.settled_like, Ledgers.settled_wants, Rules.AwaitsStreams, Rules.among, Rules.among-append, Rules.of_talker, Rules.rule_own, Rules.stream_out, Rules.want_own}
+use Rattle.msrp.proofs.{Telling.Awaits, Telling.unmarked, Talkers.HasRows, Talkers.absent_stated, Talkers.no_talker, Talkers.stated_by, Talkers.wanted_by, Domains.edge_same, Participants.PartLaws, Participants.declared-settled, Participants.own-settled, Participants.registered-settled, Participants.rows-settled, Ledgers.BookLaws, Ledgers.IsLike, Ledgers.settled_like, Ledgers.settled_wants, Rules.AwaitsStreams, Rules.among, Rules.among-append, Rules.of_talker, Rules.rule_own, Rules.stream_out, Rules.want_own, Clocked.same_fit}
 
 -- the laws of booked sets that settling rests on
 pub record MoveLaws : Type 0 where
@@ -72,10 +72,6 @@ was_there awaits new sets at j now ne h = by (slice_get sets j) refl (sym (await
     by (Some set) is e =
         let other : (j == at) ≡ false = grind (arith, nat_tests, ne) in
         record { set = set; there = is; is = let k = rw other at e in cc }
-
-same_fit : (f g : Want → Fit) (o : Option Want) → ((w : Want) → f w ≡ g w) → option_map f o ≡ option_map g o
-same_fit f g None same = refl
-same_fit f g (Some w) same = ap (λ x. Some x) (same w)
 
 -- where the booked set is the same, what is declared of a Talker is
 talker_same : (laws : MoveLaws) (at : ℕ) (config : PortConfig) (edge : Bool) (book other : Book) (talkers : List TalkerReg) → IsAscending book.entries → IsAscending other.entries

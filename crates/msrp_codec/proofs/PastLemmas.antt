@@ -1,192 +1,75 @@
 -- The first vector whose values pass the end of a field, and its place.
-use Rattle.std.proofs.Common.{◌≡◌, ℕ, zero, suc, ◌+◌, true, false, inl, inr, List, [], ◌∷◌, take, Option, Some, None, refl, sym, ap, subst, ◌∙◌, arith}
-use Rattle.std.specs.Prelude.{slice_get}
+use Rattle.std.proofs.Common.{◌≡◌, ℕ, ◌+◌, Bool, true, false, List, [], ◌∷◌, take, Option, Some, None, refl, sym, ap, subst, ◌∙◌, arith}
+use Rattle.std.specs.Prelude.{slice_get, if◌then◌else◌}
 use Rattle.std.specs.{List.list_all, Option.unwrap_or}
-use Rattle.std.proofs.lemmas.{Bool.cases_Bool, Bool.and_parts, Bool.and_from, Option.some_pair_parts}
 use Rattle.mrpdu_codec.specs.declared.{form.AppForm.TheVariants.Msrp, pdu.VectorAttr.VectorAttr, pdu.Message.Message, pdu.Pdu.Pdu}
-use Rattle.mrpdu_codec.specs.{Grammar.Spells, Places.first_places, Places.first_value_place, Places.StandAt, Places.AllStandAt}
+use Rattle.mrpdu_codec.specs.{Grammar.Spells, Places.first_places, Places.AllStandAt}
+use Rattle.mrpdu_codec.proofs.{FirstFailing.first_failing, FirstFailing.IsSearch, FirstFailing.past_none as none_fails, FirstFailing.past_all as all_fit, FirstFailing.past_some as some_fails, FirstFailing.past_at as fails_at, PlacesStand.has_place}
 use Rattle.msrp_codec.specs.declared.attribute_type.AttributeType.{AttributeType}
-use Rattle.msrp_codec.specs.{type_of, is_in_range, are_in_range, message_in_range, first_past_in, typed_past, message_past, first_past, place_in, PassesEnd}
+use Rattle.msrp_codec.specs.{type_of, is_in_range, are_in_range, message_in_range, first_past_in, typed_past, found_in, first_past, place_in, PassesEnd}
 
--- ---- vectors
+-- ---- vectors, by the type of their Message
 
-past_in_none : (t : AttributeType) (i : ℕ) (vs : List VectorAttr) → first_past_in t i vs ≡ None → list_all (is_in_range t) vs ≡ true
-past_in_none t i [] h = refl
-past_in_none t i (v ∷ vs) h =
-    elim (cases_Bool (is_in_range t v)) [
-      | inl within ↦ let e = rw within at h in and_from _ _ within (past_in_none t (i + 1) vs e)
-      | inr past ↦ let e = rw past at h in absurd cc
-    ]
+in_vectors : (t : AttributeType) (i : ℕ) (vs : List VectorAttr) → first_past_in t i vs ≡ first_failing (is_in_range t) i vs
+in_vectors t i [] = refl
+in_vectors t i (v ∷ vs) = ap (λ (o : Option ℕ). if is_in_range t v then o else Some i) (in_vectors t (i + 1) vs)
 
-past_in_all : (t : AttributeType) (i : ℕ) (vs : List VectorAttr) → list_all (is_in_range t) vs ≡ true → first_past_in t i vs ≡ None
-past_in_all t i [] h = refl
-past_in_all t i (v ∷ vs) h =
-    let p = and_parts (is_in_range t v) (list_all (is_in_range t) vs) h in
-    rw p.0 (past_in_all t (i + 1) vs p.1)
+abbrev fits_type : Option AttributeType → VectorAttr → Bool
+fits_type None v = true
+fits_type (Some t) v = is_in_range t v
 
-record PastIn (t : AttributeType) (i : ℕ) (vs : List VectorAttr) (x : ℕ) : Type 0 where
-  n : ℕ
-  v : VectorAttr
-  number : x ≡ i + n
-  is_vector : slice_get vs n ≡ Some v
-  passes : is_in_range t v ≡ false
-  earlier : list_all (is_in_range t) (take n vs) ≡ true
+all_in_range : (kind : Option AttributeType) (vs : List VectorAttr) → are_in_range kind vs ≡ list_all (fits_type kind) vs
+all_in_range None [] = refl
+all_in_range None (v ∷ vs) = all_in_range None vs
+all_in_range (Some t) vs = refl
 
-past_in_some : (t : AttributeType) (i : ℕ) (vs : List VectorAttr) (x : ℕ) → first_past_in t i vs ≡ Some x → PastIn t i vs x
-past_in_some t i [] x h = absurd cc
-past_in_some t i (v ∷ vs) x h =
-    elim (cases_Bool (is_in_range t v)) [
-      | inl within ↦
-          let later = past_in_some t (i + 1) vs x (rw within at h) in
-          record {
-            n = suc later.n;
-            v = later.v;
-            number = omega (arith, later.number);
-            is_vector = later.is_vector;
-            passes = later.passes;
-            earlier = and_from _ _ within later.earlier;
-          }
-      | inr past ↦
-          let e = rw past at h in
-          let here : i ≡ x = cc in
-          record { n = 0; v = v; number = omega arith; is_vector = refl; passes = past; earlier = refl }
-    ]
+none_untyped : (i : ℕ) (vs : List VectorAttr) → None ≡ first_failing (fits_type None) i vs
+none_untyped i [] = refl
+none_untyped i (v ∷ vs) = none_untyped (i + 1) vs
 
-past_in_at : (t : AttributeType) (i : ℕ) (vs : List VectorAttr) (n : ℕ) (v : VectorAttr) → slice_get vs n ≡ Some v → is_in_range t v ≡ false
-    → list_all (is_in_range t) (take n vs) ≡ true → first_past_in t i vs ≡ Some (i + n)
-past_in_at t i [] n v is past earlier = absurd cc
-past_in_at t i (w ∷ vs) zero v is past earlier =
-    let same : w ≡ v = cc in
-    let here : i + 0 ≡ i = omega arith in
-    rw (same, past, here) refl
-past_in_at t i (w ∷ vs) (suc n) v is past earlier =
-    let p = and_parts (is_in_range t w) (list_all (is_in_range t) (take n vs)) earlier in
-    let later : i + 1 + n ≡ i + suc n = omega arith in
-    rw p.0 (past_in_at t (i + 1) vs n v is past p.1 ∙ ap (λ (k : ℕ). Some k) later)
+in_typed : (kind : Option AttributeType) (vs : List VectorAttr) → typed_past kind vs ≡ first_failing (fits_type kind) 0 vs
+in_typed None vs = none_untyped 0 vs
+in_typed (Some t) vs = in_vectors t 0 vs
 
--- ---- a Message
-
-record PastTyped (kind : Option AttributeType) (vs : List VectorAttr) (x : ℕ) : Type 0 where
-  t : AttributeType
-  is_type : kind ≡ Some t
-  past : PastIn t 0 vs x
-
-typed_none : (kind : Option AttributeType) (vs : List VectorAttr) → typed_past kind vs ≡ None → are_in_range kind vs ≡ true
-typed_none None vs h = refl
-typed_none (Some t) vs h = past_in_none t 0 vs h
-
-typed_all : (kind : Option AttributeType) (vs : List VectorAttr) → are_in_range kind vs ≡ true → typed_past kind vs ≡ None
-typed_all None vs h = refl
-typed_all (Some t) vs h = past_in_all t 0 vs h
-
-typed_some : (kind : Option AttributeType) (vs : List VectorAttr) (x : ℕ) → typed_past kind vs ≡ Some x → PastTyped kind vs x
-typed_some None vs x h = absurd cc
-typed_some (Some t) vs x h = record { t = t; is_type = refl; past = past_in_some t 0 vs x h }
+typed : (kind : Option AttributeType) (v : VectorAttr) → fits_type kind v ≡ false → (t : AttributeType) × (kind ≡ Some t) × (is_in_range t v ≡ false)
+typed None v h = absurd cc
+typed (Some t) v h = (t, refl, h)
 
 -- ---- Messages
 
+abbrev looked : Message → List VectorAttr
+looked m = m.vectors
+
+abbrev fits : Message → VectorAttr → Bool
+fits m v = fits_type (type_of m.kind) v
+
+search : IsSearch looked fits message_in_range first_past
+search = record {
+  whole = λ m. all_in_range (type_of m.kind) m.vectors;
+  ends = λ i. refl;
+  later = λ i m ms e. ap (λ (o : Option ℕ). found_in i o (first_past (i + 1) ms)) (in_typed (type_of m.kind) m.vectors ∙ e);
+  found = λ i m ms y e. ap (λ (o : Option ℕ). found_in i o (first_past (i + 1) ms)) (in_typed (type_of m.kind) m.vectors ∙ e);
+}
+
 pub past_none : (i : ℕ) (ms : List Message) → first_past i ms ≡ None → list_all message_in_range ms ≡ true
-past_none i [] h = refl
-past_none i (m ∷ ms) h = go (message_past m) refl (past_none (i + 1) ms) where
-  go : (x : Option ℕ) → message_past m ≡ x → (first_past (i + 1) ms ≡ None → list_all message_in_range ms ≡ true) → list_all message_in_range (m ∷ ms) ≡ true
-  go None e later = and_from _ _ (typed_none (type_of m.kind) m.vectors e) (later (rw e at h))
-  go (Some x) e later = let k = rw e at h in absurd cc
+past_none i ms h = none_fails looked fits message_in_range first_past search i ms h
 
 pub past_all : (i : ℕ) (ms : List Message) → list_all message_in_range ms ≡ true → first_past i ms ≡ None
-past_all i [] h = refl
-past_all i (m ∷ ms) h =
-    let p = and_parts (message_in_range m) (list_all message_in_range ms) h in
-    rw (typed_all (type_of m.kind) m.vectors p.0) (past_all (i + 1) ms p.1)
-
-pub record PastFrom (i : ℕ) (ms : List Message) (x y : ℕ) : Type 0 where
-  pub n : ℕ
-  pub m : Message
-  pub t : AttributeType
-  pub v : VectorAttr
-  pub number : x ≡ i + n
-  pub is_message : slice_get ms n ≡ Some m
-  pub is_type : type_of m.kind ≡ Some t
-  pub is_vector : slice_get m.vectors y ≡ Some v
-  pub passes : is_in_range t v ≡ false
-  pub earlier_messages : list_all message_in_range (take n ms) ≡ true
-  pub earlier_vectors : list_all (is_in_range t) (take y m.vectors) ≡ true
-
-pub past_some : (i : ℕ) (ms : List Message) (x y : ℕ) → first_past i ms ≡ Some (x, y) → PastFrom i ms x y
-past_some i [] x y h = absurd cc
-past_some i (m ∷ ms) x y h = go (message_past m) refl (past_some (i + 1) ms x y) where
-  go : (z : Option ℕ) → message_past m ≡ z → (first_past (i + 1) ms ≡ Some (x, y) → PastFrom (i + 1) ms x y) → PastFrom i (m ∷ ms) x y
-  go None e more =
-      let later = more (rw e at h) in
-      record {
-        n = suc later.n;
-        m = later.m;
-        t = later.t;
-        v = later.v;
-        number = omega (arith, later.number);
-        is_message = later.is_message;
-        is_type = later.is_type;
-        is_vector = later.is_vector;
-        passes = later.passes;
-        earlier_messages = and_from _ _ (typed_none (type_of m.kind) m.vectors e) later.earlier_messages;
-        earlier_vectors = later.earlier_vectors;
-      }
-  go (Some z) e more =
-      let k = rw e at h in
-      let p = some_pair_parts i x z y k in
-      let here = typed_some (type_of m.kind) m.vectors z e in
-      let number : here.past.n ≡ y = omega (arith, here.past.number, p.1) in
-      record {
-        n = 0;
-        m = m;
-        t = here.t;
-        v = here.past.v;
-        number = omega (arith, p.0);
-        is_message = refl;
-        is_type = here.is_type;
-        is_vector = subst (λ (j : ℕ). slice_get m.vectors j ≡ Some here.past.v) number here.past.is_vector;
-        passes = here.past.passes;
-        earlier_messages = refl;
-        earlier_vectors = subst (λ (j : ℕ). list_all (is_in_range here.t) (take j m.vectors) ≡ true) number here.past.earlier;
-      }
+past_all i ms h = all_fit looked fits message_in_range first_past search i ms h
 
 pub past_at : (i : ℕ) (ms : List Message) (n y : ℕ) (m : Message) (t : AttributeType) (v : VectorAttr) → slice_get ms n ≡ Some m → type_of m.kind ≡ Some t → slice_get m.vectors y ≡ Some v
     → is_in_range t v ≡ false → list_all message_in_range (take n ms) ≡ true → list_all (is_in_range t) (take y m.vectors) ≡ true → first_past i ms ≡ Some (i + n, y)
-past_at i [] n y m t v is_message is_type is_vector passes before_m before_v = absurd cc
-past_at i (w ∷ ms) zero y m t v is_message is_type is_vector passes before_m before_v =
-    let same : w ≡ m = cc in
-    let here : i + 0 ≡ i = omega arith in
-    let past : message_past m ≡ Some y = rw is_type (past_in_at t 0 m.vectors y v is_vector passes before_v ∙ ap (λ (k : ℕ). Some k) (omega arith)) in
-    rw (same, past, here) refl
-past_at i (w ∷ ms) (suc n) y m t v is_message is_type is_vector passes before_m before_v =
-    let p = and_parts (message_in_range w) (list_all message_in_range (take n ms)) before_m in
-    let later : i + 1 + n ≡ i + suc n = omega arith in
-    rw (typed_all (type_of w.kind) w.vectors p.0) (
-    past_at (i + 1) ms n y m t v is_message is_type is_vector passes p.1 before_v
-    ∙ ap (λ (k : ℕ). let x : Option (ℕ × ℕ) = Some (k, y) in x) later)
-
--- ---- places
-
-place_stands : (octets : List ℕ) (ps : List ℕ) (vs : List VectorAttr) (y : ℕ) (v : VectorAttr) → StandAt octets ps vs → slice_get vs y ≡ Some v → (p : ℕ) × (slice_get ps y ≡ Some p)
-place_stands octets ps [] y v stand is = absurd cc
-place_stands octets [] (w ∷ vs) y v stand is = absurd stand
-place_stands octets (p ∷ ps) (w ∷ vs) zero v stand is = (p, refl)
-place_stands octets (p ∷ ps) (w ∷ vs) (suc y) v stand is = place_stands octets ps vs y v stand.1 is
-
-pub has_place : (octets : List ℕ) (pss : List (List ℕ)) (ms : List Message) (n y : ℕ) (m : Message) (v : VectorAttr) → AllStandAt octets pss ms → slice_get ms n ≡ Some m
-    → slice_get m.vectors y ≡ Some v
-    → (p : ℕ) × (first_value_place pss n y ≡ Some p)
-has_place octets pss [] n y m v stand is_message is_vector = absurd cc
-has_place octets [] (w ∷ ms) n y m v stand is_message is_vector = absurd stand
-has_place octets (ps ∷ pss) (w ∷ ms) zero y m v stand is_message is_vector =
-    let same : w ≡ m = cc in
-    place_stands octets ps m.vectors y v (subst (λ (x : Message). StandAt octets ps x.vectors) same stand.0) is_vector
-has_place octets (ps ∷ pss) (w ∷ ms) (suc n) y m v stand is_message is_vector = has_place octets pss ms n y m v stand.1 is_message is_vector
+past_at i ms n y m t v is_message is_type is_vector passes before_m before_v =
+    fails_at looked fits message_in_range first_past search i ms n y m v is_message is_vector
+    (ap (λ (o : Option AttributeType). fits_type o v) is_type ∙ passes) before_m
+    (ap (λ (o : Option AttributeType). list_all (fits_type o) (take y m.vectors)) is_type ∙ before_v)
 
 -- what was found is a value that passes the end of its field, at its place
 pub passes_end : (octets : List ℕ) (pdu : Pdu) (x : ℕ × ℕ) → Spells Msrp octets pdu → AllStandAt octets (first_places Msrp octets) pdu.messages → first_past 0 pdu.messages ≡ Some x
     → PassesEnd octets (place_in octets x)
 passes_end octets pdu x spelled stand found =
-    let past = past_some 0 pdu.messages x.0 x.1 found in
+    let past = some_fails looked fits message_in_range first_past search 0 pdu.messages x.0 x.1 found in
+    let kind = typed (type_of past.m.kind) past.v past.passes in
     let number : past.n ≡ x.0 = omega (arith, past.number) in
     let is_message = subst (λ (j : ℕ). slice_get pdu.messages j ≡ Some past.m) number past.is_message in
     let place = has_place octets (first_places Msrp octets) pdu.messages x.0 x.1 past.m past.v stand is_message past.is_vector in
@@ -198,12 +81,12 @@ passes_end octets pdu x spelled stand found =
       vector = x.1;
       m = past.m;
       v = past.v;
-      t = past.t;
+      t = kind.0;
       is_message = is_message;
       is_vector = past.is_vector;
-      is_type = past.is_type;
-      passes = past.passes;
+      is_type = kind.1;
+      passes = kind.2;
       earlier_messages = subst (λ (j : ℕ). list_all message_in_range (take j pdu.messages) ≡ true) number past.earlier_messages;
-      earlier_vectors = past.earlier_vectors;
+      earlier_vectors = ap (λ (o : Option AttributeType). list_all (fits_type o) (take x.1 past.m.vectors)) (sym kind.1) ∙ past.earlier_vectors;
       stands = place.1 ∙ ap (λ (k : ℕ). Some k) value;
     }

@@ -4,7 +4,7 @@ use Rattle.std.specs.List.{list_all, flat_map}
 use Rattle.std.proofs.lemmas.{List.Folds.list_all-map, List.Folds.flat_map-map, Bool.cases_Bool, Bool.and_parts, Bool.and_from, Bool.leb-true, Bool.le-leb}
 use Rattle.mrpdu_codec.specs.declared.{raw.RawVector.RawVector, raw.RawMessage.RawMessage, form.AppForm.TheVariants.Msrp, pdu.VectorAttr.VectorAttr}
 use Rattle.mrpdu_codec.specs.{Raw.attr_in, Raw.attrs_in, Raw.message_in, Shape.vector_fits, Shape.vectors_fit, Shape.has_form, Types.row_of}
-use Rattle.msrp_codec.specs.{fits_in_place, is_in_range_in_place, events_in_place, vector_events, message_events, is_in_range, message_in_range, type_of, type_form, values_fit}
+use Rattle.msrp_codec.specs.{fits_in_place, events_in_place, vector_events, message_events, type_of, type_form, values_fit}
 use Rattle.msrp_codec.specs.declared.attribute_type.AttributeType.{AttributeType}
 use Rattle.msrp_codec.specs.declared.attribute_type.AttributeType.TheVariants.{Advertise, Failed, Listener, Domain}
 use Rattle.msrp_codec.specs.declared.first_value.FirstValue.{FirstValue}
@@ -57,10 +57,6 @@ typed_vectors_fit kind t vs fits is =
 pub typed_in_place : (kind : ℕ) (t : AttributeType) (raws : List RawVector) → vectors_fit (row_of Msrp kind) (attrs_in raws) ≡ true → type_of kind ≡ Some t → list_all (fits_in_place t) raws ≡ true
 typed_in_place kind t raws fits is = sym (list_all-map (vector_fits (type_form t)) attr_in raws) ∙ typed_vectors_fit kind t (attrs_in raws) fits is
 
--- their values are in range where those of the Message are
-pub in_range_in_place : (t : AttributeType) (raws : List RawVector) → list_all (is_in_range t) (attrs_in raws) ≡ true → list_all (is_in_range_in_place t) raws ≡ true
-in_range_in_place t raws h = sym (list_all-map (is_in_range t) attr_in raws) ∙ h
-
 -- their events are those of the Message
 pub events_meant : (t : AttributeType) (raws : List RawVector) → flat_map (vector_events t) (attrs_in raws) ≡ flat_map (events_in_place t) raws
 events_meant t raws = flat_map-map (vector_events t) attr_in raws
@@ -68,9 +64,6 @@ events_meant t raws = flat_map-map (vector_events t) attr_in raws
 -- the same of Messages
 pub forms_in_place : (raws : List RawMessage) → list_all (has_form Msrp) (map message_in raws) ≡ true → list_all (λ m. has_form Msrp (message_in m)) raws ≡ true
 forms_in_place raws h = sym (list_all-map (has_form Msrp) message_in raws) ∙ h
-
-pub ranges_in_place : (raws : List RawMessage) → list_all message_in_range (map message_in raws) ≡ true → list_all (λ m. message_in_range (message_in m)) raws ≡ true
-ranges_in_place raws h = sym (list_all-map message_in_range message_in raws) ∙ h
 
 pub messages_meant : (raws : List RawMessage) → flat_map message_events (map message_in raws) ≡ flat_map (λ m. message_events (message_in m)) raws
 messages_meant raws = flat_map-map message_events message_in raws

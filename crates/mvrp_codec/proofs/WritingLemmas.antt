@@ -1,11 +1,12 @@
 -- What is written reads as what was written, in at most 1,500 octets.
-use Rattle.std.proofs.Common.{◌≡◌, ℕ, suc, ◌+◌, ◌*◌, ◌/◌, ◌%◌, ◌<◌, ◌≤◌, Bool, true, false, leb, ltb, eqb, ◌||◌, inl, inr, List, [], ◌∷◌, ◌++◌, length, map, Result, Ok, refl, sym, ap, ◌∙◌, append_assoc, length-append, arith}
+use Rattle.std.proofs.Common.{◌≡◌, ℕ, suc, ◌+◌, ◌*◌, ◌<◌, ◌≤◌, Bool, true, false, leb, ltb, eqb, ◌||◌, inl, inr, List, [], ◌∷◌, ◌++◌, length, map, Result, Ok, refl, sym, ap, ◌∙◌, append_assoc, length-append, arith}
 use Rattle.std.specs.List.{flat_map, list_any, list_all, AllByRecursion}
 use Rattle.std.proofs.lemmas.{Bool.cases_Bool, Bool.and_from, Bool.eqb-true, Bool.le-leb, Bool.lt-ltb, List.append-nil, List.length-map, List.Sums.sum_by-cons}
 use Rattle.srp_base.proofs.Bools.{or_no}
 use Rattle.srp_base.specs.declared.mrp.MrpEvent.{MrpEvent}
 use Rattle.mrpdu_codec.specs.declared.{form.AppForm.TheVariants.Mvrp, form.TypeForm.TypeForm, pdu.VectorAttr.VectorAttr}
-use Rattle.mrpdu_codec.specs.{Octets.number, Tree.vectors_octets, Shape.vector_fits, Canonical.vectors_for, Canonical.well_formed, Canonical.spelling, Canonical.vector_size, Canonical.vectors_size, Canonical.pdu_size, Reading.reading}
+use Rattle.mrpdu_codec.specs.{Tree.vectors_octets, Shape.vector_fits, Canonical.vectors_for, Canonical.well_formed, Canonical.spelling, Canonical.vector_size, Canonical.vectors_size, Canonical.pdu_size, Reading.reading}
+use Rattle.mrpdu_codec.proofs.RoundTrip.{header_again}
 use Rattle.mvrp_codec.specs.{MvrpPdu, event_at, events_from, vector_events, meaning, read_as, mvrp_reading, join, streaks, streak_vector, streak_vectors, streaks_octets, pdu_around, one_message, pdu_for, mvrp_spelling, IsWritable, AreVids, events_of_streaks}
 use Rattle.mvrp_codec.proofs.MaximalStreaks.{streaks_joined}
 
@@ -18,20 +19,17 @@ IsVid vid = (1 ≤ vid) × (vid ≤ 4094)
 streak_events : List (List (MrpEvent × ℕ)) → List (MrpEvent × ℕ)
 streak_events ss = flat_map vector_events (map (streak_vector false) ss)
 
-number_again : (n : ℕ) → number (n / 256) (n % 256) ≡ n
-number_again n = omega arith
-
 event_of_vid : (x : MrpEvent × ℕ) → IsVid x.1 → event_at x.0 x.1 ≡ x ∷ []
 event_of_vid x h = rw (le-leb 1 x.1 h.0, le-leb x.1 4094 h.1) refl
 
 -- a streak says its first event, and then those of the VIDs from the next on
 first_event : (x : MrpEvent × ℕ) (xs : List (MrpEvent × ℕ)) → IsVid x.1 → vector_events (streak_vector false (x ∷ xs)) ≡ x ∷ events_from (x.1 + 1) (map (λ y. y.0) xs)
 first_event x xs h =
-    ap (λ (n : ℕ). events_from n (map (λ y. y.0) (x ∷ xs))) (number_again x.1)
+    ap (λ (n : ℕ). events_from n (map (λ y. y.0) (x ∷ xs))) (header_again x.1)
     ∙ ap (λ (es : List (MrpEvent × ℕ)). es ++ events_from (x.1 + 1) (map (λ y. y.0) xs)) (event_of_vid x h)
 
 later_events : (y : MrpEvent × ℕ) (ys : List (MrpEvent × ℕ)) → events_from y.1 (map (λ z. z.0) (y ∷ ys)) ≡ vector_events (streak_vector false (y ∷ ys))
-later_events y ys = ap (λ (n : ℕ). events_from n (map (λ z. z.0) (y ∷ ys))) (sym (number_again y.1))
+later_events y ys = ap (λ (n : ℕ). events_from n (map (λ z. z.0) (y ∷ ys))) (sym (header_again y.1))
 
 join_events : (x : MrpEvent × ℕ) (ss : List (List (MrpEvent × ℕ))) → IsVid x.1 → streak_events (join x ss) ≡ x ∷ streak_events ss
 unfolding streak_events

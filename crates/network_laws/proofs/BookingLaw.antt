@@ -4,6 +4,7 @@ use Rattle.std.proofs.Common.{◌≡◌, ℕ, suc, ◌+◌, ◌-◌, ◌<◌, �
 use Rattle.std.specs.Prelude.{slice_get, Option, Some, None, is_some, option_and_then, ◌↔◌, ◌==◌}
 use Rattle.std.specs.{Option.option_map_or, List.list_all}
 use Rattle.std.proofs.lemmas.Bool.{and_parts}
+use Rattle.std.proofs.lemmas.Option.{slice_get_within}
 use Rattle.srp_base.proofs.Lists.{each-get, get-all, within as get-some}
 use Rattle.srp_base.specs.declared.{numbers.EgressPort.EgressPort, numbers.StreamId.StreamId, streams.TalkerReg.TalkerReg}
 use Rattle.stream_importance.specs.declared.entry.Entry.{Entry}
@@ -14,11 +15,12 @@ use Rattle.msrp_codec.specs.declared.pdu.MsrpKey.{MsrpKey}
 use Rattle.msrp_codec.specs.declared.pdu.MsrpKey.TheVariants as keys
 use Rattle.msrp.specs.{PortState.PortState, Part.key_cmp, Part.talker_reg_of, Stream.is_advertised, Stream.talker_at, Stream.wanted_at, Side.Streams, Side.IsKept, Side.IsPort, Side.IsSettled, Side.awaiting_at, Side.seen_by, Side.are_still as streams_are_still}
 use Rattle.attribute_propagation.specs.{Dirty.is_awaiting, Ports.place_of}
+use Rattle.attribute_propagation.proofs.Lists.{get-empty}
 use Rattle.flat_side.specs.Side.{are_still}
 use Rattle.node_core.specs.State.{NodeState, are_empty, booked_at, if_booked, is_still_node, of_port, ports_of}
 use Rattle.world_core.specs.{World.WorldState, World.is_quiet, World.node_at, Kept.IsKeptWorld}
 use Rattle.network_laws.specs.{BookingsMatch, IsBookedAsAdvertised, at_port_of, declares_advertise, is_booked_in, registers_ready, has_booked}
-use Rattle.network_laws.proofs.{Lists.get-empty, Lists.get-within, StreamNode.KeptWants, StreamNode.advertised-booked, StreamNode.booked-advertises, StreamNode.booked-wants, StreamNode.reg-content, StreamNet.entry-booked}
+use Rattle.network_laws.proofs.{StreamNode.KeptWants, StreamNode.advertised-booked, StreamNode.booked-advertises, StreamNode.booked-wants, StreamNode.reg-content, StreamNet.entry-booked}
 
 module _ (kept-wants : KeptWants) (side : Streams) (kept : IsKept side) (at : ℕ) (port : PortState) (stream : StreamId)
     (has : slice_get side.ports at ≡ Some port) where
@@ -40,7 +42,7 @@ module _ (kept-wants : KeptWants) (side : Streams) (kept : IsKept side) (at : �
   pub port-booked : is_awaiting key_cmp (keys.Talker stream) (awaiting_at at side) ≡ false → is_awaiting key_cmp (keys.Listener stream) (awaiting_at at side) ≡ false
       → IsBookedAsAdvertised stream port
   port-booked talker listener =
-      let lt : at < length side.awaiting = omega (arith, kept.sets, get-within side.ports at port has) in
+      let lt : at < length side.awaiting = omega (arith, kept.sets, slice_get_within side.ports at port has) in
       let found = get-some side.awaiting at lt in
       let here : awaiting_at at side ≡ found.0 = rw found.1 refl in
       settled-booked found.0 found.1 (ap (is_awaiting key_cmp (keys.Talker stream)) (sym here) ∙ talker) (ap (is_awaiting key_cmp (keys.Listener stream)) (sym here) ∙ listener)
@@ -59,7 +61,7 @@ module _ (kept-wants : KeptWants) (w : WorldState) (stream : StreamId) (kept : I
   of-node p s port node has =
       let fits = kept.nodes (p.node.0 - 1) s node in
       let side : IsKept s.streams = fits.kept.kept.streams in
-      let lt : place_of p.port < length s.streams.awaiting = omega (arith, side.sets, get-within s.streams.ports (place_of p.port) port has) in
+      let lt : place_of p.port < length s.streams.awaiting = omega (arith, side.sets, slice_get_within s.streams.ports (place_of p.port) port has) in
       let found = get-some s.streams.awaiting (place_of p.port) lt in
       let none : found.0 ≡ [] = get-empty s.streams.awaiting (place_of p.port) found.0 (none-awaits (p.node.0 - 1) s node) found.1 in
       let law : IsBookedAsAdvertised stream port = settled-booked kept-wants s.streams side (place_of p.port) port stream has [] (found.1 ∙ ap Some none) refl refl in

@@ -1,6 +1,6 @@
 -- The ports of a path one by one, and nodes number by number.
-use Rattle.std.proofs.Common.{◌≡◌, ℕ, zero, suc, ◌+◌, ◌-◌, ◌<◌, Bool, true, false, List, [], ◌∷◌, refl, sym, ap, subst, ◌∙◌, arith}
-use Rattle.std.specs.Prelude.{Some, find}
+use Rattle.std.proofs.Common.{◌≡◌, ℕ, zero, suc, ◌+◌, ◌-◌, ◌<◌, Bool, false, List, [], ◌∷◌, refl, sym, ap, subst, ◌∙◌, arith}
+use Rattle.std.specs.Prelude.{find}
 use Rattle.std.specs.List.{AllByRecursion, range_with_len}
 use Rattle.srp_base.specs.declared.numbers.EgressPort.{EgressPort}
 use Rattle.tree_topology.specs.{Graph.Joined, Graph.IsWalk, Topology.Topology, Topology.HasPort, Ports.egress_ports, Ports.IsPortPath, PortLaws.HasPortLaws}
@@ -19,11 +19,6 @@ walk-ports tree laws x (v ∷ walk) y h = (laws.joined_port x v h.0, walk-ports 
 pub path-ports : (tree : Topology) → HasPortLaws tree → (x y : ℕ) (ports : List EgressPort) → IsPortPath tree.links x y ports → AllByRecursion (HasPort tree) ports
 path-ports tree laws x y ports h =
     subst (λ (ps : List EgressPort). AllByRecursion (HasPort tree) ps) (sym h.2) (walk-ports tree laws x h.0 y h.1.0)
-
--- the first number that passes a test is here, or later
-pub find-here : (test : ℕ → Bool) (a n : ℕ) → 0 < n → test a ≡ true → find test (range_with_len a n) ≡ Some a
-find-here test a zero lt h = absurd (omega arith)
-find-here test a (suc n) lt h = rw h refl
 
 pub find-later : (test : ℕ → Bool) (a n : ℕ) → 0 < n → test a ≡ false → find test (range_with_len a n) ≡ find test (range_with_len (a + 1) (n - 1))
 find-later test a zero lt h = absurd (omega arith)

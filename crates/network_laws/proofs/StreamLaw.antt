@@ -3,6 +3,7 @@ use Rattle.std.proofs.Common.{◌≡◌, ◌≢◌, ◌⊎◌, inl, inr, ℕ, ze
 use Rattle.std.specs.Prelude.{slice_get, Option, Some, None, find, option_and_then, ◌↔◌, ◌==◌}
 use Rattle.std.specs.{Option.option_map_or, List.AllByRecursion, List.list_all, List.range_with_len}
 use Rattle.std.proofs.lemmas.{Bool.and_parts, Bool.eqb-true, Bool.Decides.nat_tests}
+use Rattle.std.proofs.lemmas.Option.{slice_get_within}
 use Rattle.srp_base.proofs.{Lists.within as get-some, Arithmetic.is_other as other-port}
 use Rattle.srp_base.specs.declared.{numbers.EgressPort.EgressPort, numbers.StreamId.StreamId, streams.Failure.Failure, streams.Talker.Talker, streams.TalkerReg.TalkerReg}
 use Rattle.srp_base.specs.declared.streams.TalkerReg.TheVariants.{Absent, Advertise, Failed}
@@ -18,7 +19,7 @@ use Rattle.attribute_propagation.specs.Ports.{place_of}
 use Rattle.node_core.specs.State.{NodeState}
 use Rattle.world_core.specs.World.{WorldState, node_at}
 use Rattle.network_laws.specs.{talker_at_place, is_talker_registered, is_talked_at, IsTalkedOnce, HasTalkerBehind, TalkersMatch, talking_node, has_booked, is_path_booked, IsPathBooked, is_ready_heard, hears_ready, is_listened_at, AreReadyOnPath, bandwidth_failure, failure_at, want_at, IsPushedOut, IsRefusedAt, IsOnPath, AreRefusalsShown}
-use Rattle.network_laws.proofs.{Lists.get-within, StreamNode.IsTalkers, StreamNode.port-of-present, StreamNode.is-port, StreamNode.same-port, StreamNode.KeptWants, StreamNode.booked-advertises, StreamNode.advertised-booked, StreamNode.IsOfBandwidth, StreamNode.listens, StreamNet.AreStreamsStill, StreamNet.At, StreamNet.at-port, StreamNet.reg, StreamNet.reg-is, StreamNet.regs, StreamNet.wanted, StreamNet.far-listener, StreamNet.near-talker, StreamNet.test, StreamNet.Talks, StreamNet.registered-behind, StreamNet.Sibling, StreamNet.towards, StreamNet.other-side, StreamNet.behind-registered, StreamNet.booked-is, StreamNet.path-booked, StreamNet.path-last, StreamNet.port-kept, StreamNet.kind-is, StreamNet.Refusing, StreamNet.refused, StreamNet.TalkersAt, StreamNet.at-app, StreamNet.at-link, StreamNet.talkers-at, StreamNet.get-map, StreamNet.is-not}
+use Rattle.network_laws.proofs.{StreamNode.IsTalkers, StreamNode.port-of-present, StreamNode.is-port, StreamNode.same-port, StreamNode.KeptWants, StreamNode.booked-advertises, StreamNode.advertised-booked, StreamNode.IsOfBandwidth, StreamNode.listens, StreamNet.AreStreamsStill, StreamNet.At, StreamNet.at-port, StreamNet.reg, StreamNet.reg-is, StreamNet.regs, StreamNet.wanted, StreamNet.far-listener, StreamNet.near-talker, StreamNet.test, StreamNet.Talks, StreamNet.registered-behind, StreamNet.Sibling, StreamNet.towards, StreamNet.other-side, StreamNet.behind-registered, StreamNet.booked-is, StreamNet.path-booked, StreamNet.path-last, StreamNet.port-kept, StreamNet.kind-is, StreamNet.Refusing, StreamNet.refused, StreamNet.TalkersAt, StreamNet.at-app, StreamNet.at-link, StreamNet.talkers-at, StreamNet.get-map, StreamNet.is-not}
 
 -- a node lies behind a port by its walk exactly where the test says so; the egress ports of the walk are the path
 abbrev pub WalkBehind : WorldState → Type 0
@@ -279,7 +280,7 @@ module _ (w : WorldState) (still : AreStreamsStill w) (stream : StreamId) (kept 
             let q : EgressPort = record { node = record { 0 = l }; port = record { 0 = j + 1 } } in
             let up : l - 1 + 1 ≡ l = omega (arith, node.0) in
             let ports : length n.s.streams.ports ≡ length (neighbours w.tree.links l) = still.ports (l - 1) n.s n.node ∙ ap (λ y. length (neighbours w.tree.links y)) up in
-            let few : j < length (neighbours w.tree.links l) = omega (arith, get-within n.s.streams.ports j at.0 at.1, ports) in
+            let few : j < length (neighbours w.tree.links l) = omega (arith, slice_get_within n.s.streams.ports j at.0 at.1, ports) in
             let hq : HasPort w.tree q = (node, omega arith, omega (arith, few)) in
             let back : j + 1 - 1 ≡ j = omega arith in
             let b : At w still stream kept q = record { s = n.s; node = n.node; port = at.0; has = ap (λ i. slice_get n.s.streams.ports i) back ∙ at.1 } in
@@ -350,7 +351,7 @@ module _ (w : WorldState) (still : AreStreamsStill w) (stream : StreamId) (kept 
             let up : l - 1 + 1 ≡ l = omega (arith, node.0) in
             let ports : length s.streams.ports ≡ length (neighbours w.tree.links l) = still.ports (l - 1) s e ∙ ap (λ y. length (neighbours w.tree.links y)) up in
             let q : EgressPort = record { node = record { 0 = l }; port = record { 0 = 1 } } in
-            let hq : HasPort w.tree q = (node, omega arith, omega (arith, get-within s.streams.ports 0 x g, ports)) in
+            let hq : HasPort w.tree q = (node, omega arith, omega (arith, slice_get_within s.streams.ports 0 x g, ports)) in
             let b : At w still stream kept q = record { s = s; node = e; port = x; has = g } in
             let is : bandwidth_failure (registered_talker stream x.part) ≡ Some f = sym (ap (failure_in stream) e ∙ ap (registered_in stream) g) ∙ h in
             let parts = failure-parts (registered_talker stream x.part) f is in

@@ -5,6 +5,7 @@ use Rattle.std.proofs.Common.{◌≡◌, ◌≢◌, ◌⊎◌, inl, inr, ℕ, ze
 use Rattle.std.specs.Prelude.{slice_get, not, Option, Some, None, is_some, option_map, option_and_then, ◌==◌}
 use Rattle.std.specs.{Option.option_map_or, List.list_all}
 use Rattle.std.proofs.lemmas.Bool.{and_parts}
+use Rattle.std.proofs.lemmas.Option.{slice_get_within}
 use Rattle.srp_base.proofs.{Options.one_some as one, Lists.each-get, Lists.within as get-some, Arithmetic.is_other as other-port}
 use Rattle.srp_base.specs.declared.{numbers.EgressPort.EgressPort, numbers.StreamId.StreamId, streams.Failure.Failure, streams.Talker.Talker, streams.TalkerReg.TalkerReg, streams.ListenerKind.ListenerKind}
 use Rattle.srp_base.specs.declared.streams.TalkerReg.TheVariants.{Absent, Advertise, Failed}
@@ -19,10 +20,11 @@ use Rattle.msrp_listener.specs.declared.port_listener.PortListener.{PortListener
 use Rattle.msrp.specs.{PortState.PortState, Part.key_cmp, Part.registered_talker, Part.registered_listener, Part.talker_reg_of, Part.listener_kind_of, Stream.Registrations, Stream.advertise_of, Stream.talk_of, Stream.is_present, Stream.is_advertised, Stream.is_talker_port, Stream.is_ready, Stream.listener_row, Stream.first_talker, Stream.edge_at, Stream.talker_at, Stream.listener_at, Stream.wanted_at, Stream.want_of_talker, Side.Streams, Side.IsKept, Side.IsPort, Side.IsSettled, Side.has_talk, Side.seen_by}
 use Rattle.msrp_talker.specs.TalkerOut.{talker_in}
 use Rattle.attribute_propagation.specs.Ports.{place_of}
+use Rattle.attribute_propagation.proofs.Lists.{get-empty}
 use Rattle.node_core.specs.State.{NodeState, if_booked, booked_at}
 use Rattle.world_core.specs.World.{WorldState, node_at}
 use Rattle.network_laws.specs.{is_talked_at, IsTalkedOnce, has_booked}
-use Rattle.network_laws.proofs.{Lists.get-within, Lists.get-empty, StreamNode.IsTalkers, StreamNode.first-is, StreamNode.port-of, StreamNode.port-of-present, StreamNode.is-port, StreamNode.same-port, StreamNode.declares, StreamNode.declared-present, StreamNode.present-declared, StreamNode.out-wants, StreamNode.reg-content, StreamNode.kind-content, StreamNode.KeptWants, StreamNode.Wants, StreamNode.booked-wants, StreamNode.advertised-booked, StreamNode.fit_of_reg, StreamNode.IsOfBandwidth, StreamNode.Refuses, StreamNode.failed-at, StreamNode.can_have, StreamNode.forwards}
+use Rattle.network_laws.proofs.StreamNode.{IsTalkers, first-is, port-of, port-of-present, is-port, same-port, declares, declared-present, present-declared, out-wants, reg-content, kind-content, KeptWants, Wants, booked-wants, advertised-booked, fit_of_reg, IsOfBandwidth, Refuses, failed-at, can_have, forwards}
 
 -- what MSRP keeps of a port
 abbrev pub stream_port : EgressPort → WorldState → Option PortState
@@ -95,9 +97,6 @@ module _ (w : WorldState) (still : AreStreamsStill w) (stream : StreamId) (kept-
   laws : HasPortLaws w.tree
   laws = still.laws
 
-  peer : EgressPort → EgressPort
-  peer p = peer_of w.tree.links p
-
   abbrev far : EgressPort → ℕ
   far p = far_node w.tree.links p
 
@@ -148,7 +147,7 @@ module _ (w : WorldState) (still : AreStreamsStill w) (stream : StreamId) (kept-
   settled : (p : EgressPort) (a : At p) → IsSettled (place_of p.port) a.port [] (seen_by a.s.streams)
   settled p a =
       let side = side-kept p a in
-      let lt : place_of p.port < length a.s.streams.awaiting = omega (arith, side.sets, get-within a.s.streams.ports (place_of p.port) a.port a.has) in
+      let lt : place_of p.port < length a.s.streams.awaiting = omega (arith, side.sets, slice_get_within a.s.streams.ports (place_of p.port) a.port a.has) in
       let keys = get-some a.s.streams.awaiting (place_of p.port) lt in
       let none : keys.0 ≡ [] = get-empty a.s.streams.awaiting (place_of p.port) keys.0 (still.none_await (p.node.0 - 1) a.s a.node) keys.1 in
       side.settled (place_of p.port) a.port [] a.has (keys.1 ∙ ap Some none)
@@ -231,7 +230,7 @@ module _ (w : WorldState) (still : AreStreamsStill w) (stream : StreamId) (kept-
   talkers-at p h a (suc j) x t =
       let at = get-map (λ (y : PortState). registered_talker stream y.part) a.s.streams.ports j x t.at in
       let r : EgressPort = record { node = p.node; port = record { 0 = j + 1 } } in
-      let few : j < length (neighbours w.tree.links p.node.0) = omega (arith, get-within a.s.streams.ports j at.0 at.1, ports-are p a.s h a.node) in
+      let few : j < length (neighbours w.tree.links p.node.0) = omega (arith, slice_get_within a.s.streams.ports j at.0 at.1, ports-are p a.s h a.node) in
       let hr : HasPort w.tree r = (h.0, omega arith, omega (arith, few)) in
       let back : j + 1 - 1 ≡ j = omega arith in
       let b = sibling p h a r hr refl in

@@ -2,6 +2,7 @@
 use Rattle.std.proofs.Common.{◌≡◌, ℕ, ◌-◌, true, false, ◌||◌, refl, sym, ap, ◌∙◌, arith}
 use Rattle.std.specs.Prelude.{slice_get, Option, Some, None, option_map, option_and_then}
 use Rattle.std.specs.Option.{option_map_or}
+use Rattle.std.proofs.lemmas.Option.{slice_get_within}
 use Rattle.srp_base.proofs.Lists.{each-get, get-all}
 use Rattle.srp_base.specs.declared.{numbers.EgressPort.EgressPort, numbers.StreamId.StreamId, mrp.App.TheVariants.Msrp}
 use Rattle.tree_topology.specs.{Topology.HasPort, Ports.peer_of, PortLaws.HasPortLaws}
@@ -12,7 +13,7 @@ use Rattle.attribute_propagation.specs.Ports.{place_of}
 use Rattle.node_core.specs.State.{NodeState}
 use Rattle.world_core.specs.{Marks.mark_at, World.WorldState, World.node_at, Duty.streams_said, Duty.stream_place, Duty.stream_part, Kept.IsKeptWorld, Kept.FitsTree}
 use Rattle.network_laws.specs.{IsAtRest, IsTalkedOnce, KeepsStreamLaws}
-use Rattle.network_laws.proofs.{Lists.get-within, AtRest.StillLink, AtRest.still-at, AtRest.sound-at, AtRest.registers-declared, StreamNode.KeptWants, StreamNet.stream_port, StreamNet.AreStreamsStill, StreamLaw.WalkBehind, StreamLaw.WalkPath, StreamLaw.talkers-match, StreamLaw.are-ready-on-path, StreamLaw.are-refusals-shown}
+use Rattle.network_laws.proofs.{AtRest.StillLink, AtRest.still-at, AtRest.sound-at, AtRest.registers-declared, StreamNode.KeptWants, StreamNet.stream_port, StreamNet.AreStreamsStill, StreamLaw.WalkBehind, StreamLaw.WalkPath, StreamLaw.talkers-match, StreamLaw.are-ready-on-path, StreamLaw.are-refusals-shown}
 
 module _ (w : WorldState) (kept : IsKeptWorld w) (rest : IsAtRest w) (laws : HasPortLaws w.tree) (still : StillLink MsrpKey MsrpContent key_cmp) where
   -- the node and the place of what MSRP keeps of a port
@@ -37,7 +38,7 @@ module _ (w : WorldState) (kept : IsKeptWorld w) (rest : IsAtRest w) (laws : Has
 
   part-sound : (p : EgressPort) → HasPort w.tree p → (a : PortState) → Held p a → ((mark_at Msrp p w.marks).assured || a.part.sound) ≡ true
   part-sound p has a h =
-      let port = get-within h.s.streams.ports (place_of p.port) a h.has in
+      let port = slice_get_within h.s.streams.ports (place_of p.port) a h.has in
       let same = (kept.nodes (p.node.0 - 1) h.s h.node).kept.kept.same_ports in
       ap (λ (o : Option PortState). (mark_at Msrp p w.marks).assured || option_map_or (λ (x : PortState). x.part.sound) o false) (sym h.has)
       ∙ (sound-at w rest p has h.s h.node (omega (arith, port, same))).1

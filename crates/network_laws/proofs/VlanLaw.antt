@@ -5,17 +5,20 @@ use Rattle.std.specs.Prelude.{slice_get, Option, Some, ◌↔◌}
 use Rattle.std.specs.{Option.option_map_or, Option.option_and_then, Option.is_some, Ordering.nat_cmp}
 use Rattle.std.proofs.lemmas.Bool.{and_parts}
 use Rattle.std.proofs.lemmas.Bool.{and_from as both}
+use Rattle.std.proofs.lemmas.Option.{slice_get_within}
 use Rattle.srp_base.proofs.{Options.one_some as one, Lists.within as get-some, Lists.get-all, Lists.get-map, Lists.map-get, Bools.one-test}
 use Rattle.srp_base.specs.declared.{numbers.EgressPort.EgressPort, mrp.App.TheVariants.Mvrp}
 use Rattle.tree_topology.specs.declared.{graph.NodeKind.NodeKind, graph.NodeKind.TheVariants.Station, graph.NodeKind.TheVariants.Bridge}
 use Rattle.tree_topology.specs.{Topology.HasNode, Topology.HasPort, Ports.neighbours, Ports.peer_of, Ports.far_node, Ports.LiesBehind, Walk.is_behind, PortLaws.HasPortLaws, PortLaws.IsPropagated, PortLaws.HasBeyond, PortLaws.HasBehind, Refusal.is_station}
 use Rattle.attribute_propagation.specs.{Dirty.is_awaiting, Flat.elsewhere, Ports.place_of}
 use Rattle.mrp_participant.specs.State.{is_still}
+use Rattle.tree_topology.proofs.EgressPorts.{same_numbers}
+use Rattle.attribute_propagation.proofs.{Lists.get-empty, Lists.range-from, Lists.range-at, FlatLemmas.flat-cases, FlatLemmas.flat-own, FlatLemmas.flat-other, FlatLemmas.some_elsewhere, FlatLemmas.elsewhere_some}
 use Rattle.mvrp.specs.{Part.Part, Part.registers, Part.declares, Side.Vlans, Side.has_own, Side.is_flat}
 use Rattle.node_core.specs.State.{NodeState}
 use Rattle.world_core.specs.{Marks.mark_at, World.WorldState, World.node_at, Duty.message_of, Duty.vlan_place, Duty.vlan_part, Kept.IsKeptWorld, Kept.FitsTree}
 use Rattle.network_laws.specs.{is_registered, is_declared_at, is_declared_behind, HasDeclaredBehind, VlansMatch, IsAtRest}
-use Rattle.network_laws.proofs.{AtRest.StillLink, AtRest.IsStillNode, AtRest.still-at, AtRest.sound-at, AtRest.registers-declared, Lists.get-within, Lists.get-empty, Places.is_other, Places.other-at, Places.other-from, Places.flat-cases, Places.flat-own, Places.flat-other, Places.range-from, Places.range-at}
+use Rattle.network_laws.proofs.AtRest.{StillLink, IsStillNode, still-at, sound-at, registers-declared}
 
 -- an application that declares is a station's
 station-own : (vid : ℕ) (kind : NodeKind) (vlans : Vlans) → (kind ≡ Bridge → vlans.own ≡ []) → has_own vid vlans ≡ true → (is_station kind && has_own vid vlans) ≡ true
@@ -60,7 +63,7 @@ module _ (w : WorldState) (kept : IsKeptWorld w) (rest : IsAtRest w) (laws : Has
   part-sound : (p : EgressPort) → HasPort w.tree p → (a : At p) → ((mark_at Mvrp p w.marks).assured || a.part.sound) ≡ true
   part-sound p h a =
       ap (λ (o : Option Part). (mark_at Mvrp p w.marks).assured || option_map_or (λ (part : Part). part.sound) o false) (sym a.has)
-      ∙ (sound-at w rest p h a.s a.node (get-within a.s.vlans.parts (place_of p.port) a.part a.has)).0
+      ∙ (sound-at w rest p h a.s a.node (slice_get_within a.s.vlans.parts (place_of p.port) a.part a.has)).0
 
   -- what a port has registered is what its peer declares
   linked : (p : EgressPort) → HasPort w.tree p → (a : At p) (b : At (peer_of w.tree.links p)) (vid : ℕ) → registers vid a.part ≡ declares vid b.part
@@ -74,7 +77,7 @@ module _ (w : WorldState) (kept : IsKeptWorld w) (rest : IsAtRest w) (laws : Has
   settled : (p : EgressPort) (a : At p) (vid : ℕ) → declares vid a.part ≡ is_flat a.s.vlans (place_of p.port) vid
   settled p a vid =
       let side = (fits p a).kept.kept.vlans in
-      let lt : place_of p.port < length a.s.vlans.awaiting = omega (arith, side.ports, get-within a.s.vlans.parts (place_of p.port) a.part a.has) in
+      let lt : place_of p.port < length a.s.vlans.awaiting = omega (arith, side.ports, slice_get_within a.s.vlans.parts (place_of p.port) a.part a.has) in
       let vids = get-some a.s.vlans.awaiting (place_of p.port) lt in
       let none : vids.0 ≡ [] = get-empty a.s.vlans.awaiting (place_of p.port) vids.0 (still-node p a).no_vids vids.1 in
       side.flat (place_of p.port) a.part vids.0 vid a.has vids.1 (ap (λ (ks : List ℕ). is_awaiting nat_cmp vid ks) none)
@@ -102,7 +105,7 @@ module _ (w : WorldState) (kept : IsKeptWorld w) (rest : IsAtRest w) (laws : Has
       let hq = laws.peer_port p h in
       let r : EgressPort = record { node = q.node; port = record { 0 = j + 1 } } in
       let back : j + 1 - 1 ≡ j = omega arith in
-      let few : j < length (neighbours w.tree.links q.node.0) = omega (arith, get-within b.s.vlans.parts j part has, ports-are q b.s hq b.node) in
+      let few : j < length (neighbours w.tree.links q.node.0) = omega (arith, slice_get_within b.s.vlans.parts j part has, ports-are q b.s hq b.node) in
       let c : At r = record { s = b.s; node = b.node; part = part; has = ap (λ n. slice_get b.s.vlans.parts n) back ∙ has } in
       (r, (hq.0, omega arith, omega (arith, few)), refl, (λ e. ne (omega (arith, ap (λ (x : EgressPort). x.port.0) e, hq.1))), registered-is r c vid ∙ t)
 
@@ -113,16 +116,13 @@ module _ (w : WorldState) (kept : IsKeptWorld w) (rest : IsAtRest w) (laws : Has
       q : EgressPort
       q = peer_of w.tree.links p
 
-      by : (has_own vid b.s.vlans ≡ true) ⊎ (is_other (place_of (peer_of w.tree.links p).port) (map (registers vid) b.s.vlans.parts) ≡ true)
+      by : (has_own vid b.s.vlans ≡ true) ⊎ (elsewhere (place_of (peer_of w.tree.links p).port) (map (registers vid) b.s.vlans.parts) ≡ true)
           → (is_declared_at w vid (far_node w.tree.links p) ≡ true) ⊎ HasBeyond w.tree (is_registered w vid) p
       by (inl o) = inl (declared-is p b vid ∙ station-own vid b.s.kind b.s.vlans (λ k. ((kept.nodes ((peer_of w.tree.links p).node.0 - 1) b.s b.node).kept.idle k).own) o)
       by (inr r) =
-          let j = other-at (place_of (peer_of w.tree.links p).port) (map (registers vid) b.s.vlans.parts) r in
+          let j = some_elsewhere (place_of (peer_of w.tree.links p).port) (map (registers vid) b.s.vlans.parts) r in
           let x = get-map (registers vid) b.s.vlans.parts j.0 j.2 in
           inr (to-beyond p h b vid j.0 x.0 j.1 x.1 x.2)
-
-  same-port : (q r : EgressPort) → q.node.0 ≡ r.node.0 → q.port.0 ≡ r.port.0 → q ≡ r
-  same-port q r e f = ap (λ (n : ℕ). record { node = record { 0 = n }; port = q.port }) e ∙ ap (λ (n : ℕ). record { node = r.node; port = record { 0 = n } }) f
 
   backward : (p : EgressPort) → HasPort w.tree p → (b : At (peer_of w.tree.links p)) (vid : ℕ)
       → (is_declared_at w vid (far_node w.tree.links p) ≡ true) ⊎ HasBeyond w.tree (is_registered w vid) p → is_registered w vid p ≡ true
@@ -138,10 +138,10 @@ module _ (w : WorldState) (kept : IsKeptWorld w) (rest : IsAtRest w) (laws : Has
       let same : c.s ≡ b.s = one (node_at q.node w) c.s b.s (ap (λ (n : ℕ). slice_get w.nodes (n - 1)) (sym r.2) ∙ c.node) b.node in
       let has : slice_get b.s.vlans.parts (place_of r.0.port) ≡ Some c.part = ap (λ (s : NodeState). slice_get s.vlans.parts (place_of r.0.port)) (sym same) ∙ c.has in
       let t : registers vid c.part ≡ true = sym (registered-is r.0 c vid) ∙ r.4 in
-      let other : place_of r.0.port ≢ place_of q.port = λ e. r.3 (same-port r.0 q r.2 (omega (arith, e, r.1.1, hq.1))) in
+      let other : place_of r.0.port ≢ place_of q.port = λ e. r.3 (same_numbers r.0 q r.2 (omega (arith, e, r.1.1, hq.1))) in
       far-rule p h b vid
       ∙ flat-other (place_of q.port) (has_own vid b.s.vlans) (map (registers vid) b.s.vlans.parts)
-      (other-from (place_of q.port) (map (registers vid) b.s.vlans.parts) (place_of r.0.port) other (map-get (registers vid) b.s.vlans.parts (place_of r.0.port) c.part has t))
+      (elsewhere_some (place_of q.port) (map (registers vid) b.s.vlans.parts) (place_of r.0.port) other (map-get (registers vid) b.s.vlans.parts (place_of r.0.port) c.part has t))
 
   propagated : (vid : ℕ) → IsPropagated w.tree (is_registered w vid) (is_declared_at w vid)
   propagated vid p h =

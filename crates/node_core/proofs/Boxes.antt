@@ -3,7 +3,7 @@ use Rattle.std.proofs.Common.{◌≡◌, sym, ℕ, zero, suc, ◌<◌, List, [],
 use Rattle.std.specs.Prelude.{slice_set, slice_index_or}
 use Rattle.std.specs.List.{AllByRecursion, insert}
 use Rattle.mrp_participant.specs.Link.{with_repeat}
-use Rattle.node_core.specs.{Wire, without, with_wire, box_at}
+use Rattle.node_core.specs.{Wire, with_wire, box_at}
 
 pub set_same : (boxes : List (List Wire)) (i : ℕ) → slice_set boxes i (box_at i boxes) ≡ boxes
 set_same [] i = refl
@@ -14,15 +14,6 @@ pub each_box : (P : Wire → Type 0) (boxes : List (List Wire)) (i : ℕ) → Al
 each_box P [] i hs = tt
 each_box P (b ∷ boxes) zero hs = hs.0
 each_box P (b ∷ boxes) (suc i) hs = each_box P boxes i hs.1
-
-pub each_without : (P : Wire → Type 0) (i : ℕ) (xs : List Wire) → AllByRecursion P xs → AllByRecursion P (without i xs)
-each_without P i [] h = nil i
-  where
-    nil : (j : ℕ) → AllByRecursion P (without j [])
-    nil zero = tt
-    nil (suc j) = tt
-each_without P zero (x ∷ xs) h = h.1
-each_without P (suc i) (x ∷ xs) h = (h.0, each_without P i xs h.1)
 
 pub each_repeated : (P : Wire → Type 0) (i : ℕ) (xs : List Wire) → AllByRecursion P xs → AllByRecursion P (with_repeat i xs)
 each_repeated P i [] h = nil i

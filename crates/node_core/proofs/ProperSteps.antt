@@ -18,8 +18,8 @@ use Rattle.attribute_propagation.specs.Ports.{place_of}
 use Rattle.msrp.specs.{PortState.PortState, Part.Part as SrpPart, Part.HasOwnContents, Part.key_cmp, Part.pdu_sent as srp_pdu_sent, Side.Streams, Side.IsPort, Side.IsWritten as IsSrpWritten, Side.new_port, Side.new_streams, Side.received_streams, Side.due_streams, Side.left_streams, Side.leave_all_streams, Side.periodic_streams, Side.spoilt_streams, Side.settled_streams, Side.sent_streams, Side.requested_streams, Side.clocked_streams, Proper.HasRanges, Proper.IsProper as IsProperSrp, Proper.IsRequestInRange, Proper.Setup, Proper.setup_of, Proper.setups_of}
 use Rattle.msrp.specs.declared.{asking.SrpRequest.SrpRequest, domain.DomainSet.DomainSet}
 use Rattle.msrp.specs.declared.asking.SrpRequest.TheVariants as asks
-use Rattle.node_core.specs.{Wire, Declare, Withdraw, Talk, Hush, Listen, Unlisten, Vlan, Srp, PortStep, Work, LeaveNow, LeaveAllNow, PeriodicNow, Due, Settle, Send, NodeEvent, Request, Port, Clock, IsShort, AreShort, without, with_wire, NodeState, box_at, new_node, CanStep, node_step, port_step, after_work, worked_app, worked_mvrp, worked_msrp, sent_octets, said_mvrp, said_msrp, with_said, after_app, with_outbox, with_inbox, with_carried, lost_at, repeated_at, forged_at, spoilt_at, IsProperNode, IsProperWire, AreProperWires, IsInRange}
-use Rattle.node_core.proofs.{Stays.StaysVlans, Stays.StaysStreams, Stays.vlans_received, Stays.vlans_due, Stays.vlans_left, Stays.vlans_leave_all, Stays.vlans_periodic, Stays.vlans_sent, Stays.vlans_spoilt, Stays.vlans_settled, Stays.count_requested, Stays.streams_received, Stays.streams_due, Stays.streams_left, Stays.streams_leave_all, Stays.streams_periodic, Stays.streams_sent, Stays.streams_spoilt, Stays.streams_settled, Stays.moment_requested, Boxes.each_box, Boxes.each_without, Boxes.each_repeated, Boxes.each_with, Boxes.each_new}
+use Rattle.node_core.specs.{Wire, Declare, Withdraw, Talk, Hush, Listen, Unlisten, Vlan, Srp, PortStep, Work, LeaveNow, LeaveAllNow, PeriodicNow, Due, Settle, Send, NodeEvent, Request, Port, Clock, IsShort, AreShort, with_wire, NodeState, box_at, new_node, CanStep, node_step, port_step, after_work, worked_app, worked_mvrp, worked_msrp, sent_octets, said_mvrp, said_msrp, with_said, after_app, with_outbox, with_inbox, repeated_at, forged_at, spoilt_at, IsProperNode, IsProperWire, AreProperWires, IsInRange}
+use Rattle.node_core.proofs.{Stays.StaysVlans, Stays.StaysStreams, Stays.vlans_received, Stays.vlans_due, Stays.vlans_left, Stays.vlans_leave_all, Stays.vlans_periodic, Stays.vlans_sent, Stays.vlans_spoilt, Stays.vlans_settled, Stays.count_requested, Stays.streams_received, Stays.streams_due, Stays.streams_left, Stays.streams_leave_all, Stays.streams_periodic, Stays.streams_sent, Stays.streams_spoilt, Stays.streams_settled, Stays.moment_requested, Boxes.each_box, Boxes.each_repeated, Boxes.each_with, Boxes.each_new}
 
 -- the laws of MVRP at a node, as its public laws say them
 pub record SideLaws : Type 0 where
@@ -375,23 +375,8 @@ module _ (laws : SideLaws) (streams : StreamLaws) where
 
 -- ---- the PDUs that wait
 
--- a box has become another of which the same holds
-pub proper-carried : (at : ℕ) (wires : List Wire) (s : NodeState) → AreShort wires → AreProperWires wires → IsProperNode s → IsProperNode (with_carried at wires s)
-proper-carried at wires s short proper h =
-    let box = box_at at s.inboxes in
-    with-inbox s at (box ++ wires)
-    (each_append IsShort box wires (each_box IsShort s.inboxes at h.kept.short_in) short)
-    (each_append IsProperWire box wires (each_box IsProperWire s.inboxes at h.readable_in) proper) h
-
 pub proper-given : (at : ℕ) (wires : List Wire) (s : NodeState) → AreShort wires → AreProperWires wires → IsProperNode s → IsProperNode (with_outbox at wires s)
 proper-given at wires s short proper h = with-outbox s at wires short proper h
-
-pub proper-lost : (at index : ℕ) (s : NodeState) → IsProperNode s → IsProperNode (lost_at at index s)
-proper-lost at index s h =
-    let box = box_at at s.inboxes in
-    with-inbox s at (without index box)
-    (each_without IsShort index box (each_box IsShort s.inboxes at h.kept.short_in))
-    (each_without IsProperWire index box (each_box IsProperWire s.inboxes at h.readable_in)) h
 
 pub proper-repeated : (at index : ℕ) (s : NodeState) → IsProperNode s → IsProperNode (repeated_at at index s)
 proper-repeated at index s h =

@@ -3,7 +3,7 @@ use Rattle.std.proofs.Common.{◌≡◌, ◌≢◌, ℕ, ◌<◌, ◌≤◌, Boo
 use Rattle.std.specs.Prelude.{nat_lt}
 use Rattle.std.specs.{List.AllByRecursion, List.list_any}
 use Rattle.std.proofs.lemmas.{Bool.cases_Bool, Bool.cases_order, Bool.cases_lt, Bool.eqb-true, Bool.eqb-false, Bool.lt-ltb, Bool.or_parts, List.Sums.sum_by-cons}
-use Rattle.srp_base.proofs.Arithmetic.{less_is_below}
+use Rattle.srp_base.proofs.{Arithmetic.less_is_below, Lists.each_filter}
 use Rattle.srp_base.specs.declared.{numbers.Cs.Cs, numbers.StreamId.StreamId}
 use Rattle.stream_importance.specs.declared.{entry.Entry.Entry, entry.Want.Want, slope.Caps.Caps}
 use Rattle.stream_importance.specs.{Importance.moment_or}
@@ -90,13 +90,9 @@ same_above : (moment now : ℕ) (x : Entry) (set : List Entry) → moment ≤ no
 same_above moment now x set up h =
     ap (sum_by entry_slope) (filter_agree (comes_after now x) (comes_after moment x) set (all_with set h h (λ y k _. same_preceded moment now x y up k)))
 
-all_filtered : (P : Entry → Type 0) (p : Entry → Bool) (xs : List Entry) → AllByRecursion P xs → AllByRecursion P (filter p xs)
-all_filtered P p [] h = tt
-all_filtered P p (x ∷ xs) h = grind (arith, all_filtered P p xs h.1)
-
 same_fit : (moment now : ℕ) (caps : Caps) (set : List Entry) (x : Entry) → moment ≤ now
     → AllByRecursion (λ y. IsBefore moment y.since) set → fit_in now caps set x ≡ fit_in moment caps set x
-same_fit moment now caps set x up h = grind (arith, same_above, all_filtered)
+same_fit moment now caps set x up h = grind (arith, same_above, each_filter)
 
 pub fits_by_clock : (book : Book) (now : ℕ) (want : Want) → IsKept book → book.moment ≤ now
     → (nat_lt book.moment now && has_new_booking book) ≡ false → fit_for now book want ≡ fit_for book.moment book want

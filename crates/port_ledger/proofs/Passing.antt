@@ -7,7 +7,7 @@ use Rattle.srp_base.specs.declared.numbers.Cs.{Cs}
 use Rattle.stream_importance.specs.declared.{entry.Entry.Entry, slope.Caps.Caps}
 use Rattle.stream_importance.specs.Importance.{class_number, moment_or, rank_number, IsImportanceOrder}
 use Rattle.port_ledger.specs.{stream_of, comes_after, entry_slope, with_moments, since_after, decided_entries, IsAscending, AreOfDifferentStreams, importance_order, has_room, place, sum_with, entries_passed, with_pass, with_since, IsOnlyIn, has_loss, loses}
-use Rattle.port_ledger.proofs.{Running.Holds, Running.IsRanked, Running.Runs, Running.all_with, Running.holds_from_runs, Ranking.IsPermutation-ranked, Ranking.ranked_is_ranked, Ranking.holds_permuted, Ranking.all_permuted, Ranking.different_permuted, LettingIn.is_among, LettingIn.streams_let_in, LettingIn.taken_runs, Marking.different_from_ascending, Rounds.decided_by_choice}
+use Rattle.port_ledger.proofs.{Running.Holds, Running.IsRanked, Running.Runs, Running.all_with, Running.holds_from_runs, Ranking.IsPermutation-ranked, Ranking.ranked_is_ranked, Ranking.holds_permuted, Ranking.all_permuted, Ranking.different_permuted, LettingIn.is_among, LettingIn.streams_let_in, LettingIn.taken_runs, Marking.different_from_ascending, Rounds.decided_by_choice, Settling.ranked_own}
 
 -- an entry with the moment that a choice gives it
 abbrev pub settled_at : ℕ → (Entry → Bool) → Entry → Entry
@@ -269,15 +269,6 @@ pass_skip now caps start first before sum i order es d l full unbooked at =
 
 -- ---- where no booking is lost, a pass moves nobody
 
--- who is in order stays where he is
-pub in_order : (now : ℕ) (xs : List Entry) → IsRanked now xs → importance_order now xs ≡ xs
-in_order now [] r = refl
-in_order now (x ∷ xs) r = ap (place now x) (in_order now xs r.1) ∙ first xs r.0
-  where
-    first : (ys : List Entry) → AllByRecursion (λ y. comes_after now y x ≡ true) ys → place now x ys ≡ x ∷ ys
-    first [] h = refl
-    first (y ∷ ys) h = ap (λ v. cond v (x ∷ y ∷ ys) (y ∷ place now x ys)) h.0
-
 -- which of two entries comes after the other goes by their moments, and by nothing else that a pass sets
 abbrev after_at : ℕ → ℕ → Entry → Entry → Bool
 after_at m n y x =
@@ -311,4 +302,4 @@ module _ (now : ℕ) (caps : Caps) where
 
   pub stays_ranked : (sum : ℕ) (xs : List Entry) → IsRanked now xs → has_loss caps sum xs ≡ false
       → entries_passed now caps sum xs ≡ importance_order now (entries_passed now caps sum xs)
-  stays_ranked sum xs r none = sym (in_order now (entries_passed now caps sum xs) (ranked_passed sum xs r none))
+  stays_ranked sum xs r none = sym (ranked_own now (entries_passed now caps sum xs) (ranked_passed sum xs r none))

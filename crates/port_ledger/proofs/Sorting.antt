@@ -2,20 +2,16 @@
 use Rattle.std.proofs.Common.{◌≡◌, ◌≢◌, ◌<◌, Bool, true, false, not, ◌&&◌, ◌||◌, cond, List, [], ◌∷◌, ◌++◌, filter, refl, sym, ◌∙◌, ap, subst}
 use Rattle.std.specs.{List.AllByRecursion, List.list_any, List.Sorted.IsPermutation}
 use Rattle.std.proofs.lemmas.{Bool.or_from, Bool.or_left, List.Sorted.list_any-IsPermutation}
+use Rattle.srp_base.proofs.Lists.{each_filter}
 use Rattle.stream_importance.specs.declared.entry.Entry.{Entry}
 use Rattle.port_ledger.specs.{stream_of, is_booked, AreOfDifferentStreams, IsAscending, same_entry, AreBehind}
 use Rattle.port_ledger.proofs.{Comparing.in_own, Comparing.only_in, Finding.differ, Marking.different_from_ascending, Moving.filter_permuted, Ranking.different_permuted, Rounds.filter_agree, Running.all_with}
-
-all_filtered : (P : Entry → Type 0) (p : Entry → Bool) (xs : List Entry) → AllByRecursion P xs → AllByRecursion P (filter p xs)
-all_filtered P p [] h = tt
-all_filtered P p (x ∷ xs) h =
-    elim (p x) as (λ v. AllByRecursion P (cond v (x ∷ filter p xs) (filter p xs))) [ true ↦ (h.0, all_filtered P p xs h.1) | false ↦ all_filtered P p xs h.1 ]
 
 pub ascending-filter : (p : Entry → Bool) (xs : List Entry) → IsAscending xs → IsAscending (filter p xs)
 ascending-filter p [] up = tt
 ascending-filter p (x ∷ xs) up =
     elim (p x) as (λ v. IsAscending (cond v (x ∷ filter p xs) (filter p xs))) [
-      | true ↦ (all_filtered (λ y. stream_of x < stream_of y) p xs up.0, ascending-filter p xs up.1)
+      | true ↦ (each_filter (λ y. stream_of x < stream_of y) p xs up.0, ascending-filter p xs up.1)
       | false ↦ ascending-filter p xs up.1
     ]
 

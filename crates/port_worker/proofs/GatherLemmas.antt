@@ -11,18 +11,11 @@ use Rattle.node_core.specs.declared.{types.NodeStep.NodeStep, types.PortStep.Por
 use Rattle.node_core.specs.{Holding.NodeHolding, Holding.states_in, State.NodeState, State.ports_of, State.job_list}
 use Rattle.bridge_book.specs.declared.notice.Notice.{Notice}
 use Rattle.world_core.specs.declared.{events.WorldEvent.WorldEvent, events.WorldReply.WorldReply, journal.NodeSteps.NodeSteps}
-use Rattle.world_core.specs.{Apart.events_of, Apart.replies_of, Apart.HavePorts, Apart.node_after, Apart.after_own, Kept.IsKeptWorld, Marks.MarksState, OneByOne.steps_before, Ticks.step_events, Ticks.step_replies, Ticks.steps_at_port, Ticks.steps_of, Ticks.jobs_of, Ticks.AscendByNode, World.WorldState, World.node_at, World.world_step, World.world_after, World.replies_to}
+use Rattle.world_core.specs.{Apart.events_of, Apart.replies_of, Apart.HavePorts, Apart.node_after, Apart.after_own, Kept.IsKeptWorld, Marks.MarksState, OneByOne.steps_before, Ticks.step_events, Ticks.step_replies, Ticks.steps_at_port, Ticks.steps_of, Ticks.jobs_of, Ticks.AscendByNode, World.WorldState, World.node_at, World.world_after, World.replies_to}
+use Rattle.world_core.proofs.{Timelines.after_both, OwnSteps.replies_append}
 use Rattle.port_worker.specs.{Task, IsWorked, marks_by, CanMarkAll, AreFew, AreNumbered, AreWorked, steps_made, marks_made, CanFollow, nodes_of, StepLaws, AreSteps}
 use Rattle.port_worker.specs.declared.node.Worked.{Worked}
 use Rattle.port_worker.proofs.{Lists.get_middle, MarkLemmas.CanGoOn, MarkLemmas.can_all, MarkLemmas.marks_of_all}
-
-pub after_append : (es fs : List WorldEvent) (w : WorldState) → world_after (es ++ fs) w ≡ world_after fs (world_after es w)
-after_append [] fs w = refl
-after_append (e ∷ es) fs w = after_append es fs (world_step e w).0
-
-replies_append : (es fs : List WorldEvent) (w : WorldState) → replies_to (es ++ fs) w ≡ replies_to es w ++ replies_to fs (world_after es w)
-replies_append [] fs w = refl
-replies_append (e ∷ es) fs w = ap (λ (rs : List WorldReply). (world_step e w).1 ∷ rs) (replies_append es fs (world_step e w).0)
 
 set_middle : {X : Type 0} (xs ys : List X) (x y : X) → slice_set (xs ++ x ∷ ys) (length xs) y ≡ xs ++ y ∷ ys
 set_middle [] ys x y = refl
@@ -207,7 +200,7 @@ module _ (laws : StepLaws) where
             kept = subst IsKeptWorld same_after later.kept;
             after =
                 ap (λ (es : List WorldEvent). world_after es u) events
-                ∙ (after_append (events_of n made) (step_events (steps_made rest)) u
+                ∙ (after_both (events_of n made) (step_events (steps_made rest)) u
                 ∙ (ap (λ (w : WorldState). world_after (step_events (steps_made rest)) w) own_after ∙ (later.after ∙ same_after)));
             replies =
                 before_replies n made (steps_made rest)

@@ -14,12 +14,6 @@ use Rattle.port_worker.specs.declared.node.Worked.{Worked}
 
 -- ---- groups
 
-pub joined_push : {X : Type 0} (groups next : List (List X)) (group : List X) → next ≡ groups ++ group ∷ [] → joined next ++ [] ≡ joined groups ++ group
-joined_push {X = X} groups next group push =
-    append-nil (joined next)
-    ∙ (ap (λ (gs : List (List X)). joined gs) push
-    ∙ (flat_map-append (λ (xs : List X). xs) groups (group ∷ []) ∙ ap (λ (xs : List X). joined groups ++ xs) (append-nil group)))
-
 pub grouped_more : {X : Type 0} (groups next : List (List X)) (group ended pushed yielded : List X) (x : X) → joined groups ++ group ≡ yielded → joined next ++ ended ≡ joined groups ++ group
     → pushed ≡ ended ++ x ∷ [] → joined next ++ pushed ≡ yielded ++ x ∷ []
 grouped_more groups next group ended pushed yielded x so_far same push =
@@ -105,13 +99,6 @@ steps_more (w ∷ all) worked =
 pub marks_more : (all : List Worked) (worked : Worked) (m : MarksState) → marks_made (all ++ worked ∷ []) m ≡ marks_by worked.number worked.steps worked.notices (marks_made all m)
 marks_more [] worked m = refl
 marks_more (w ∷ all) worked m = marks_more all worked (marks_by w.number w.steps w.notices m)
-
-pub none_before : (n : NodeNo) (made : List NodeStep) (so_far : List NodeSteps) → made ≡ [] → so_far ≡ so_far ++ steps_before n made []
-none_before n made so_far none = sym (append-nil so_far) ∙ ap (λ (ss : List NodeStep). so_far ++ steps_before n ss []) (sym none)
-
-pub some_before : (n : NodeNo) (made : List NodeStep) → (made ≡ [] → ⊥) → steps_before n made [] ≡ record { node = n; steps = made } ∷ []
-some_before n [] some = absurd (some refl)
-some_before n (st ∷ made) some = refl
 
 -- ---- the marks follow one step more
 

@@ -1,21 +1,21 @@
 -- The marks follow what the steps of a node did to the PDUs on its links, as events make them.
 use Rattle.std.proofs.Common.{◌≡◌, ℕ, zero, suc, ◌+◌, ◌-◌, ◌<◌, ◌≤◌, Bool, true, false, ◌&&◌, ◌||◌, if◌then◌else◌, List, [], ◌∷◌, ◌++◌, length, length-append, refl, sym, ap, subst, ◌∙◌, arith}
 use Rattle.std.specs.Prelude.{slice_get, slice_set, Option, Some, None, ◌^◌}
-use Rattle.std.specs.Option.{option_map_or, option_map, option_and_then}
-use Rattle.srp_base.proofs.{Lists.get_set, Options.one_some, Lists.within as get_within}
+use Rattle.std.specs.Option.{option_map_or, option_and_then}
+use Rattle.srp_base.proofs.Lists.{get_set, within as get_within}
 use Rattle.srp_base.specs.declared.{numbers.NodeNo.NodeNo, numbers.EgressPort.EgressPort, mrp.App.App, mrp.App.TheVariants.Mvrp, mrp.App.TheVariants.Msrp}
 use Rattle.tree_topology.specs.{Topology.Topology, Topology.HasPort, Ports.peer_of, Ports.neighbours, PortLaws.HasPortLaws}
-use Rattle.attribute_propagation.specs.Ports.{IsLinkPort, place_of}
-use Rattle.msrp.specs.PortState.{PortState}
+use Rattle.attribute_propagation.specs.Ports.{place_of}
 use Rattle.node_core.specs.declared.{types.Wire.Wire, types.NodeStep.NodeStep, types.PortStep.PortStep, types.StepReply.StepReply}
 use Rattle.node_core.specs.declared.types.PortStep.TheVariants.{Work, LeaveNow, LeaveAllNow, PeriodicNow, Due, Settle, Send}
 use Rattle.node_core.specs.declared.types.StepReply.TheVariants.{Nothing, Discarded, Received, Fired, Settled, Silent, Sent, Taken}
-use Rattle.node_core.specs.{Leaving.has_leave_all, Leaving.is_leave_all_at, State.NodeState, State.ports_of, State.box_at}
+use Rattle.node_core.specs.{Leaving.has_leave_all, Leaving.is_leave_all_at, State.NodeState, State.box_at}
 use Rattle.bridge_book.specs.declared.notice.Notice.{Notice}
 use Rattle.bridge_book.specs.declared.notice.Notice.TheVariants.{Quiet, Took, Said}
 use Rattle.bridge_book.specs.Steps.{notice_of, notice_of_first, notice_of_saying}
 use Rattle.world_core.specs.declared.{events.WorldEvent.WorldEvent, events.WorldEvent.TheVariants.Port, events.WorldReply.TheVariants.Step, marks.EndMark.EndMark, marks.EndMarks.EndMarks}
-use Rattle.world_core.specs.{Apart.events_of, Apart.HavePorts, Apart.stepped_node, Apart.HaveOwnReplies, Apart.marks_of_step, Apart.marks_of_steps, Apart.after_own, Duty.vlan_place, Duty.stream_place, Kept.IsKeptWorld, Marks.MarksState, Marks.BothMarks, Marks.of_app, Marks.with_app, Marks.no_mark, Marks.mark_at, Marks.row_with, Marks.with_mark, Marks.with_two, Marks.both_at, Marks.both_took, Marks.both_sent, Marks.with_fewer, Marks.is_same_app, Marks.count_of, World.WorldState, World.node_at, World.inbox, World.outbox, World.marks_taking, World.marks_sending, World.world_step, World.world_after}
+use Rattle.world_core.specs.{Apart.events_of, Apart.HavePorts, Apart.stepped_node, Apart.HaveOwnReplies, Apart.marks_of_step, Apart.marks_of_steps, Apart.after_own, Kept.IsKeptWorld, Marks.MarksState, Marks.BothMarks, Marks.of_app, Marks.with_app, Marks.no_mark, Marks.mark_at, Marks.row_with, Marks.with_mark, Marks.with_two, Marks.both_at, Marks.both_took, Marks.both_sent, Marks.with_fewer, Marks.is_same_app, Marks.count_of, World.WorldState, World.node_at, World.inbox, World.outbox, World.marks_taking, World.marks_sending, World.world_step, World.world_after}
+use Rattle.world_core.proofs.{Marked.count_length, Marked.counted_from, Counts.app_same, Counts.count_append}
 use Rattle.port_worker.specs.{StepLaws, notices_of, mark_by, CanMark, marks_by, CanMarkAll, AreFew}
 
 -- ---- the marks follow
@@ -113,11 +113,6 @@ few_step p (Said app l) m b here there few =
     let far = few app (peer_of m.tree.links p) there in
     few_two app p (both_sent l (both_at app p m)) m (b + 1) (omega (arith, near)) (omega (arith, far)) (fewer b (b + 1) m (omega arith) few)
 
-same_tree : (p : EgressPort) (notice : Notice) (m : MarksState) → (mark_by p notice m).tree ≡ m.tree
-same_tree p Quiet m = refl
-same_tree p (Took app l) m = refl
-same_tree p (Said app l) m = refl
-
 -- ---- what the marks count
 
 -- the node of a port
@@ -146,60 +141,11 @@ place w kept p has =
       within_streams = omega (arith, some, few, ports, own, same);
     }
 
--- a port of the tree is a link port of its node
-pub port_link : (w : WorldState) → IsKeptWorld w → (p : EgressPort) → HasPort w.tree p → (s : NodeState) → node_at p.node w ≡ Some s → IsLinkPort p.port (ports_of s)
-port_link w kept p has s at =
-    let here = place w kept p has in
-    let some = has.1 in
-    let lt = here.within in
-    subst (λ (x : NodeState). IsLinkPort p.port (ports_of x)) (one_some (node_at p.node w) here.node s here.at at) (record { some = some; within = omega (arith, some, lt) })
-
-counted : (w : WorldState) → IsKeptWorld w → HasPortLaws w.tree → (app : App) (p : EgressPort) → HasPort w.tree p
-    → (mark_at app p w.marks).flying ≡ count_of app (inbox (peer_of w.tree.links p) w ++ outbox p w)
-counted w kept laws Mvrp p has =
-    let q = peer_of w.tree.links p in
-    let here = place w kept p has in
-    let there = place w kept q (laws.peer_port p has) in
-    let near = get_within here.node.vlans.parts (place_of p.port) here.within in
-    let far = get_within there.node.vlans.parts (place_of q.port) there.within in
-    (kept.duties p has near.0 far.0
-    (ap (λ (o : Option NodeState). option_and_then (λ s. vlan_place (place_of p.port) s) o) here.at ∙ near.1)
-    (ap (λ (o : Option NodeState). option_and_then (λ s. vlan_place (place_of q.port) s) o) there.at ∙ far.1)).near_flying
-counted w kept laws Msrp p has =
-    let q = peer_of w.tree.links p in
-    let here = place w kept p has in
-    let there = place w kept q (laws.peer_port p has) in
-    let near = get_within here.node.streams.ports (place_of p.port) here.within_streams in
-    let far = get_within there.node.streams.ports (place_of q.port) there.within_streams in
-    (kept.streams p has near.0.part far.0.part
-    (ap (λ (o : Option NodeState). option_and_then (λ s. stream_place (place_of p.port) s) o) here.at ∙ ap (option_map (λ (x : PortState). x.part)) near.1)
-    (ap (λ (o : Option NodeState). option_and_then (λ s. stream_place (place_of q.port) s) o) there.at ∙ ap (option_map (λ (x : PortState). x.part)) far.1)).near_flying
-
-count_append : (app : App) (xs ys : List Wire) → count_of app (xs ++ ys) ≡ count_of app xs + count_of app ys
-count_append app [] ys = omega arith
-count_append app (x ∷ xs) ys =
-    let rest = count_append app xs ys in
-    let one : ℕ = if is_same_app app x.app then 1 else 0 in
-    let sum : (a b c d : ℕ) → b ≡ c + d → a + b ≡ a + c + d = λ a b c d e. omega (arith, e) in
-    sum one (count_of app (xs ++ ys)) (count_of app xs) (count_of app ys) rest
-
-count_length : (app : App) (ws : List Wire) → count_of app ws ≤ length ws
-count_length app [] = omega arith
-count_length app (w ∷ ws) = by (is_same_app app w.app) (count_length app ws)
-  where
-    by : (b : Bool) → count_of app ws ≤ length ws → (if b then 1 else 0) + count_of app ws ≤ suc (length ws)
-    by true h = omega (arith, h)
-    by false h = omega (arith, h)
-
-same_app : (a : App) → is_same_app a a ≡ true
-same_app Mvrp = refl
-same_app Msrp = refl
-
 count_first : (ws : List Wire) (wire : Wire) → slice_get ws 0 ≡ Some wire → 1 ≤ count_of wire.app ws
 count_first [] wire get = cc
 count_first (w ∷ ws) wire get =
     let own : w ≡ wire = cc in
-    let yes : is_same_app wire.app w.app ≡ true = ap (λ (x : Wire). is_same_app wire.app x.app) own ∙ same_app wire.app in
+    let yes : is_same_app wire.app w.app ≡ true = ap (λ (x : Wire). is_same_app wire.app x.app) own ∙ app_same wire.app in
     subst (λ (b : Bool). 1 ≤ (if b then 1 else 0) + count_of wire.app ws) (sym yes) (omega arith)
 
 -- a PDU that waits is on its way from the peer
@@ -207,7 +153,7 @@ waits_counted : (w : WorldState) → IsKeptWorld w → HasPortLaws w.tree → (p
     → 1 ≤ (mark_at wire.app (peer_of w.tree.links p) w.marks).flying
 waits_counted w kept laws p has wire get =
     let q = peer_of w.tree.links p in
-    let all = counted w kept laws wire.app q (laws.peer_port p has)
+    let all = counted_from w kept laws wire.app q (laws.peer_port p has)
     ∙ (ap (λ (r : EgressPort). count_of wire.app (inbox r w ++ outbox q w)) (laws.peer_twice p has) ∙ count_append wire.app (inbox p w) (outbox q w)) in
     let some = count_first (inbox p w) wire get in
     omega (arith, all, some)
@@ -216,7 +162,7 @@ waits_counted w kept laws p has wire get =
 pub few_counted : (w : WorldState) → IsKeptWorld w → HasPortLaws w.tree → (app : App) (p : EgressPort) → HasPort w.tree p
     → length (inbox (peer_of w.tree.links p) w) < 2 ^ 64 → length (outbox p w) < 2 ^ 64 → (mark_at app p w.marks).flying < 2 ^ 65
 few_counted w kept laws app p has ins outs =
-    let all = counted w kept laws app p has in
+    let all = counted_from w kept laws app p has in
     let less = count_length app (inbox (peer_of w.tree.links p) w ++ outbox p w) in
     let parts = length-append (inbox (peer_of w.tree.links p) w) (outbox p w) in
     omega (arith, all, less, parts, ins, outs)

@@ -1,37 +1,13 @@
 -- One tick from its parts: what its script, its steps, its carrying and its clock have made is a legal tick.
-use Rattle.std.proofs.Common.{◌≡◌, ℕ, suc, ◌<◌, false, List, [], ◌∷◌, ◌++◌, map, sym, ap, subst, ◌∙◌, arith}
+use Rattle.std.proofs.Common.{◌≡◌, ℕ, suc, ◌<◌, List, [], ◌∷◌, ◌++◌, map, sym, ap, subst, ◌∙◌, arith}
 use Rattle.std.specs.List.{AllByRecursion}
-use Rattle.srp_base.proofs.Lists.{each_append}
-use Rattle.srp_base.specs.declared.numbers.NodeNo.{NodeNo}
 use Rattle.tree_topology.specs.Topology.{Topology, HasPort, link_ports}
 use Rattle.topology_file.specs.{Plan.Plan, Scenario.KeepsRules}
-use Rattle.node_core.specs.declared.types.NodeStep.{NodeStep}
 use Rattle.world_core.specs.declared.{events.WorldEvent.WorldEvent, events.WorldReply.WorldReply, journal.NodeSteps.NodeSteps, journal.Tick.Tick}
-use Rattle.world_core.specs.declared.events.WorldEvent.TheVariants.{Port, Carry, Clock}
-use Rattle.world_core.specs.{World.WorldState, World.CanHappen, World.world_step, World.world_after, World.replies_to, Ticks.script_at, Ticks.after_script, Ticks.after_steps, Ticks.step_events, Ticks.tick_events, Ticks.IsLegalTick, During.IsDuring, During.IsAllowed, Carrying.NothingWaits, Carrying.has_send, Cursor.IsCursor, History.HistoryState, History.HasPortsOf, History.acts_noted}
+use Rattle.world_core.specs.declared.events.WorldEvent.TheVariants.{Carry, Clock}
+use Rattle.world_core.specs.{World.WorldState, World.CanHappen, World.world_step, World.world_after, World.replies_to, Ticks.script_at, Ticks.after_script, Ticks.after_steps, Ticks.step_events, Ticks.tick_events, Ticks.IsLegalTick, During.IsDuring, During.IsAllowed, Carrying.NothingWaits, Cursor.IsCursor, History.HistoryState, History.HasPortsOf, History.acts_noted}
+use Rattle.world_core.proofs.{TickParts.steps_allowed, Timelines.after_both}
 use Rattle.port_worker.specs.{DuringLaws, AreSteps, IsTickMade}
-use Rattle.port_worker.proofs.GatherLemmas.{after_append}
-
--- nothing is carried where the steps sent nothing
-pub nothing_carried : ((plan : Plan) (t : ℕ) (w : WorldState) (tick : Tick) → IsDuring plan.tree t w → NothingWaits w → has_send tick.steps ≡ false
-    → world_after (map Carry (link_ports plan.tree)) (after_steps plan t tick w) ≡ after_steps plan t tick w)
-    → (plan : Plan) (t : ℕ) (w : WorldState) → IsDuring plan.tree t w → NothingWaits w → (v : WorldState) (tick : Tick) → v ≡ after_steps plan t tick w → v.tree ≡ plan.tree
-    → has_send tick.steps ≡ false
-    → world_after (map Carry (link_ports v.tree)) v ≡ v
-nothing_carried law plan t w during waits v tick is tree isnt =
-    ap (λ (r : Topology). world_after (map Carry (link_ports r)) v) tree
-    ∙ (ap (λ (u : WorldState). world_after (map Carry (link_ports plan.tree)) u) is ∙ (law plan t w tick during waits isnt ∙ sym is))
-
-made_allowed : (tree : Topology) (n : NodeNo) (made : List NodeStep) → AllByRecursion (λ st. HasPort tree (record { node = n; port = st.port })) made
-    → AllByRecursion (IsAllowed tree) (map (λ st. Port n st.port st.step) made)
-made_allowed tree n [] known = tt
-made_allowed tree n (st ∷ made) known = (known.0, made_allowed tree n made known.1)
-
-steps_allowed : (tree : Topology) (nodes : List NodeSteps) → AllByRecursion (λ ns. AllByRecursion (λ st. HasPort tree (record { node = ns.node; port = st.port })) ns.steps) nodes
-    → AllByRecursion (IsAllowed tree) (step_events nodes)
-steps_allowed tree [] known = tt
-steps_allowed tree (ns ∷ nodes) known =
-    each_append (IsAllowed tree) (map (λ st. Port ns.node st.port st.step) ns.steps) (step_events nodes) (made_allowed tree ns.node ns.steps known.0) (steps_allowed tree nodes known.1)
 
 module _ (laws : DuringLaws) (plan : Plan) (rules : KeepsRules plan) (t : ℕ) (within : t < plan.ticks) (w : WorldState) (during : IsDuring plan.tree t w) (w1 w2 w3 : WorldState)
     (steps : List NodeSteps)
@@ -69,12 +45,12 @@ module _ (laws : DuringLaws) (plan : Plan) (rules : KeepsRules plan) (t : ℕ) (
         let scripted : List WorldEvent = map (λ (e : ℕ × WorldEvent). e.1) (script_at plan t) in
         let stepped : List WorldEvent = step_events tick.steps in
         let carries : List WorldEvent = map Carry (link_ports plan.tree) in
-        let here : w2 ≡ world_after (scripted ++ stepped) w = steps_reach tick steps_are ∙ sym (after_append scripted stepped w) in
+        let here : w2 ≡ world_after (scripted ++ stepped) w = steps_reach tick steps_are ∙ sym (after_both scripted stepped w) in
         let third : w3 ≡ world_after carries w2 = carried ∙ ap (λ (tree : Topology). world_after (map Carry (link_ports tree)) w2) stepped_stays.tree_is in
         let last : w4 ≡ world_after (carries ++ (Clock ∷ [])) w2 =
-        clock ∙ (ap (λ (u : WorldState). (world_step Clock u).0) third ∙ sym (after_append carries (Clock ∷ []) w2))
+        clock ∙ (ap (λ (u : WorldState). (world_step Clock u).0) third ∙ sym (after_both carries (Clock ∷ []) w2))
         in
-        last ∙ (ap (λ (u : WorldState). world_after (carries ++ (Clock ∷ [])) u) here ∙ sym (after_append (scripted ++ stepped) (carries ++ (Clock ∷ [])) w))
+        last ∙ (ap (λ (u : WorldState). world_after (carries ++ (Clock ∷ [])) u) here ∙ sym (after_both (scripted ++ stepped) (carries ++ (Clock ∷ [])) w))
 
     -- the tick is legal
     pub legal_tick : IsLegalTick plan t w tick

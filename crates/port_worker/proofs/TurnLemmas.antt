@@ -22,7 +22,7 @@ asked_more n steps i step before after lt here so_far more =
     ∙ (sym (map-append f (take i steps) (get_or steps i step ∷ []))
     ∙ (ap (map f) (sym (take-suc steps i step lt)) ∙ ap (λ (k : ℕ). map f (take k steps)) next))))
 
-first_count : (lock : Lock Shared) (n : ℕ) → length {A = PortPass} (first_passes lock n) ≡ n
+pub first_count : (lock : Lock Shared) (n : ℕ) → length {A = PortPass} (first_passes lock n) ≡ n
 first_count lock zero = refl
 first_count lock (suc n) =
     let one : n + 1 ≡ suc n = omega arith in
@@ -53,9 +53,6 @@ first_at lock (suc n) k pass e =
           number = sym (ap (λ (p : PortPass). p.number) h.1) ∙ ap (λ (i : ℕ). i + 1) (sym at);
           new = sym (ap (λ (p : PortPass). p.seen) h.1);
         }
-
-pub first_many : (lock : Lock Shared) (n : ℕ) → length {A = PortPass} (first_passes lock n) ≡ n
-first_many lock n = first_count lock n
 
 -- one pass more that has done its jobs
 pub done_more : (hub : Hub) (jobs : List (List PortStep)) (passes next : List PortPass) (pass : PortPass) → AreDone hub jobs passes → pass.number ≡ length passes + 1

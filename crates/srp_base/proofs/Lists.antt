@@ -24,11 +24,11 @@ Each-map P Q f (x ∷ xs) h = (f x h.0, Each-map P Q f xs h.1)
 
 pub each_filter : {X : Type 0} (P : X → Type 0) (test : X → Bool) (xs : List X) → AllByRecursion P xs → AllByRecursion P (filter test xs)
 each_filter P test [] all = tt
-each_filter P test (x ∷ xs) all = by (test x) (each_filter P test xs all.1)
-  where
-    by : (b : Bool) → AllByRecursion P (filter test xs) → AllByRecursion P (if b then x ∷ filter test xs else filter test xs)
-    by true rest = (all.0, rest)
-    by false rest = rest
+each_filter P test (x ∷ xs) all = grind (arith, each_filter P test xs all.1)
+
+pub filter-along : {X : Type 0} (p q : X → Bool) → ((x : X) → p x ≡ q x) → (xs : List X) → filter p xs ≡ filter q xs
+filter-along p q each [] = refl
+filter-along {X} p q each (x ∷ xs) = grind (arith, filter-along p q each xs)
 
 pub each_append : {X : Type 0} (P : X → Type 0) (xs ys : List X) → AllByRecursion P xs → AllByRecursion P ys → AllByRecursion P (xs ++ ys)
 each_append P [] ys p q = q

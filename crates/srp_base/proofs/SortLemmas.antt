@@ -4,6 +4,7 @@ use Rattle.std.proofs.Common.{◌≡◌, ◌≢◌, ℕ, suc, ◌<◌, ◌≤◌
 use Rattle.std.specs.Prelude.{filter, nat_lt, ◌==◌, ◌&&◌, not}
 use Rattle.std.specs.{List.AllByRecursion, List.Sorted.IsNonDecreasingBy, List.Sorted.IsStableByKey, List.Sorted.ties, Ordering.nat_cmp, Ordering.is_lt, declared.cmp.Ordering.Ordering, declared.cmp.Ordering.TheVariants.Less, declared.cmp.Ordering.TheVariants.Equal, declared.cmp.Ordering.TheVariants.Greater}
 use Rattle.std.proofs.lemmas.Bool.{cond-true, cond-false, cases_Bool, cases_order, cond_both, eq-eqb, ne_eqb, eqb-true, eqb-false, lt-ltb, le-ltb}
+use Rattle.srp_base.proofs.Lists.{filter-along}
 
 -- ---- what ties by a number has the same number
 
@@ -24,11 +25,6 @@ tied a b =
       | inr (inl lt) ↦ ap first (less-is a b lt) ∙ sym (ne_eqb b a (λ e. omega (arith, lt, e)))
       | inr (inr gt) ↦ ap first (less-not a b (omega (arith, gt))) ∙ ap second (less-is b a gt) ∙ sym (ne_eqb b a (λ e. omega (arith, gt, e)))
     ]
-
-filter-along : {X : Type 0} (p q : X → Bool) → ((x : X) → p x ≡ q x) → (xs : List X) → filter p xs ≡ filter q xs
-filter-along p q each [] = refl
-filter-along {X} p q each (x ∷ xs) =
-    ap (λ (b : Bool). cond b (x ∷ filter p xs) (filter p xs)) (each x) ∙ ap (λ (t : List X). cond (q x) (x ∷ t) t) (filter-along p q each xs)
 
 module _ {X : Type 0} (key : X → ℕ) where
   -- the elements of a number

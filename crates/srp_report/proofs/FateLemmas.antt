@@ -1,11 +1,10 @@
 -- The fates of a port's copies, one more at a time, and the lines of those that depart.
-use Rattle.std.proofs.Common.{◌≡◌, ℕ, ◌+◌, ◌<◌, Bool, cond, List, [], ◌∷◌, ◌++◌, length, get_or, take, refl, sym, ◌∙◌, ap, append_assoc, append-nil, arith}
-use Rattle.std.specs.Prelude.{codes, filter, flat_map}
-use Rattle.std.specs.Fmt.{decimal}
+use Rattle.std.proofs.Common.{◌≡◌, ℕ, ◌+◌, ◌<◌, Bool, cond, List, [], ◌∷◌, ◌++◌, length, get_or, take, refl, sym, ◌∙◌, ap, arith}
+use Rattle.std.specs.Prelude.{filter}
 use Rattle.std.proofs.lemmas.{Bool.cond_both, List.length-append, List.take_more, List.Elements.filter-append, List.Elements.filter_map-append}
 use Rattle.frame_flow.specs.declared.result.Fate.{Fate}
 use Rattle.frame_flow.specs.declared.result.Fate.TheVariants.{Unbooked, NoVlan, Departed, Left}
-use Rattle.srp_report.specs.{FateCounts, SentFrame, is_departed, is_unbooked_fate, is_novlan, is_left, fates_count, sent_frame, sent_frames, depart_line, fate_counts, one_more, line_start, line_from}
+use Rattle.srp_report.specs.{FateCounts, SentFrame, is_departed, is_unbooked_fate, is_novlan, is_left, fates_count, sent_frame, sent_frames, fate_counts, one_more}
 
 -- ---- counts
 
@@ -61,18 +60,3 @@ sent-more fates i d e before after below item one two =
     two ∙ ap (λ (t : List SentFrame). t ++ sent_frames (e ∷ [])) one
     ∙ ap (λ (x : ℕ × Fate). sent_frames (take i fates) ++ sent_frames (x ∷ [])) item
     ∙ sym (ap (λ (t : List (ℕ × Fate)). sent_frames t) (take_more fates i d below) ∙ filter_map-append to (take i fates) (get_or fates i d ∷ []))
-
--- ---- lines
-
-line-is : (port : List ℕ) (d : SentFrame) → line_from (line_start port) d ≡ depart_line port d
-line-is port d =
-    let rest = decimal d.frame ++ (codes " start " ++ (decimal d.start ++ (codes " end " ++ (decimal d.end ++ (codes "\n" ++ []))))) in
-    append_assoc (codes "depart ") (port ++ (codes " frame " ++ [])) rest
-    ∙ ap (λ (t : List ℕ). codes "depart " ++ t) (append_assoc port (codes " frame " ++ []) rest)
-    ∙ ap (λ (t : List ℕ). codes "depart " ++ (port ++ (t ++ rest))) (append-nil (codes " frame "))
-
-pub lines-are : (port : List ℕ) (sent : List SentFrame) → flat_map (line_from (line_start port)) sent ≡ flat_map (depart_line port) sent
-lines-are port [] = refl
-lines-are port (d ∷ sent) =
-    ap (λ (t : List ℕ). t ++ flat_map (line_from (line_start port)) sent) (line-is port d)
-    ∙ ap (λ (t : List ℕ). depart_line port d ++ t) (lines-are port sent)

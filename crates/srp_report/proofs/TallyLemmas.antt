@@ -32,10 +32,6 @@ other-place {X = X} xs i j f ne = by (slice_get xs i)
     by None = refl
     by (Some x) = get-other xs i j (f x) ne
 
-twice : {X : Type 0} (f g : X → X) (o : Option X) → option_map f (option_map g o) ≡ option_map (λ x. f (g x)) o
-twice f g None = refl
-twice f g (Some x) = refl
-
 -- ---- the answers of a port are counted in its place
 
 -- one list of answers after another

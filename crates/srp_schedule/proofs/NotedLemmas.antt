@@ -6,7 +6,8 @@ use Rattle.tree_topology.specs.Topology.{Topology, HasPort}
 use Rattle.topology_file.specs.Plan.{Plan}
 use Rattle.world_core.specs.declared.{events.WorldEvent.WorldEvent, journal.NodeSteps.NodeSteps, journal.Tick.Tick}
 use Rattle.world_core.specs.{World.WorldState, World.world_after, Start.world_of, Ticks.script_at, Ticks.step_events, Ticks.after_script, Ticks.after_steps, Ticks.closing_events, Ticks.tick_events, Ticks.IsLegalTick, During.IsDuring, Carrying.NothingWaits, Timeline.force_at, Timeline.with_notes, Timeline.AreChanges, Timeline.Says, Timeline.SaysFrom, Timeline.world_after_ticks, Timeline.IsTimelineOf, History.has_acted, History.acts_noted}
-use Rattle.srp_schedule.proofs.{StepLemmas.after_append, TickLemmas.IsRunTo, TickLemmas.no_tick}
+use Rattle.world_core.proofs.Timelines.{after_both}
+use Rattle.srp_schedule.proofs.TickLemmas.{IsRunTo, no_tick}
 
 -- what this rests on, as the public laws say it
 pub record TimelineLaws : Type 0 where
@@ -55,7 +56,7 @@ module _ (laws : TimelineLaws) (plan : Plan) (t : ℕ) (ticks : List Tick) (w v 
   v_closes =
       let script : List WorldEvent = map (λ (e : ℕ × WorldEvent). e.1) (script_at plan t) in
       let steps : List WorldEvent = step_events tick.steps in
-      made ∙ after_append (script ++ steps) (closing_events plan.tree) w ∙ ap (λ (x : WorldState). world_after (closing_events plan.tree) x) (after_append script steps w)
+      made ∙ after_both (script ++ steps) (closing_events plan.tree) w ∙ ap (λ (x : WorldState). world_after (closing_events plan.tree) x) (after_both script steps w)
 
   says_later : (cs : List PortChange) → SaysFrom t cs u → SaysFrom (t + 1) cs v
   says_later cs says p has k le =

@@ -12,7 +12,7 @@ use Rattle.node_core.specs.{Links.IsKeptNode, State.NodeState, State.is_at_rest,
 use Rattle.topology_file.specs.Plan.{Plan}
 use Rattle.world_core.specs.declared.{events.WorldEvent.WorldEvent, events.WorldEvent.TheVariants.Clock, events.WorldReply.WorldReply}
 use Rattle.world_core.specs.{Kept.IsKeptWorld, World.WorldState, World.node_at, World.world_after, World.world_step, Ticks.after_script, Ticks.script_at}
-use Rattle.srp_schedule.specs.{IsNodeMade, events_of, Unknown, Awake, UpTo, AreRests, IsRestAt, IsRestOf, SaysNothing}
+use Rattle.srp_schedule.specs.{IsNodeMade, Unknown, Awake, UpTo, AreRests, IsRestAt, IsRestOf, SaysNothing}
 use Rattle.srp_schedule.specs.declared.rest.Rest.{Rest}
 use Rattle.srp_schedule.proofs.{OrderLemmas.idle_order, StepLemmas.steps_other}
 
@@ -44,12 +44,6 @@ all_alike w rest n says count =
 -- one that is known to have nothing to do makes no step
 pub rest_made : (n : NodeNo) (w : WorldState) (s : NodeState) → node_at n w ≡ Some s → (is_busy_node s || is_sending_time s.clock) ≡ false → IsNodeMade n w w []
 rest_made n w s is idle = record { order = idle_order n w s is idle; known = tt; replies = refl; after = refl; tree = refl }
-
--- where it has made no step it is as it was
-pub still_rests : (n : NodeNo) (w v : WorldState) (made : List NodeStep) (rest : Rest) → IsNodeMade n w v made → made ≡ [] → IsRestAt n w rest → IsRestAt n v rest
-still_rests n w v made rest m none is =
-    let same : v ≡ w = m.after ∙ ap (λ (steps : List NodeStep). world_after (events_of n steps) w) none in
-    subst (λ (u : WorldState). IsRestAt n u rest) (sym same) is
 
 -- what is known of a node in its turn, read from the list
 rest_at : (w : WorldState) (rests : List Rest) (x : ℕ) (rest : Rest) → AreRests w rests → slice_get rests x ≡ Some rest → IsRestAt (record { 0 = x + 1 }) w rest

@@ -10,9 +10,10 @@ use Rattle.tree_topology.specs.{Topology.Topology, Topology.HasNode, Topology.Ha
 use Rattle.node_core.specs.declared.types.NodeEvent.TheVariants as node_events
 use Rattle.node_core.specs.declared.{types.NodeStep.NodeStep, types.PortStep.PortStep}
 use Rattle.node_core.specs.{State.NodeState, State.ports_of, State.job_list, Step.node_step}
-use Rattle.world_core.specs.declared.{events.WorldEvent.WorldEvent, events.WorldEvent.TheVariants.Port, events.WorldReply.WorldReply, events.WorldReply.TheVariants.Step, events.WorldReply.TheVariants.Missed, journal.NodeSteps.NodeSteps}
+use Rattle.world_core.specs.declared.{events.WorldEvent.WorldEvent, events.WorldEvent.TheVariants.Port, events.WorldReply.TheVariants.Step, events.WorldReply.TheVariants.Missed, journal.NodeSteps.NodeSteps}
 use Rattle.world_core.specs.{Kept.IsKeptWorld, World.WorldState, World.Happened, World.node_at, World.after_step, World.world_step, World.world_after, World.replies_to, Ticks.step_events, Ticks.step_replies, Ticks.steps_at_port, Ticks.steps_of, Ticks.jobs_of, Ticks.canonical_order, Ticks.AscendByNode}
-use Rattle.srp_schedule.specs.{AreSteps, IsNodeMade, IsStepReply, events_of, replies_of, with_steps}
+use Rattle.world_core.proofs.{Timelines.after_both, OwnSteps.replies_append}
+use Rattle.srp_schedule.specs.{AreSteps, IsNodeMade, events_of, replies_of, with_steps}
 use Rattle.srp_schedule.proofs.OrderLemmas.{at_port, canonical_is, order_of_port, order_ports}
 
 other_number : (x y : ℕ) → (x == y) ≡ false → x ≢ y
@@ -20,16 +21,6 @@ other_number x y h = λ e. grind (arith, nat_tests, h, e)
 
 below : (p n x : ℕ) → (p == n) ≡ false → n ≡ x + 1 → p ≤ x + 1 → p ≤ x
 below p n x h e le = let ne = other_number p n h in omega (arith, e, le, ne)
-
--- ---- lists of events
-
-pub after_append : (es fs : List WorldEvent) (w : WorldState) → world_after (es ++ fs) w ≡ world_after fs (world_after es w)
-after_append [] fs w = refl
-after_append (e ∷ es) fs w = after_append es fs (world_step e w).0
-
-pub replies_append : (es fs : List WorldEvent) (w : WorldState) → replies_to (es ++ fs) w ≡ replies_to es w ++ replies_to fs (world_after es w)
-replies_append [] fs w = refl
-replies_append (e ∷ es) fs w = ap (λ rs. (world_step e w).1 ∷ rs) (replies_append es fs (world_step e w).0)
 
 -- ---- a node of a network
 
@@ -39,14 +30,6 @@ node_there w kept n has =
     let last = has.1 in
     let many = kept.many in
     within w.nodes (n.0 - 1) (omega (arith, first, last, many))
-
--- a step answers as a node
-pub answers_as_node : (n : NodeNo) (port : PortNo) (step : PortStep) (w : WorldState) (s : NodeState) (r : WorldReply) → node_at n w ≡ Some s
-    → (v : WorldState) → world_step (Port n port step) w ≡ (v, r) → IsStepReply r
-answers_as_node n port step w s r is v e =
-    let made = ap (λ o. (option_map_or (λ x. after_step n (node_step (node_events.Port port step) x) w) o (w, Missed)).1) is in
-    let answered : (world_step (Port n port step) w).1 ≡ r = ap (λ (h : Happened). h.1) e in
-    subst IsStepReply (sym made ∙ answered) tt
 
 -- and changes no other node
 step_other : (n : NodeNo) (port : PortNo) (step : PortStep) (w : WorldState) (m : ℕ) → n.0 - 1 ≢ m → slice_get (world_step (Port n port step) w).0.nodes m ≡ slice_get w.nodes m
@@ -69,9 +52,6 @@ pub record IsMade (n : NodeNo) (jobs : List (PortNo × PortStep)) (i : ℕ) (sta
   pub replies : replies_of made ≡ replies_to (events_of n made) start
   pub after : w ≡ world_after (events_of n made) start
   pub tree : w.tree ≡ start.tree
-
-pub none_made : (n : NodeNo) (jobs : List (PortNo × PortStep)) (w : WorldState) → IsMade n jobs 0 w w []
-none_made n jobs w = record { order = refl; known = tt; replies = refl; after = refl; tree = refl }
 
 at_place : {X : Type 0} (P : X → Type 0) (xs : List X) (i : ℕ) (d : X) → i < length xs → AllByRecursion P xs → P (get_or xs i d)
 at_place P [] i d lt h = absurd (omega (arith, lt))
@@ -110,19 +90,9 @@ one_made n jobs i start w v made st lt here has step tree m =
       after =
           ap (λ (h : Happened). h.0) (sym step)
           ∙ (ap (λ x. (world_step event x).0) m.after
-          ∙ (sym (after_append (events_of n made) (event ∷ []) start) ∙ ap (λ es. world_after es start) (sym events)));
+          ∙ (sym (after_both (events_of n made) (event ∷ []) start) ∙ ap (λ es. world_after es start) (sym events)));
       tree = tree ∙ m.tree;
     }
-
-take_all : {X : Type 0} (xs : List X) (i : ℕ) → length xs ≤ i → take i xs ≡ xs
-take_all [] zero le = refl
-take_all [] (suc i) le = refl
-take_all (x ∷ xs) zero le = absurd (omega (arith, le))
-take_all (x ∷ xs) (suc i) le = ap (λ r. x ∷ r) (take_all xs i (omega (arith, le)))
-
-pub all_made : (n : NodeNo) (jobs : List (PortNo × PortStep)) (i : ℕ) (start w : WorldState) (made : List NodeStep) → length jobs ≤ i → IsMade n jobs i start w made
-    → map (λ st. (st.port, st.step)) made ≡ jobs
-all_made n jobs i start w made le m = m.order ∙ take_all jobs i le
 
 -- ---- the nodes, one after the other
 
@@ -132,15 +102,6 @@ pub record IsSteppedTo (x : ℕ) (start w : WorldState) (made : List NodeSteps) 
   pub after : w ≡ world_after (step_events made) start
   pub others : (m : ℕ) → x ≤ m → slice_get w.nodes m ≡ slice_get start.nodes m
   pub tree : w.tree ≡ start.tree
-
-pub none_stepped : (w : WorldState) → IsSteppedTo 0 w w []
-none_stepped w =
-    record {
-      steps = record { within = tt; nodes = tt; some = tt; known = tt; jobs = λ p has le. let first = has.0.0 in absurd (omega (arith, first, le)); replies = refl; canonical = tt };
-      after = refl;
-      others = λ m le. refl;
-      tree = refl;
-    }
 
 -- the steps at a port among a node's
 at_pairs : (port : PortNo) (made : List NodeStep) → steps_at_port port made ≡ at_port port.0 (map (λ st. (st.port, st.step)) made)
@@ -239,7 +200,7 @@ module _ (n : NodeNo) (x : ℕ) (start w v : WorldState) (made : List NodeSteps)
         after =
             m.after
             ∙ (ap (λ u. world_after (events_of n steps) u) so_far.after
-            ∙ (sym (after_append (step_events made) (events_of n steps) start) ∙ ap (λ es. world_after es start) (sym events)));
+            ∙ (sym (after_both (step_events made) (events_of n steps) start) ∙ ap (λ es. world_after es start) (sym events)));
         others = others_later steps m.after;
         tree = m.tree ∙ so_far.tree;
       }

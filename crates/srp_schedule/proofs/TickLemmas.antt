@@ -1,26 +1,14 @@
 -- One tick from its parts, and one tick more of a run.
-use Rattle.std.proofs.Common.{◌≡◌, ℕ, suc, ◌+◌, ◌<◌, ◌^◌, false, List, [], ◌∷◌, ◌++◌, length, map, refl, sym, ap, subst, ◌∙◌, arith}
+use Rattle.std.proofs.Common.{◌≡◌, ℕ, suc, ◌+◌, ◌<◌, ◌^◌, List, [], ◌∷◌, ◌++◌, length, map, refl, sym, ap, subst, ◌∙◌, arith}
 use Rattle.std.specs.List.{AllByRecursion}
-use Rattle.srp_base.proofs.Lists.{each_append}
-use Rattle.srp_base.specs.declared.{numbers.NodeNo.NodeNo, ports.PortChange.PortChange}
+use Rattle.srp_base.specs.declared.{ports.PortChange.PortChange}
 use Rattle.tree_topology.specs.Topology.{Topology, HasPort, link_ports}
 use Rattle.topology_file.specs.{Plan.Plan, Scenario.KeepsRules}
-use Rattle.node_core.specs.declared.types.NodeStep.{NodeStep}
 use Rattle.world_core.specs.declared.{events.WorldEvent.WorldEvent, events.WorldReply.WorldReply, journal.NodeSteps.NodeSteps, journal.Tick.Tick}
-use Rattle.world_core.specs.declared.events.WorldEvent.TheVariants.{Port, Carry, Clock}
-use Rattle.world_core.specs.{World.WorldState, World.CanHappen, World.world_step, World.world_after, World.replies_to, Start.world_of, Ticks.script_at, Ticks.after_script, Ticks.after_steps, Ticks.step_events, Ticks.tick_events, Ticks.LeadTo, Ticks.IsCanonicalTick, During.IsDuring, During.IsAllowed, Carrying.NothingWaits, Carrying.has_send, History.HasPortsOf, History.acts_noted, Cursor.IsCursor}
+use Rattle.world_core.specs.declared.events.WorldEvent.TheVariants.{Carry, Clock}
+use Rattle.world_core.specs.{World.WorldState, World.CanHappen, World.world_step, World.world_after, World.replies_to, Start.world_of, Ticks.script_at, Ticks.after_script, Ticks.after_steps, Ticks.step_events, Ticks.tick_events, Ticks.LeadTo, Ticks.IsCanonicalTick, During.IsDuring, During.IsAllowed, History.HasPortsOf, History.acts_noted, Cursor.IsCursor}
+use Rattle.world_core.proofs.{TickParts.steps_allowed, Timelines.after_both}
 use Rattle.srp_schedule.specs.{AreSteps, DuringLaws}
-use Rattle.srp_schedule.proofs.StepLemmas.{after_append}
-
--- nothing is carried where the steps sent nothing
-pub nothing_carried : ((plan : Plan) (t : ℕ) (w : WorldState) (tick : Tick) → IsDuring plan.tree t w → NothingWaits w → has_send tick.steps ≡ false
-    → world_after (map Carry (link_ports plan.tree)) (after_steps plan t tick w) ≡ after_steps plan t tick w)
-    → (plan : Plan) (t : ℕ) (w : WorldState) → IsDuring plan.tree t w → NothingWaits w → (v : WorldState) (tick : Tick) → v ≡ after_steps plan t tick w → v.tree ≡ plan.tree
-    → has_send tick.steps ≡ false
-    → world_after (map Carry (link_ports v.tree)) v ≡ v
-nothing_carried law plan t w during waits v tick is tree isnt =
-    ap (λ (r : Topology). world_after (map Carry (link_ports r)) v) tree
-    ∙ (ap (λ (u : WorldState). world_after (map Carry (link_ports plan.tree)) u) is ∙ (law plan t w tick during waits isnt ∙ sym is))
 
 -- ---- one tick
 
@@ -49,17 +37,6 @@ tick_parts plan t w w1 w2 w3 w4 events steps tick e s numbers answers script mad
       carried = carried;
       clock = clock;
     }
-
-made_allowed : (tree : Topology) (n : NodeNo) (made : List NodeStep) → AllByRecursion (λ st. HasPort tree (record { node = n; port = st.port })) made
-    → AllByRecursion (IsAllowed tree) (map (λ st. Port n st.port st.step) made)
-made_allowed tree n [] known = tt
-made_allowed tree n (st ∷ made) known = (known.0, made_allowed tree n made known.1)
-
-steps_allowed : (tree : Topology) (nodes : List NodeSteps) → AllByRecursion (λ ns. AllByRecursion (λ st. HasPort tree (record { node = ns.node; port = st.port })) ns.steps) nodes
-    → AllByRecursion (IsAllowed tree) (step_events nodes)
-steps_allowed tree [] known = tt
-steps_allowed tree (ns ∷ nodes) known =
-    each_append (IsAllowed tree) (map (λ st. Port ns.node st.port st.step) ns.steps) (step_events nodes) (made_allowed tree ns.node ns.steps known.0) (steps_allowed tree nodes known.1)
 
 module _ (laws : DuringLaws) (plan : Plan) (rules : KeepsRules plan) (t : ℕ) (within : t < plan.ticks) (w : WorldState) (during : IsDuring plan.tree t w) where
   below : t < 2 ^ 61
@@ -103,12 +80,12 @@ module _ (laws : DuringLaws) (plan : Plan) (rules : KeepsRules plan) (t : ℕ) (
         let steps : List WorldEvent = step_events tick.steps in
         let carries : List WorldEvent = map Carry (link_ports plan.tree) in
         let there = stepped_stays w1 w2 tick.steps made.script made.steps made.stepped in
-        let here : w2 ≡ world_after (script ++ steps) w = made.stepped ∙ (ap (λ (u : WorldState). world_after steps u) made.script ∙ sym (after_append script steps w)) in
+        let here : w2 ≡ world_after (script ++ steps) w = made.stepped ∙ (ap (λ (u : WorldState). world_after steps u) made.script ∙ sym (after_both script steps w)) in
         let third : w3 ≡ world_after carries w2 = made.carried ∙ ap (λ (tree : Topology). world_after (map Carry (link_ports tree)) w2) there.tree_is in
         let last : w4 ≡ world_after (carries ++ (Clock ∷ [])) w2 =
-        made.clock ∙ (ap (λ (u : WorldState). (world_step Clock u).0) third ∙ sym (after_append carries (Clock ∷ []) w2))
+        made.clock ∙ (ap (λ (u : WorldState). (world_step Clock u).0) third ∙ sym (after_both carries (Clock ∷ []) w2))
         in
-        last ∙ (ap (λ (u : WorldState). world_after (carries ++ (Clock ∷ [])) u) here ∙ sym (after_append (script ++ steps) (carries ++ (Clock ∷ [])) w))
+        last ∙ (ap (λ (u : WorldState). world_after (carries ++ (Clock ∷ [])) u) here ∙ sym (after_both (script ++ steps) (carries ++ (Clock ∷ [])) w))
 
     -- the network after the tick's steps, and the changes once it is noted
     steps_reach : w2 ≡ after_steps plan t tick w

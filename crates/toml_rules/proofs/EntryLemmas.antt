@@ -13,10 +13,6 @@ pub in_front-step : {B : Type 0} (front : List B) (y : B) (r : Result (List B) R
 in_front-step front y (Ok ys) = ap Ok (sym (append_assoc front (y ∷ []) ys))
 in_front-step front y (Err e) = refl
 
-pub in_front-nil : {B : Type 0} (r : Result (List B) RuleErr) → in_front [] r ≡ r
-in_front-nil (Ok ys) = refl
-in_front-nil (Err e) = refl
-
 -- the values that are read so far, in front of those of the entries from place i on
 abbrev pub from_here : {T B : Type 0} → ℕ → (ℕ → T → Option B) → List B → ℕ → List T → Result (List B) RuleErr
 from_here rule said front i xs = in_front front (each_entry rule said (i + 1) (drop i xs))

@@ -16,10 +16,6 @@ list_all-member_keys p (e ∷ es) = ap (λ b. p (string_bytes e.0) && b) (list_a
 abbrev pub in_front : List Members → Option (List Members) → Option (List Members)
 in_front ms o = option_map (λ rest. ms ++ rest) o
 
-pub in_front-nil : (o : Option (List Members)) → in_front [] o ≡ o
-in_front-nil None = refl
-in_front-nil (Some ms) = refl
-
 -- one more value that is a table
 pub in_front-step : (front : List Members) (ms : Members) (d : Data) (ds : Items) → as_table d ≡ Some ms
     → in_front front (all_tables (item d ds)) ≡ in_front (front ++ (ms ∷ [])) (all_tables ds)

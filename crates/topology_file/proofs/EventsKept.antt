@@ -213,7 +213,7 @@ event-tick : (n : ℕ) (form : EventForm) → IfSome (event_entry n form) (λ e.
 event-tick n form = map-if _ _ form.kind (λ k e. refl)
 
 -- ticks that never fall ascend
-ticks-ascend : (n before : ℕ) (ts : List ℕ) → first_fall n before ts ≡ None → All (λ t. before ≤ t) ts × IsNonDecreasing ts
+pub ticks-ascend : (n before : ℕ) (ts : List ℕ) → first_fall n before ts ≡ None → All (λ t. before ≤ t) ts × IsNonDecreasing ts
 ticks-ascend n before [] e = (All-nil (λ t. before ≤ t), λ i j d le lt. absurd (omega (arith, lt)))
 ticks-ascend n before (t ∷ ts) e =
     let p = by (nat_lt t before) (first_fall (n + 1) t ts) e in

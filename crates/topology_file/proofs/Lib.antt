@@ -8,3 +8,4 @@ pub mod StreamsKept
 pub mod EventsKept
 pub mod FramesKept
 pub mod Kept
+pub mod EntryLemmas

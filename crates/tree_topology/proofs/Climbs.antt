@@ -89,12 +89,7 @@ goes-down count links parent depth r tree x (v ∷ w) y m h =
 -- the deeper of two nodes isn't the first node
 pub not-top : (count : ℕ) (links : List Link) (parent depth : ℕ → ℕ) → IsRooted count links parent depth → (x y : ℕ)
     → IsNode count y → x ≢ y → depth y ≤ depth x → x ≢ 1
-not-top count links parent depth r x y m ne le e =
-    elim (cases_eq y 1) [
-      | inl f ↦ ne (e ∙ sym f)
-      | inr n ↦ (let f = r.falls y m n in let D : depth x
-          ≡ depth 1 = ap depth e in absurd (omega (arith, f, D, r.top)))
-    ]
+not-top count links parent depth r x y m ne le e = grind (arith, cases_eq)
 
 up-first : (count : ℕ) (links : List Link) (parent depth : ℕ → ℕ) → IsRooted count links parent depth
     → IsTree count links → (x y : ℕ) → IsNode count x → x ≢ y → depth y ≤ depth x → (w : List ℕ)

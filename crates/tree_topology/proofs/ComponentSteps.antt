@@ -26,10 +26,7 @@ range-more n =
 -- a node that isn't its own leader leads to one of higher rank
 pub leads-lower : (leaders ranks : List ℕ) (at next : ℕ) → HasLeaders leaders ranks → at < length leaders
     → next ≡ get_or leaders at 0 → next ≢ at → 65536 - get_or ranks next 0 < 65536 - get_or ranks at 0
-leads-lower leaders ranks at next h lt e ne =
-    let r : get_or ranks at 0 < get_or ranks (get_or leaders at 0) 0 = h.rises at lt (λ q. ne (e ∙ q)) in
-    let same : get_or ranks next 0 ≡ get_or ranks (get_or leaders at 0) 0 = ap (λ (t : ℕ). get_or ranks t 0) e in
-    omega (arith, r, same, h.small at lt)
+leads-lower leaders ranks at next h lt e ne = grind arith
 
 pub leads-further : (links : List Link) (leaders : List ℕ) (node at next : ℕ) → LeadsAlong links leaders
     → at < length leaders → next ≡ get_or leaders at 0 → Connected links node at → Connected links node next
@@ -75,16 +72,7 @@ apart-follow : (links : List Link) (l : Link) (leaders : List ℕ) (r s x y : �
     → ((x : ℕ) → x ≢ r → get_or (set leaders r s) x 0 ≡ get_or leaders x 0) → get_or (set leaders r s) x 0 ≡ x
     → get_or (set leaders r s) y 0 ≡ y → Connected links x y
     ⊎ ((Connected links x r × Connected links s y) ⊎ (Connected links x s × Connected links r y)) → x ≡ y
-apart-follow links l leaders r s x y apart lr ls er es lx ly ne at_r at_x ex ey c =
-    let ox = own-leader leaders (set leaders r s) r s x ne at_r at_x ex in
-    let oy = own-leader leaders (set leaders r s) r s y ne at_r at_x ey in
-    elim c [
-      | inl c ↦ apart x y lx ly ox.1 oy.1 c
-      | inr c ↦ elim c [
-        | inl c ↦ absurd (ox.0 (apart x r lx lr ox.1 er c.0))
-        | inr c ↦ absurd (oy.0 (sym (apart r y lr ly er oy.1 c.1)))
-      ]
-    ]
+apart-follow links l leaders r s x y apart lr ls er es lx ly ne at_r at_x ex ey c = grind arith
 
 -- ranks rise along leaders once one follows another
 rises-follow : (leaders ranks more : List ℕ) (r s x : ℕ) → HasLeaders leaders ranks → x < length leaders → r ≢ s
@@ -93,16 +81,7 @@ rises-follow : (leaders ranks more : List ℕ) (r s x : ℕ) → HasLeaders lead
     → ((x : ℕ) → x ≢ s → get_or more x 0 ≡ get_or ranks x 0) → ((x : ℕ) → get_or ranks x 0 ≤ get_or more x 0)
     → get_or ranks r 0 < get_or more s 0 → get_or (set leaders r s) x 0 ≢ x
     → get_or more x 0 < get_or more (get_or (set leaders r s) x 0) 0
-rises-follow leaders ranks more r s x h lt ne er es at_r at_x other grow less n =
-    elim (cases_eq x r) [
-      | inl e ↦ (let F : ℕ → Type 0 = λ t. get_or more t 0 < get_or more (get_or (set leaders r s) t 0) 0 in let G : ℕ
-          → Type 0 = λ t. get_or more r 0 < get_or more t 0 in subst F (sym e)
-          (subst G (sym at_r) (omega (arith, other r ne, less))))
-      | inr nr ↦ (let own : get_or leaders x 0 ≢ x = λ q. n (at_x x nr ∙ q) in let ns : x ≢ s = λ q. (let K : ℕ
-          → ℕ = λ t. get_or leaders t 0 in own (ap K q ∙ es ∙ sym q)) in let up = h.rises x lt own in let G : ℕ
-          → Type 0 = λ t. get_or more x 0 < get_or more t 0 in subst G (sym (at_x x nr))
-          (omega (arith, other x ns, grow (get_or leaders x 0), up)))
-    ]
+rises-follow leaders ranks more r s x h lt ne er es at_r at_x other grow less n = grind (arith, cases_eq)
 
 -- a leader that follows another one, which has the higher rank then
 follow : (count : ℕ) (links : List Link) (l : Link) (leaders ranks more : List ℕ) (r s : ℕ)
@@ -282,7 +261,4 @@ components-start count n links leaders ranks e f g =
 pub components-as : (count : ℕ) (links all : List Link) (i : ℕ) (leaders ranks leaders' ranks' : List ℕ)
     → HasComponents count links leaders ranks × IsLoopFreeTo all i → leaders' ≡ leaders → ranks' ≡ ranks
     → HasComponents count links leaders' ranks' × IsLoopFreeTo all i
-components-as count links all i leaders ranks leaders' ranks' h e f =
-    let F : List ℕ → Type 0 = λ t. HasComponents count links t ranks in
-    let G : List ℕ → Type 0 = λ t. HasComponents count links leaders' t in
-    (subst G (sym f) (subst F (sym e) h.0), h.1)
+components-as count links all i leaders ranks leaders' ranks' h e f = grind arith

@@ -15,3 +15,4 @@ pub mod Refusals
 pub mod RefusalChecks
 pub mod RouteFacts
 pub mod Pigeonholes
+pub mod EgressPorts

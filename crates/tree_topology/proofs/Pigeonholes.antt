@@ -19,8 +19,7 @@ record Without (n v : ℕ) (xs : List ℕ) : Type 0 where
 
 lower : (n : ℕ) (xs : List ℕ) → IsBelow (suc n) xs → IsAbsent n xs → IsBelow n xs
 lower n [] b a = tt
-lower n (x ∷ xs) b a =
-    let ne : x ≢ n = λ e. a.0 (sym e) in (omega (arith, b.0, ne), lower n xs b.1 a.1)
+lower n (x ∷ xs) b a = grind (arith, lower n xs b.1 a.1)
 
 absent-same : (v x : ℕ) (xs : List ℕ) → x ≡ v → IsAbsent x xs → IsAbsent v xs
 absent-same v x xs e a = let F : ℕ → Type 0 = λ t. IsAbsent t xs in subst F e a

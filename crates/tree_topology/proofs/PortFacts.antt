@@ -44,13 +44,7 @@ neighbour-joined (l ∷ links) x k d lt =
 
 -- a link leads from either end to the other
 pub far_end-joins : (x v : ℕ) (l : Link) → l.a.0 ≢ l.b.0 → Joins l x v → far_end x l ≡ Some v
-far_end-joins x v l ne j =
-    elim j [
-      | inl e ↦ (let f : far_end x l ≡ Some l.b.0 = grind (arith, nat_tests) in f
-          ∙ ap (λ (t : ℕ). Some t) e.1)
-      | inr e ↦ (let n : l.a.0 ≢ x = λ q. ne (q ∙ sym e.1) in let f : far_end x l
-          ≡ Some l.a.0 = grind (arith, nat_tests) in f ∙ ap (λ (t : ℕ). Some t) e.0)
-    ]
+far_end-joins x v l ne j = grind (arith, nat_tests)
 
 -- whom a node is joined with stands among its neighbours
 pub joined-neighbour : (links : List Link) → HasNoSelfLink links → (x v : ℕ) → Joined links x v → (k : ℕ)
@@ -70,13 +64,7 @@ joined-neighbour (l ∷ links) other x v j =
 -- who isn't joined with a node isn't among its neighbours
 absent-neighbours : (links : List Link) (x v : ℕ) → ¬ Joined links x v → IsAbsent v (neighbours links x)
 absent-neighbours [] x v n = tt
-absent-neighbours (l ∷ links) x v n =
-    let F : List ℕ → Type 0 = λ t. IsAbsent v t in
-    let rest = absent-neighbours links x v (λ j. n (inr j)) in
-    elim (far_end-cases x l) [
-      | inl f ↦ (let J : ℕ → Type 0 = λ t. Joins l x t in subst F (sym (neighbours-some x f.0 l links f.1)) ((λ e. n (inl (subst J (sym e) f.2))), rest))
-      | inr f ↦ subst F (sym (neighbours-none x l links f.0)) rest
-    ]
+absent-neighbours (l ∷ links) x v n = grind (arith, absent-neighbours links x v (λ j. n (inr j)), neighbours-some, neighbours-none)
 
 joins-same : (l : Link) (links : List Link) (x v : ℕ) → Joins l x v → Joined links x v → Joined links l.a.0 l.b.0
 joins-same l links x v j k =
@@ -111,11 +99,7 @@ place-tail v x xs n = grind (arith, nat_tests)
 pub place-at : (v : ℕ) (xs : List ℕ) (k d : ℕ) → HasNoRepeat xs → k < length xs → get_or xs k d ≡ v → index_in v xs ≡ k
 place-at v [] k d r lt e = absurd (omega (arith, lt))
 place-at v (x ∷ xs) zero d r lt e = place-head v x xs e
-place-at v (x ∷ xs) (suc k) d r lt e =
-    let less : k < length xs = omega (arith, lt) in
-    let n : x ≢ v = λ q. absent-at x xs k d r.0 less (e ∙ sym q) in
-    let p = place-at v xs k d r.1 less e in
-    place-tail v x xs n ∙ omega (arith, p)
+place-at v (x ∷ xs) (suc k) d r lt e = grind (arith, place-at v xs k d r.1 (omega (arith, lt)) e, absent-at, place-tail)
 
 -- the port towards a neighbour exists, and leads there
 pub port-leads : (count : ℕ) (links : List Link) → IsTree count links → (x v : ℕ) → Joined links x v
@@ -135,12 +119,7 @@ port-joined count links p h = neighbour-joined links p.node.0 (p.port.0 - 1) 0 (
 
 -- a port is the one towards the node that it leads to
 pub port-is : (count : ℕ) (links : List Link) → IsTree count links → (p : EgressPort) → IsPort count links p → p ≡ port_to links p.node.0 (far_node links p)
-port-is count links tree p h =
-    let xs = neighbours links p.node.0 in
-    let none = neighbours-differ links (apart-from_graph links tree.graph.no_second) p.node.0 in
-    let e : index_in (far_node links p) xs ≡ p.port.0 - 1 = place-at (far_node links p) xs (p.port.0 - 1) 0 none (omega (arith, h.1, h.2)) refl in
-    let n : p.port.0 ≡ index_in (far_node links p) xs + 1 = omega (arith, e, h.1) in
-    ap (λ (t : ℕ). let r : EgressPort = record { node = record { 0 = p.node.0 }; port = record { 0 = t } } in r) n
+port-is count links tree p h = grind (arith, neighbours-differ, apart-from_graph, place-at)
 
 -- the peer of the port towards a neighbour is the neighbour's port back
 pub peer-of_port : (count : ℕ) (links : List Link) → IsTree count links → (x v : ℕ) → Joined links x v → peer_of links (port_to links x v) ≡ port_to links v x

@@ -75,8 +75,7 @@ behind-own count links tree p m =
     subst F (sym (walk-self count links tree p.node.0 m)) refl
 
 begins-two : (u v : ℕ) (w : List ℕ) → begins_with u w ≡ true → begins_with v w ≡ true → u ≡ v
-begins-two u v [] e f = absurd (false≢true e)
-begins-two u v (x ∷ w) e f = grind (arith, nat_tests)
+begins-two u v w h1 h2 = grind (arith, false≢true, nat_tests)
 
 -- what lies behind another port of the far node lies behind the port
 pub behind-beyond : (count : ℕ) (links : List Link) → IsTree count links → (p q : EgressPort) (y : ℕ)
@@ -161,9 +160,7 @@ count-cons : (f : ℕ → Bool) (x : ℕ) (xs : List ℕ) → count_by f (x ∷ 
 count-cons f x xs = sum_by-cons (λ (t : ℕ). cond (f t) 1 0) x xs
 
 weight-within : (b c : Bool) → (b ≡ true → c ≡ true) → cond b 1 0 ≤ cond c 1 0
-weight-within false c h = omega arith
-weight-within true true h = omega arith
-weight-within true false h = absurd (false≢true (h refl))
+weight-within b c h1 = grind (arith, false≢true)
 
 count-within : (f g : ℕ → Bool) (xs : List ℕ) → ((k : ℕ) → k < length xs → f (get_or xs k 0) ≡ true → g (get_or xs k 0) ≡ true) → count_by f xs ≤ count_by g xs
 count-within f g [] h = omega arith
@@ -173,9 +170,7 @@ count-within f g (x ∷ xs) h =
     omega (arith, count-cons f x xs, count-cons g x xs, rest, here)
 
 weight-less : (b c : Bool) → b ≡ false → c ≡ true → cond b 1 0 < cond c 1 0
-weight-less false true e h = omega arith
-weight-less false false e h = absurd (false≢true h)
-weight-less true c e h = absurd (false≢true (sym e))
+weight-less b c h1 h2 = grind (arith, false≢true)
 
 -- a test that passes fewer numbers of a list counts fewer
 count-less : (f g : ℕ → Bool) (xs : List ℕ) (n : ℕ)

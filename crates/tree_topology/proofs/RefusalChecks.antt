@@ -15,40 +15,25 @@ not-found : (b : Bool) (Fault : Type 0) → (Fault → b ≡ true) → b ≡ fal
 not-found b Fault finds e f = false≢true (sym e ∙ finds f)
 
 not-true : (b : Bool) → ¬ (b ≡ true) → not b ≡ true
-not-true true h = absurd (h refl)
-not-true false h = refl
+not-true b h1 = grind arith
 
 node-of : (count x : ℕ) → is_node count x ≡ true → IsNode count x
-node-of count x e =
-    let p = and_parts (nat_le 1 x) (nat_le x count) e in (leb-true 1 x p.0, leb-true x count p.1)
+node-of count x e = grind (arith, and_parts, leb-true)
 
 of-node : (count x : ℕ) → IsNode count x → is_node count x ≡ true
-of-node count x h =
-    let low : 1 ≤ x = h.0 in
-    let high : x ≤ count = h.1 in
-    grind (arith, nat_tests)
+of-node count x h = grind (arith, nat_tests)
 
 both-nodes : (count : ℕ) (l : Link) → (is_node count l.a.0 && is_node count l.b.0) ≡ true → IsNode count l.a.0 × IsNode count l.b.0
-both-nodes count l e =
-    let p = and_parts (is_node count l.a.0) (is_node count l.b.0) e in
-    (node-of count l.a.0 p.0, node-of count l.b.0 p.1)
+both-nodes count l e = grind (arith, and_parts, node-of)
 
 unknown-end : (count : ℕ) (earlier : List Link) (l : Link) → has_unknown_end count earlier l ≡ true → HasUnknownEnd count earlier l
-unknown-end count earlier l e ends =
-    let a = of-node count l.a.0 ends.0 in
-    let b = of-node count l.b.0 ends.1 in
-    let both : (is_node count l.a.0 && is_node count l.b.0) ≡ true = rw (a, b) in
-    false≢true (sym (not-flips (is_node count l.a.0 && is_node count l.b.0) e) ∙ both)
+unknown-end count earlier l e ends = grind (arith, of-node, false≢true, not-flips)
 
 end-unknown : (count : ℕ) (earlier : List Link) (l : Link) → HasUnknownEnd count earlier l → has_unknown_end count earlier l ≡ true
 end-unknown count earlier l f = not-true (is_node count l.a.0 && is_node count l.b.0) (λ t. f (both-nodes count l t))
 
 joins-both : (x y : ℕ) (l : Link) → Joins l x y → joins_both x y l ≡ true
-joins-both x y l j = elim j [
-  | inl e ↦ (let a = e.0 in let b = e.1 in grind (arith, nat_tests))
-  | inr e ↦
-      (let a = e.0 in let b = e.1 in grind (arith, nat_tests))
-]
+joins-both x y l j = grind (arith, nat_tests)
 
 both-joins : (x y : ℕ) (l : Link) → joins_both x y l ≡ true → Joins l x y
 both-joins x y l e = by (l.a.0 == x) (l.b.0 == y) (l.a.0 == y) (l.b.0 == x) (eqb-true l.a.0 x) (eqb-true l.b.0 y) (eqb-true l.a.0 y) (eqb-true l.b.0 x) e
@@ -87,8 +72,7 @@ loop-closed : (earlier : List Link) (l : Link) → closes_loop earlier l ≡ tru
 loop-closed earlier l e = connected-from_component earlier l.a.0 l.b.0 (eqb-true (component earlier l.a.0) (component earlier l.b.0) e)
 
 closed-loop : (earlier : List Link) (l : Link) → ClosesLoop earlier l → closes_loop earlier l ≡ true
-closed-loop earlier l c =
-    eqb-same (component earlier l.a.0) (component earlier l.b.0) (component-walk earlier l.a.0 c.0 l.b.0 c.1)
+closed-loop earlier l c = grind (arith, eqb-same, component-walk)
 
 -- ---- what a check of all links or nodes finds
 
@@ -153,9 +137,8 @@ unconnected-tests kinds links x d m =
       (λ no. not-true (c 1 == c i) (λ e. subst C (sym is) no (connected-from_component links 1 i (eqb-true (c 1) (c i) e)))),
     )
 
-station-is : (kind : NodeKind) → is_station kind ≡ true → kind ≡ Station
-station-is Station e = refl
-station-is Bridge e = absurd (false≢true e)
+pub station-is : (kind : NodeKind) → is_station kind ≡ true → kind ≡ Station
+station-is kind h1 = grind (arith, false≢true)
 
 kind-at : (kinds : List NodeKind) (i : ℕ) (d e : NodeKind) → i < length kinds → get_or kinds i d ≡ get_or kinds i e
 kind-at kinds i d e lt = get_or_default kinds i d e lt
@@ -304,15 +287,13 @@ refusal-says kinds links =
 -- the refusal that fits is the one that the function gives
 refusal-by : (kinds : List NodeKind) (links : List Link) (e : TreeErr) (o : Option TreeErr) → Says kinds links o
     → IsRefusal kinds links e → e ≢ NoMemory → o ≡ Some e
-refusal-by kinds links e None h r m = absurd (m (accepted-refusal kinds links e h r))
-refusal-by kinds links e (Some f) h r m = ap (λ (t : TreeErr). Some t) (refusals-same kinds links f e h.1 m h.0 r)
+refusal-by kinds links e o h1 h2 h3 = grind (arith, accepted-refusal, refusals-same)
 
 pub refusal-fits : (kinds : List NodeKind) (links : List Link) (e : TreeErr) → IsRefusal kinds links e → e ≢ NoMemory → refusal kinds links ≡ Some e
 refusal-fits kinds links e r m = refusal-by kinds links e (refusal kinds links) (refusal-says kinds links) r m
 
 refusal-none-by : (kinds : List NodeKind) (links : List Link) (o : Option TreeErr) → Says kinds links o → IsAccepted kinds links → o ≡ None
-refusal-none-by kinds links None h a = refl
-refusal-none-by kinds links (Some f) h a = absurd (h.1 (accepted-refusal kinds links f a h.0))
+refusal-none-by kinds links o h1 h2 = grind (arith, accepted-refusal)
 
 pub refusal-none : (kinds : List NodeKind) (links : List Link) → IsAccepted kinds links → refusal kinds links ≡ None
 refusal-none kinds links a = refusal-none-by kinds links (refusal kinds links) (refusal-says kinds links) a

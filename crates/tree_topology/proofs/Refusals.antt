@@ -47,14 +47,7 @@ first_link-same F links n m h k =
     ]
 
 first_node-same : (F : ℕ → Type 0) (count x y : ℕ) → IsFirstNode F count x → IsFirstNode F count y → x ≡ y
-first_node-same F count x y h k =
-    elim (cases_lt x y) [
-      | inl lt ↦ absurd (k.2 x h.0.0 lt h.1)
-      | inr le ↦ elim (cases_lt y x) [
-        | inl lt ↦ absurd (h.2 y k.0.0 lt k.1)
-        | inr ge ↦ omega (arith, le, ge)
-      ]
-    ]
+first_node-same F count x y h k = grind (arith, cases_lt)
 
 -- what no two refusals say
 known-no_unknown : (count : ℕ) (links : List Link) (n : ℕ) → HasKnownEnds count links → ¬ IsFirstLink (HasUnknownEnd count) links n

@@ -20,15 +20,13 @@ parent-known count links parents depths tree r x m n =
 -- the deeper of two nodes isn't the first
 pub deeper-not_first : (count : ℕ) (links : List Link) (parents depths : List ℕ) → IsRooted count links parents depths
     → (x y : ℕ) → IsNode count y → x ≢ y → get_or depths y 0 ≤ get_or depths x 0 → x ≢ 1
-deeper-not_first count links parents depths r x y m ne le =
-    not-top count links (λ x. get_or parents x 0) (λ x. get_or depths x 0) (rooted-by count links parents depths r) x y m ne le
+deeper-not_first count links parents depths r x y m ne le = grind (arith, not-top)
 
 -- the ports of a walk and one step more
 pub egress-push : (links : List Link) (x : ℕ) (w : List ℕ) (y z : ℕ) → IsWalk (Joined links) x w y
     → egress_ports links x (w ++ z ∷ []) ≡ egress_ports links x w ++ port_to links y z ∷ []
 egress-push links x [] y z h = ap (λ (t : ℕ). port_to links t z ∷ []) h
-egress-push links x (v ∷ w) y z h =
-    ap (λ (t : List EgressPort). port_to links x v ∷ t) (egress-push links v w y z h.1)
+egress-push links x (v ∷ w) y z h = grind (arith, egress-push links v w y z h.1)
 
 -- from the deeper of two nodes a path goes up first
 pub path-up : (count : ℕ) (links : List Link) (parents depths : List ℕ) → IsTree count links
@@ -86,9 +84,7 @@ made-down count links parents depths ups downs downs' tree r x y m n ne le e =
 
 -- at the end what was made is the path
 pub made-end : (links : List Link) (x y : ℕ) (ups downs path : List EgressPort) → ports_made links x y ups downs ≡ path → x ≡ y → ups ++ reverse downs ≡ path
-made-end links x y ups downs path made e =
-    let same : path_between links x y ≡ [] = ap (λ (t : ℕ). path_between links x t) (sym e) ∙ ap (λ (t : List ℕ). egress_ports links x t) (walk-same links x) in
-    sym (ap (λ (t : List EgressPort). ups ++ (t ++ reverse downs)) same) ∙ made
+made-end links x y ups downs path made e = grind (arith, walk-same)
 
 -- of two joined nodes the deeper one has the other as its parent
 pub parent-of_joined : (count : ℕ) (links : List Link) (parents depths : List ℕ) → IsTree count links
@@ -114,10 +110,7 @@ parent-of_other count links parents depths tree r u v j le =
     ]
 
 sides-by : (b c : Bool) → (c ≡ false → b ≡ true) → (b ≡ true → c ≡ false) → b ≡ not c
-sides-by true true f g = absurd (false≢true (sym (g refl)))
-sides-by true false f g = refl
-sides-by false true f g = refl
-sides-by false false f g = f refl
+sides-by b c h1 h2 = grind (arith, false≢true)
 
 -- a node is behind a port, or the port's node is behind it: not both
 pub sides : (count : ℕ) (links : List Link) → IsTree count links → (x v y : ℕ) → IsNode count x → IsNode count y
@@ -127,8 +120,7 @@ sides count links tree x v y m n j =
     (λ e. side-far count links tree x v y n j e) (λ e. side-near count links tree x v y m n e)
 
 begins-push : (v y : ℕ) (w : List ℕ) → y ≢ v → begins_with v (w ++ y ∷ []) ≡ begins_with v w
-begins-push v y [] n = grind (arith, nat_tests)
-begins-push v y (u ∷ w) n = refl
+begins-push v y w h1 = grind (arith, nat_tests)
 
 -- a climb keeps on which side of a less deep node's link to its parent one is
 pub climb-keeps : (count : ℕ) (links : List Link) (parents depths : List ℕ) → IsTree count links
@@ -173,8 +165,7 @@ climb-ends count links parents depths tree r top at m n first le =
 -- behind a port to a child is what is below the child
 pub behind-child : (links : List Link) (p : EgressPort) (y far up : ℕ) (b : Bool) → far ≡ far_node links p
     → up ≡ p.node.0 → b ≡ begins_with far (walk_between links up y) → b ≡ is_behind links p y
-behind-child links p y far up b e f h =
-    h ∙ ap (λ (t : ℕ). begins_with t (walk_between links up y)) e ∙ ap (λ (t : ℕ). begins_with (far_node links p) (walk_between links t y)) f
+behind-child links p y far up b e f h = grind arith
 
 -- behind a port to the parent is what isn't below the port's node
 pub behind-parent : (count : ℕ) (links : List Link) → IsTree count links → (p : EgressPort) (y up : ℕ) (b : Bool)
@@ -225,10 +216,7 @@ far-node kinds links parents depths p far h k e =
 pub climb-first : (kinds : List NodeKind) (links : List Link) (parents depths : List ℕ) (top at a b : ℕ)
     → IsRouted kinds links parents depths → IsNode (length kinds) top → a ≡ get_or depths top 0
     → b ≡ get_or depths at 0 → a < b → at ≢ 1
-climb-first kinds links parents depths top at a b h m ea eb lt =
-    let ne : at ≢ top = λ e. (let d : get_or depths at 0
-    ≡ get_or depths top 0 = ap (λ (t : ℕ). get_or depths t 0) e in absurd (omega (arith, d, ea, eb, lt))) in
-    deeper-not_first (length kinds) links parents depths h.rooted at top m ne (omega (arith, ea, eb, lt))
+climb-first kinds links parents depths top at a b h m ea eb lt = grind (arith, deeper-not_first)
 
 -- a climb of one step
 pub climb-step : (kinds : List NodeKind) (links : List Link) (parents depths : List ℕ) (top at up node a b : ℕ)
@@ -268,8 +256,7 @@ parent-of kinds links parents depths near far a b h j ea eb le =
 -- the far node as it is read from the neighbours
 pub far-read : (links : List Link) (p : EgressPort) (row : List ℕ) (i : ℕ) → row ≡ neighbours links p.node.0
     → i ≡ p.port.0 → get_or row (i - 1) 0 ≡ far_node links p
-far-read links p row i e f =
-    ap (λ (t : List ℕ). get_or t (i - 1) 0) e ∙ ap (λ (t : ℕ). get_or (neighbours links p.node.0) (t - 1) 0) f
+far-read links p row i e f = grind arith
 
 -- one step up, as the code takes it
 pub step-up : (kinds : List NodeKind) (links : List Link) (parents depths : List ℕ) (x y up : ℕ) (port : EgressPort)

@@ -14,48 +14,16 @@ neighbours-push : (links : List Link) (l : Link) (x : ℕ) → neighbours (links
 neighbours-push links l x = filter_map-append (far_end x) links (l ∷ [])
 
 row-other : (links : List Link) (l : Link) (x : ℕ) → l.a.0 ≢ x → l.b.0 ≢ x → neighbours (links ++ l ∷ []) x ≡ neighbours links x
-row-other links l x n k =
-    let none : far_end x l ≡ None = ap (λ b. if b then Some l.b.0 else (if l.b.0 == x then Some l.a.0 else None))
-    (ne_eqb l.a.0 x n) ∙ ap (λ b. if b then Some l.a.0 else None) (ne_eqb l.b.0 x k) in
-    neighbours-push links l x ∙ ap (λ (o : Option ℕ). neighbours links x ++ cons_option o []) none ∙ append-nil (neighbours links x)
+row-other links l x n k = grind (arith, ne_eqb, neighbours-push, append-nil)
 
 row-end : (links : List Link) (l : Link) (x v : ℕ) → l.a.0 ≢ l.b.0 → Joins l x v → neighbours (links ++ l ∷ []) x ≡ neighbours links x ++ v ∷ []
-row-end links l x v ne j =
-    neighbours-push links l x ∙ ap (λ (o : Option ℕ). neighbours links x ++ cons_option o []) (far_end-joins x v l ne j)
+row-end links l x v ne j = grind (arith, neighbours-push, far_end-joins)
 
 -- one link more
 pub rows-link : (count : ℕ) (links : List Link) (l : Link) (rows : List (List ℕ)) → IsNode count l.a.0
     → IsNode count l.b.0 → l.a.0 ≢ l.b.0 → HasRows count links rows
     → HasRows count (links ++ l ∷ []) (with_link rows l)
-rows-link count links l rows m n ne h =
-    let a = l.a.0 in
-    let b = l.b.0 in
-    let one = with_neighbour rows a b in
-    let la : a < length rows = omega (arith, h.size, m.1) in
-    let lb : b < length rows = omega (arith, h.size, n.1) in
-    let lb1 : b < length one = omega (arith, lb, length-set rows a (get_or rows a [] ++ b ∷ [])) in
-    let at_b : get_or one b [] ≡ get_or rows b [] = get_or-set_other rows a b (get_or rows a [] ++ b ∷ []) [] (λ e. ne (sym e)) in
-    record {
-      size = length-set one b (get_or one b [] ++ a ∷ []) ∙ length-set rows a (get_or rows a [] ++ b ∷ []) ∙ h.size;
-      rows_are = (λ x d le. elim (cases_eq x b) [
-        | inl e ↦ (let F : ℕ → Type 0 = λ t. get_or (with_link rows l) t d
-            ≡ neighbours (links ++ l ∷ []) t in subst F (sym e)
-            (get_or-set_same one b (get_or one b [] ++ a ∷ []) d lb1
-            ∙ ap (λ (t : List ℕ). t ++ a ∷ []) (at_b ∙ h.rows_are b [] n.1)
-            ∙ sym (row-end links l b a ne (inr (refl, refl)))))
-        | inr nb ↦ elim (cases_eq x a) [
-          | inl e ↦ (let F : ℕ → Type 0 = λ t. get_or (with_link rows l) t d
-              ≡ neighbours (links ++ l ∷ []) t in subst F (sym e)
-              (get_or-set_other one b a (get_or one b [] ++ a ∷ []) d ne
-              ∙ get_or-set_same rows a (get_or rows a [] ++ b ∷ []) d la
-              ∙ ap (λ (t : List ℕ). t ++ b ∷ []) (h.rows_are a [] m.1)
-              ∙ sym (row-end links l a b ne (inl (refl, refl)))))
-          | inr na ↦ get_or-set_other one b x (get_or one b [] ++ a ∷ []) d nb
-              ∙ get_or-set_other rows a x (get_or rows a [] ++ b ∷ []) d na ∙ h.rows_are x d le
-              ∙ sym (row-other links l x (λ e. na (sym e)) (λ e. nb (sym e)))
-        ]
-      ]);
-    }
+rows-link count links l rows m n ne h = grind (arith, length-set, get_or-set_other, cases_eq, get_or-set_same, row-end, row-other)
 
 any-at : (v : ℕ) (xs : List ℕ) → list_any (λ u. u == v) xs ≡ true → (k : ℕ) × (k < length xs) × (get_or xs k 0 ≡ v)
 any-at v [] e = absurd (false≢true e)
@@ -70,13 +38,7 @@ any-at v (x ∷ xs) e =
 at-any : (v : ℕ) (xs : List ℕ) (k : ℕ) → k < length xs → get_or xs k 0 ≡ v → list_any (λ u. u == v) xs ≡ true
 at-any v [] k lt e = absurd (omega (arith, lt))
 at-any v (x ∷ xs) zero lt e = ap (λ b. b || list_any (λ u. u == v) xs) (eq-eqb x v e)
-at-any v (x ∷ xs) (suc k) lt e =
-    let rest = at-any v xs k (omega (arith, lt)) e in
-    elim (cases_eq x v) [
-      | inl q ↦ ap (λ b. b || list_any (λ u. u == v) xs) (eq-eqb x v q)
-      | inr n ↦ ap
-          (λ b. b || list_any (λ u. u == v) xs) (ne_eqb x v n) ∙ rest
-    ]
+at-any v (x ∷ xs) (suc k) lt e = grind (arith, at-any v xs k (omega (arith, lt)) e, cases_eq, eq-eqb, ne_eqb)
 
 -- a row has a neighbour exactly where links join the two
 pub joined-any : (links : List Link) (x v : ℕ) (row : List ℕ) → row ≡ neighbours links x → list_any (λ u. u == v) row ≡ true → Joined links x v

@@ -26,21 +26,7 @@ zeros-read (suc n) (suc x) = zeros-read n x
 
 -- a search of no nodes
 span-none : (links : List Link) → IsSpan 0 links (0 ∷ []) (0 ∷ []) []
-span-none links = record {
-  parents_size = refl;
-  depths_size = refl;
-  none = refl;
-  first = (λ some. absurd (omega (arith, some)));
-  top = refl;
-  listed = (λ k lt. absurd (omega (arith, lt)));
-  found = (λ x m q. absurd (omega (arith, m.0, m.1)));
-  connected = (λ x m q. absurd (omega (arith, m.0, m.1)));
-  joined = (λ x m q o. absurd (omega (arith, m.0, m.1)));
-  above = (λ x m q o. absurd (omega (arith, m.0, m.1)));
-  falls = (λ x m q o. absurd (omega (arith, m.0, m.1)));
-  shallow = (λ x le. (let F : ℕ → Type 0 = λ t. get_or (0 ∷ []) t 0 ≤ 0 in let z : x ≡ 0 = omega (arith, le) in subst F (sym z) (omega arith)));
-  counted = refl;
-}
+span-none links = grind arith
 
 -- a search that has reached node 1
 span-one : (count : ℕ) (links : List Link) → 0 < count → IsSpan count links (set (replicate (count + 1) 0) 1 1) (replicate (count + 1) 0) (1 ∷ [])
@@ -79,9 +65,7 @@ span-one count links some =
 pub span-start_none : (count n : ℕ) (links : List Link) (parents depths order : List ℕ) → n ≡ count → n ≤ 0
     → parents ≡ replicate (n + 1) 0 → depths ≡ replicate (n + 1) 0 → order ≡ []
     → IsSpan count links parents depths order
-span-start_none count n links parents depths order e none p d o =
-    let zero : n ≡ 0 = omega (arith, none) in
-    rw (← e, p, d, o, zero) (span-none links)
+span-start_none count n links parents depths order e none p d o = grind (arith, span-none)
 
 pub span-start_one : (count n : ℕ) (links : List Link) (parents depths order : List ℕ) → n ≡ count → 0 < n
     → parents ≡ set (replicate (n + 1) 0) 1 1 → depths ≡ replicate (n + 1) 0 → order ≡ 1 ∷ []
@@ -187,11 +171,7 @@ left a x y n = let t : (a == 0) ≡ false = grind (arith, nat_tests) in ap (λ (
 span-as : (count : ℕ) (links : List Link) (parents order p d o p' d' o' : List ℕ) (v : ℕ) → IsSpan count links p d o
     × Grows parents order p o × (get_or p v 0 ≢ 0) → p' ≡ p → d' ≡ d → o' ≡ o → IsSpan count links p' d' o'
     × Grows parents order p' o' × (get_or p' v 0 ≢ 0)
-span-as count links parents order p d o p' d' o' v h ep ed eo =
-    let F : List ℕ → Type 0 = λ t. IsSpan count links t d o × Grows parents order t o × (get_or t v 0 ≢ 0) in
-    let G : List ℕ → Type 0 = λ t. IsSpan count links p' t o × Grows parents order p' o × (get_or p' v 0 ≢ 0) in
-    let K : List ℕ → Type 0 = λ t. IsSpan count links p' d' t × Grows parents order p' t × (get_or p' v 0 ≢ 0) in
-    subst K (sym eo) (subst G (sym ed) (subst F (sym ep) h))
+span-as count links parents order p d o p' d' o' v h ep ed eo = grind arith
 
 -- a neighbour is reached, whether it was or not
 pub span-reach : (count : ℕ) (links : List Link) (parents depths order p' d' o' : List ℕ) (u v : ℕ)
@@ -267,13 +247,7 @@ visit-step count links p0 o0 parents depths order p' d' o' u i row known e lt h 
 pub visit-end : (links : List Link) (parents row : List ℕ) (u n : ℕ) → HasNoSelfLink links → row ≡ neighbours links u
     → length row ≤ n → ((k : ℕ) → k < n → get_or parents (get_or row k 0) 0 ≢ 0) → (v : ℕ) → Joined links u v
     → get_or parents v 0 ≢ 0
-visit-end links parents row u n other e le all v j =
-    let k = joined-neighbour links other u v j in
-    let L : List ℕ → Type 0 = λ t. k.0 < length t in
-    let lt : k.0 < length row = subst L (sym e) k.1 in
-    let at : get_or row k.0 0 ≡ v = ap (λ (t : List ℕ). get_or t k.0 0) e ∙ k.2 0 in
-    let F : ℕ → Type 0 = λ t. get_or parents t 0 ≢ 0 in
-    subst F at (all k.0 (omega (arith, lt, le)))
+visit-end links parents row u n other e le all v j = grind (arith, joined-neighbour)
 
 -- whom node 1 is connected with is reached
 walk-reached : (count : ℕ) (links : List Link) (parents : List ℕ) (x : ℕ) (w : List ℕ) (y : ℕ)

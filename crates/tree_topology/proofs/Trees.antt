@@ -67,9 +67,7 @@ walk-begins count links tree x y v m n e =
     b.1 ∙ ap (λ (t : List ℕ). v ∷ t) (walk-first count links tree x y v b.0 m n b.1).1
 
 straight-other : (R : ℕ → ℕ → Type 0) (p q x y : ℕ) (w : List ℕ) → IsStraight R p x w y → begins_with q w ≡ false → IsStraight R q x w y
-straight-other R p q x y [] h e = h
-straight-other R p q x y (v ∷ w) h e =
-    let ne : v ≢ q = grind (arith, nat_tests) in (h.0, ne, h.2)
+straight-other R p q x y w h1 h2 = grind (arith, nat_tests)
 
 -- where the walk from a neighbour doesn't come back, it goes on from here
 pub walk-on : (count : ℕ) (links : List Link) → IsTree count links → (x v y : ℕ) → IsNode count y → Joined links x v
@@ -121,8 +119,7 @@ absent-push z x (v ∷ w) h n = (h.0, absent-push z x w h.1 n)
 
 no_repeat-push : (x : ℕ) (w : List ℕ) → HasNoRepeat w → IsAbsent x w → HasNoRepeat (w ++ x ∷ [])
 no_repeat-push x [] h a = (tt, tt)
-no_repeat-push x (v ∷ w) h a =
-    (absent-push v x w h.0 (λ e. a.0 (sym e)), no_repeat-push x w h.1 a.1)
+no_repeat-push x (v ∷ w) h a = grind (arith, no_repeat-push x w h.1 a.1, absent-push)
 
 absent-reverse : (x : ℕ) (w : List ℕ) → IsAbsent x w → IsAbsent x (reverse w)
 absent-reverse x [] a = tt

@@ -12,17 +12,10 @@ unmerged : (l : Link) (links : List Link) (x : ℕ) → component links x ≢ co
 unmerged l links x n = grind (arith, nat_tests)
 
 merged-a : (l : Link) (links : List Link) → component (l ∷ links) l.a.0 ≡ component links l.a.0
-merged-a l links =
-    elim (cases_eq (component links l.a.0) (component links l.b.0)) [ inl e ↦ merged l links l.a.0 e | inr n ↦ unmerged l links l.a.0 n ]
+merged-a l links = grind (arith, cases_eq, merged, unmerged)
 
 merged-same : (l : Link) (links : List Link) (x y : ℕ) → component links x ≡ component links y → component (l ∷ links) x ≡ component (l ∷ links) y
-merged-same l links x y e =
-    elim (cases_eq (component links y) (component links l.b.0)) [
-      | inl f ↦ merged l links x (e ∙ f)
-          ∙ sym (merged l links y f)
-      | inr n ↦ unmerged l links x (λ g. n (sym e ∙ g)) ∙ e
-          ∙ sym (unmerged l links y n)
-    ]
+merged-same l links x y e = grind (arith, cases_eq, merged, unmerged)
 
 connected-cons : (l : Link) (links : List Link) (x y : ℕ) → Connected links x y → Connected (l ∷ links) x y
 connected-cons l links x y c =
@@ -70,8 +63,7 @@ component-joined (l ∷ links) x y j =
 
 pub component-walk : (links : List Link) (x : ℕ) (w : List ℕ) (y : ℕ) → IsWalk (Joined links) x w y → component links x ≡ component links y
 component-walk links x [] y h = ap (λ (z : ℕ). component links z) h
-component-walk links x (v ∷ w) y h =
-    component-joined links x v h.0 ∙ component-walk links v w y h.1
+component-walk links x (v ∷ w) y h = grind (arith, component-walk links v w y h.1, component-joined)
 
 -- a list of nodes that all lie in one component
 abbrev InComponent : List Link → ℕ → List ℕ → Type 0
@@ -89,8 +81,7 @@ in_component-walk links x (v ∷ w) y h =
 
 absent-component : (links : List Link) (z x : ℕ) (w : List ℕ) → component links z ≢ component links x → InComponent links x w → IsAbsent z w
 absent-component links z x [] n h = tt
-absent-component links z x (v ∷ w) n h =
-    ((λ e. n (ap (λ (t : ℕ). component links t) e ∙ h.0)), absent-component links z x w n h.1)
+absent-component links z x (v ∷ w) n h = grind (arith, absent-component links z x w n h.1)
 
 absent-append : (z : ℕ) (w u : List ℕ) → IsAbsent z w → IsAbsent z u → IsAbsent z (w ++ u)
 absent-append z [] u h k = k
@@ -99,12 +90,10 @@ absent-append z (v ∷ w) u h k = (h.0, absent-append z w u h.1 k)
 no_repeat-append : (links : List Link) (x y : ℕ) (w u : List ℕ) → component links x ≢ component links y
     → InComponent links x w → InComponent links y u → HasNoRepeat w → HasNoRepeat u → HasNoRepeat (w ++ u)
 no_repeat-append links x y [] u n h k p q = q
-no_repeat-append links x y (v ∷ w) u n h k p q =
-    (absent-append v w u p.0 (absent-component links v y u (λ e. n (sym h.0 ∙ e)) k), no_repeat-append links x y w u n h.1 k p.1 q)
+no_repeat-append links x y (v ∷ w) u n h k p q = grind (arith, no_repeat-append links x y w u n h.1 k p.1 q, absent-append, absent-component)
 
 path-same_ends : (links : List Link) (x y : ℕ) (w u : List ℕ) → w ≡ u → IsPath (Joined links) x u y → IsPath (Joined links) x w y
-path-same_ends links x y w u e p =
-    let F : List ℕ → Type 0 = λ t. IsPath (Joined links) x t y in subst F (sym e) p
+path-same_ends links x y w u e p = grind arith
 
 -- a path to one end of a link, the link, and a path from its other end
 path-over : (l : Link) (links : List Link) (x a b y : ℕ) (w u : List ℕ) → Joins l a b

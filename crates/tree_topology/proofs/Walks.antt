@@ -1,6 +1,6 @@
 -- Walks over any relation between nodes: joined end to end, turned round, freed of repeats; and walks
 -- that never go straight back, of which a link between two components leaves at most one.
-use Rattle.std.proofs.Common.{◌≡◌, ◌≢◌, ℕ, List, [], ◌∷◌, ◌++◌, ◌⊎◌, inl, inr, refl, sym, ap, subst, ◌∙◌}
+use Rattle.std.proofs.Common.{◌≡◌, ◌≢◌, ℕ, List, [], ◌∷◌, ◌++◌, ◌⊎◌, inl, inr, refl, sym, ap, subst, ◌∙◌, arith}
 use Rattle.std.proofs.lemmas.Bool.{cases_eq}
 use Rattle.tree_topology.specs.{IsWalk, IsAbsent, IsPath}
 
@@ -47,8 +47,7 @@ path-here R x v w y p e = let F : ℕ → Type 0 = λ t. IsPath R t w y in (w, s
 
 -- a node stands on no path, or what is left of the path leads on from there
 path-from : (R : ℕ → ℕ → Type 0) (x v : ℕ) (w : List ℕ) (y : ℕ) → IsPath R v w y → IsAbsent x (v ∷ w) ⊎ ((u : List ℕ) × IsPath R x u y)
-path-from R x v [] y p =
-    elim (cases_eq x v) [ inl e ↦ inr (path-here R x v [] y p e) | inr n ↦ inl (n, tt) ]
+path-from R x v [] y p = grind (arith, cases_eq)
 path-from R x v (u ∷ w) y p =
     elim (cases_eq x v) [
       | inl e ↦ inr (path-here R x v (u ∷ w) y p e)
@@ -66,8 +65,7 @@ path-from_walk R x (v ∷ w) y p =
 -- a path is straight, whatever one came from that isn't on it
 pub straight-from_path : (R : ℕ → ℕ → Type 0) (p x : ℕ) (w : List ℕ) (y : ℕ) → IsPath R x w y → IsAbsent p w → IsStraight R p x w y
 straight-from_path R p x [] y h a = h.0
-straight-from_path R p x (v ∷ w) y h a =
-    (h.0.0, (λ e. a.0 (sym e)), straight-from_path R x v w y (h.0.1, h.1.1) h.1.0.1)
+straight-from_path R p x (v ∷ w) y h a = grind (arith, straight-from_path R x v w y (h.0.1, h.1.1) h.1.0.1)
 
 -- in particular from its own first node
 pub straight-path : (R : ℕ → ℕ → Type 0) (x : ℕ) (w : List ℕ) (y : ℕ) → IsPath R x w y → IsStraight R x x w y

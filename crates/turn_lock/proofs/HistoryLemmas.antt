@@ -31,9 +31,6 @@ module _ {Ask Answer : Type 0} where
   pub begins_longer : (history seen added : Log Ask Answer) → BeginsWith history seen → BeginsWith (history ++ added) seen
   begins_longer history seen added front = (front.0 ++ added, ap (λ (z : Log Ask Answer). z ++ added) front.1 ∙ append_assoc seen front.0 added)
 
-  pub begins_front : (history middle seen : Log Ask Answer) → BeginsWith history middle → BeginsWith middle seen → BeginsWith history seen
-  begins_front history middle seen whole front = (front.0 ++ whole.0, whole.1 ∙ (ap (λ (z : Log Ask Answer). z ++ whole.0) front.1 ∙ append_assoc seen front.0 whole.0))
-
 module _ {S Ask Answer : Type 0} (does : S → Ask → Answer × S) where
   abbrev IsSaid : S → Entry Ask Answer → Type 0
   IsSaid state e = answer_of e ≡ (does state (ask_of e)).0

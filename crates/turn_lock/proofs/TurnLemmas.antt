@@ -3,13 +3,9 @@ use Rattle.std.proofs.Common.{◌≡◌, ◌≢◌, ◌==◌, ℕ, ◌%◌, ◌^
 use Rattle.std.proofs.lemmas.{List.append-nil, List.Elements.filter-append}
 use mathlib.Core.Option.{none}
 use Rattle.atomic_table.specs.Table.{step}
-use Rattle.turn_lock.specs.{Kept, Known, Stage, Waits, Holds, View, Living, Entry, Log, number_of, calls_of, BeginsWith, last_state, IsHistory, Seated, at_stage, having_seen, looked, Took, Goes_on, Stands, HasCalled, HasLooked, Rests, Awaits, Draws, Makes, Lends, Takes, IsReady, GivesOn}
+use Rattle.turn_lock.specs.{Kept, Known, Stage, Waits, Holds, Living, Entry, Log, number_of, calls_of, BeginsWith, last_state, IsHistory, Seated, at_stage, having_seen, looked, Took, Goes_on, Stands, HasCalled, HasLooked, Rests, Awaits, Draws, Makes, Lends, Takes, IsReady, GivesOn}
 use Rattle.turn_lock.specs.Turns.{Turns}
 use Rattle.turn_lock.proofs.{HistoryLemmas.last-append, HistoryLemmas.said_last, SeatLemmas.known_or, StepLemmas.elim_waits}
-
--- two seats that are one know the same
-pub one_known : {S Ask Answer C : Type 0} (known other : Known S Ask Answer) (c d : C) → let me : View S Ask Answer × C = (Living known, c) in me ≡ (Living other, d) → known ≡ other
-one_known known other c d e = ap (λ m. known_or known m.0) e
 
 module _ {Ask Answer : Type 0} where
   -- the calls of a number in one more call of it, and in one of another
@@ -37,11 +33,6 @@ module _ {S Ask Answer : Type 0} (does : S → Ask → Answer × S) where
   -- a look that finds the own ticket takes the slot
   pub takes_it : (before after : Seated S Ask Answer) (found ticket : ℕ) → looked does (step 0 0 0 0 none) before found after → Awaits before ticket → found ≡ ticket → Takes does before after
   takes_it before after found ticket told waits own known t is stage = (looked_at before after found told known t is stage).0 (own ∙ one_ticket_of before ticket waits known t is stage)
-
-  -- a look that finds another changes nothing
-  pub waits_on : (before after : Seated S Ask Answer) (found ticket : ℕ) → looked does (step 0 0 0 0 none) before found after → Awaits before ticket → found ≢ ticket → after ≡ before
-  waits_on before after found ticket told waits other =
-      (looked_at before after found told waits.0 waits.1 waits.2 waits.3).1 (λ e. other (e ∙ sym waits.4)) ∙ sym waits.2
 
   called : (known : Known S Ask Answer) (number : ℕ) (ask : Ask) (t : ℕ) (taken : Seated S Ask Answer) (took : Took does (at_stage known (Waits t)) t taken) (left : Kept S Ask Answer)
       (answer : Answer) → known.number ≡ number

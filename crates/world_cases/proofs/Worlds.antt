@@ -1,21 +1,16 @@
 -- What the tests' own conditions rest on.
-use Rattle.std.proofs.Common.{◌≡◌, ℕ, ◌-◌, ◌<◌, ◌^◌, List, [], Some, refl, sym, ap, subst, arith}
-use Rattle.srp_base.specs.declared.{numbers.Cs.Cs, ports.PortChange.PortChange}
+use Rattle.std.proofs.Common.{◌≡◌, ℕ, ◌-◌, ◌<◌, ◌^◌, List, Some, refl, ap, subst}
+use Rattle.srp_base.specs.declared.{numbers.Cs.Cs}
 use Rattle.tree_topology.specs.Topology.{Topology}
 use Rattle.node_core.specs.State.{NodeState}
 use Rattle.std.specs.List.{AllByRecursion}
 use Rattle.world_core.specs.declared.{events.WorldEvent.WorldEvent, events.WorldEvent.TheVariants.Clock}
-use Rattle.world_core.specs.{World.WorldState, World.node_at, World.CanHappen, World.CanAllHappen, During.IsAllowed, During.IsDuring, Kept.IsKeptWorld, Timeline.AreChanges}
+use Rattle.world_core.specs.{World.WorldState, World.node_at, World.CanHappen, World.CanAllHappen, During.IsAllowed, During.IsDuring, Kept.IsKeptWorld}
+pub use Rattle.world_core.proofs.Timelines.{none_are}
 
 -- where the clock of node 1 is below 2^61, the clock goes on: all nodes have one clock
 pub clock_goes_on : (w : WorldState) (t : NodeState) → IsKeptWorld w → node_at (record { 0 = 1 }) w ≡ Some t → t.clock.0 < 2 ^ 61 → CanHappen Clock w
 clock_goes_on w t kept there below n s is = subst (λ (c : Cs). c.0 < 2 ^ 61) (kept.clock 0 (n.0 - 1) t s there is) below
-
--- no change is in order, in every tree and before every tick
-pub none_are : (tree : Topology) (tick : ℕ) (changes : List PortChange) → changes ≡ [] → AreChanges tree tick changes
-none_are tree tick changes none =
-    subst (AreChanges tree tick) (sym none)
-    (record { ascend = λ i j d lt below. absurd (omega (arith, below)); ports = λ k d below. absurd (omega (arith, below)); before = λ k d below. absurd (omega (arith, below)) })
 
 -- what is allowed at any time may happen, one after the other
 pub all_can : (w : WorldState) (t : NodeState) (es : List WorldEvent) → IsKeptWorld w → node_at (record { 0 = 1 }) w ≡ Some t

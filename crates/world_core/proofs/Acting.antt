@@ -16,7 +16,7 @@ use Rattle.applicant.specs.Table.{is_observer}
 use Rattle.mvrp.specs.{Part.Part, Part.base, Part.octets, Part.sent_part, Side.Vlans, Side.has_own, Side.requested_vlans, Side.sent_vlans, Side.spoilt_vlans}
 use Rattle.attribute_propagation.specs.Ports.{place_of}
 use Rattle.flat_side.specs.Side.{with_part_at, with_part}
-use Rattle.msrp.specs.{PortState.PortState, Part.Part as SrpPart, Part.sent_part as srp_sent_part, Side.Streams, Side.requested_streams, Side.sent_streams, Side.spoilt_streams, Side.is_talk, Side.has_talk, Side.has_listen, Side.with_port, Side.with_part as with_srp_part, Side.with_port_at as streams_replaced, Stream.talk_of}
+use Rattle.msrp.specs.{PortState.PortState, Part.Part as SrpPart, Part.sent_part as srp_sent_part, Side.Streams, Side.requested_streams, Side.sent_streams, Side.spoilt_streams, Side.with_port, Side.with_part as with_srp_part, Side.with_port_at as streams_replaced}
 use Rattle.msrp.specs.declared.asking.SrpRequest.{SrpRequest}
 use Rattle.msrp.specs.declared.asking.SrpRequest.TheVariants as asks
 use Rattle.tree_topology.specs.declared.graph.Link.{Link}
@@ -30,7 +30,7 @@ use Rattle.node_core.specs.declared.types.NodeEvent.TheVariants as node_events
 use Rattle.node_core.specs.declared.types.PortStep.TheVariants.{Work, LeaveNow, LeaveAllNow, PeriodicNow, Due, Settle, Send}
 use Rattle.node_core.specs.{Links.lost_at, Links.repeated_at, Links.forged_at, Links.spoilt_at, State.NodeState, State.of_part, State.of_port, Step.node_step, Step.octets_to_say, Step.sent_octets}
 use Rattle.world_core.specs.{WorldEvent, Request, Port, Lose, Repeat, Forge, NodeSteps, Tick, WorldState, node_at, app_of, reaches, with_unsound_ends, with_loss, after_repeat, with_forgery, step_of_node, world_step, world_after, event_of, scripted_from, with_event, stream_at, talker_of_entry, step_events, after_script, after_steps, is_send, IsLegalTick, no_reservation, is_registered_row, registered_vids, node_force, force_at, HasPortsOf, is_act, acts_at, has_acted}
-use Rattle.world_core.proofs.{Nodes.node_other, Nodes.stepped_is, Reservations.same_force, Reservations.read_set, Reservations.force_changed, Timelines.after_both}
+use Rattle.world_core.proofs.{Nodes.node_other, Nodes.stepped_is, Reservations.same_force, Reservations.read_set, Reservations.force_changed, Timelines.after_both, StreamSteps.asked_ports}
 
 -- ---- a row that is sent is registered as before
 
@@ -95,9 +95,6 @@ part_sent now s =
 abbrev vids_at : ℕ → Vlans → List ℕ
 vids_at k side = of_part (λ part. registered_vids part.rows) [] k side
 
-abbrev booked_in : ℕ → Streams → List Entry
-booked_in k side = of_port (λ port. booked_of port.ledger.entries) [] k side
-
 -- a participant of MVRP has become one with the same VIDs
 part_replaced : (at k : ℕ) (change : Part → Part) → ((s : Part) → registered_vids (change s).rows ≡ registered_vids s.rows) → (side : Vlans) (o : Option Part) → slice_get side.parts at ≡ o
     → vids_at k (with_part o (λ s. with_part_at at (change s) side) side) ≡ vids_at k side
@@ -137,19 +134,9 @@ parts_either : (b : Bool) (side v w : Vlans) → v.parts ≡ side.parts → w.pa
 parts_either true side v w e f = e
 parts_either false side v w e f = f
 
-ports_either : (b : Bool) (side v w : Streams) → v.ports ≡ side.ports → w.ports ≡ side.ports → (if b then v else w).ports ≡ side.ports
-ports_either true side v w e f = e
-ports_either false side v w e f = f
-
 vlans_asked : (vid : ℕ) (declared : Bool) (side : Vlans) → (requested_vlans vid declared side).parts ≡ side.parts
 vlans_asked vid true side = parts_either (has_own vid side) side _ _ refl refl
 vlans_asked vid false side = parts_either (has_own vid side) side _ _ refl refl
-
-streams_asked : (request : SrpRequest) (side : Streams) → (requested_streams request side).ports ≡ side.ports
-streams_asked (asks.Talk talker) side = ports_either (is_talk (talk_of talker.stream side.talks) talker) side _ _ refl refl
-streams_asked (asks.Hush stream) side = ports_either (has_talk stream side) side _ _ refl refl
-streams_asked (asks.Listen stream) side = ports_either (has_listen stream side) side _ _ refl refl
-streams_asked (asks.Unlisten stream) side = ports_either (has_listen stream side) side _ _ refl refl
 
 asked_vlans : (vid : ℕ) (declared : Bool) (k : ℕ) (s : NodeState) → node_force k (record s { vlans = requested_vlans vid declared s.vlans }) ≡ node_force k s
 asked_vlans vid declared k s =
@@ -158,7 +145,7 @@ asked_vlans vid declared k s =
 asked_streams : (request : SrpRequest) (k : ℕ) (s : NodeState) → node_force k (record s { streams = requested_streams request s.streams }) ≡ node_force k s
 asked_streams request k s =
     with_streams k s (requested_streams request s.streams)
-    (λ X f none. ap (λ (ports : List PortState). option_map_or (λ (p : PortState). f p.ledger) (slice_get ports k) none) (streams_asked request s.streams))
+    (λ X f none. ap (λ (ports : List PortState). option_map_or (λ (p : PortState). f p.ledger) (slice_get ports k) none) (asked_ports request s.streams))
 
 asked_keeps : (request : AppRequest) (k : ℕ) (s : NodeState) → node_force k (node_step (node_events.Request request) s).0 ≡ node_force k s
 asked_keeps (Declare vid) k s = asked_vlans vid true k s

@@ -1,14 +1,13 @@
 -- The network of a scenario keeps what every network keeps.
-use Rattle.std.proofs.Common.{◌≡◌, ℕ, zero, suc, ◌+◌, ◌-◌, ◌*◌, ◌<◌, ◌≤◌, ◌^◌, Bool, true, false, if◌then◌else◌, List, [], ◌∷◌, ◌++◌, length, map, fold, refl, sym, ap, subst, ◌∙◌, arith}
-use Rattle.std.specs.Prelude.{slice_get, Some, None, option_map, ◌==◌}
-use Rattle.std.specs.List.{cons_option}
+use Rattle.std.proofs.Common.{◌≡◌, ℕ, zero, suc, ◌+◌, ◌-◌, ◌*◌, ◌<◌, ◌≤◌, ◌^◌, Bool, true, false, List, [], ◌∷◌, length, map, fold, refl, sym, ap, subst, ◌∙◌, arith}
+use Rattle.std.specs.Prelude.{slice_get, Some, option_map}
 use Rattle.std.proofs.lemmas.Option.{slice_get_within}
 use Rattle.srp_base.proofs.Lists.{mapped_length, all_each, at_each}
 use Rattle.srp_base.specs.declared.{bandwidth.Class.Class, numbers.Cs.Cs, numbers.EgressPort.EgressPort, numbers.BridgeId.BridgeId, ports.PortSetup.PortSetup}
 use Rattle.tree_topology.specs.declared.graph.NodeKind.{NodeKind}
-use Rattle.tree_topology.specs.{Topology.Topology, Topology.HasPort, Topology.IsSound, Ports.peer_of, Ports.far_end, Ports.neighbours, PortLaws.HasPortLaws}
+use Rattle.tree_topology.specs.{Topology.Topology, Topology.HasPort, Topology.IsSound, Ports.peer_of, Ports.neighbours, PortLaws.HasPortLaws}
 use Rattle.topology_file.specs.declared.{entries.NodeEntry.NodeEntry, entries.LinkEntry.LinkEntry}
-use Rattle.topology_file.specs.{Plan.Plan, Scenario.KeepsRules, Scenario.tree_links, Scenario.ends_of_entry}
+use Rattle.topology_file.specs.{Plan.Plan, Scenario.KeepsRules, Scenario.tree_links}
 use Rattle.mrp_participant.specs.{Link.LinkEvent, Link.EndEvent.Declares, Link.LinkEvent.AtNear, State.State, State.new_state, State.declared_state, MarkedLink.MarkedLink, MarkedLink.AreMarkedDutiesMet, MarkedLink.unmarked, MarkedLink.new_marked_link, MarkedLink.other_marked_view, MarkedLink.after_marked_event}
 use Rattle.msrp_codec.specs.declared.{pdu.MsrpKey.MsrpKey, pdu.MsrpContent.MsrpContent}
 use Rattle.msrp_codec.specs.Content.{base_octets, octets_of}
@@ -17,24 +16,14 @@ use Rattle.msrp.specs.declared.domain.DomainSet.{DomainSet}
 use Rattle.mvrp.specs.Part.{Part}
 use Rattle.attribute_propagation.specs.Ports.{place_of}
 use Rattle.node_core.specs.{State.NodeState, State.box_at, State.new_node, Proper.IsProperNode}
-use Rattle.world_core.specs.{domain_set, setup_of, end_setup, setups_from, nodes_from, world_of, inbox, outbox, part_at, FitsTree, IsKeptWorld, EndMark, mark_at, no_mark}
-use Rattle.world_core.proofs.{Nodes.Base, Nodes.node_there, Nodes.part_is, Nodes.inbox_is, Nodes.outbox_is, EventSteps.HasMarks, NewMarks.mark_none, NewMarks.new_of, Views.AppView, Views.AreMet, Views.Boxed, Views.met_same, VlanSteps.vlan_view, StreamSteps.stream_view, Keeping.kept_whole}
+use Rattle.topology_file.proofs.EntryLemmas.{one_end}
+use Rattle.world_core.specs.{domain_set, setup_of, setups_from, nodes_from, world_of, inbox, outbox, part_at, FitsTree, IsKeptWorld, EndMark, mark_at, no_mark}
+use Rattle.world_core.proofs.{Nodes.Base, Nodes.node_there, Nodes.part_is, Nodes.inbox_is, Nodes.outbox_is, EventSteps.HasMarks, NewMarks.mark_none, NewMarks.new_of, Views.AppView, Views.AreMet, Views.Boxed, Views.met_same, VlanSteps.vlan_view, StreamSteps.stream_view, Keeping.kept_whole, Carrying.box_new}
 
 -- a port for each link of the node
-one_end : (n x : ℕ) (l : LinkEntry) (rest : List PortSetup) (others : List ℕ) → length rest ≡ length others
-    → length (end_setup n x l ++ rest) ≡ length (cons_option (far_end x (ends_of_entry l)) others)
-one_end n x l rest others e = by (l.a.0 == x) (l.b.0 == x)
-  where
-    by : (a b : Bool)
-        → length ((if a then setup_of (2 * n - 1) l ∷ [] else if b then setup_of (2 * n) l ∷ [] else []) ++ rest)
-        ≡ length (cons_option (if a then Some l.b.0 else (if b then Some l.a.0 else None)) others)
-    by true b = ap suc e
-    by false true = ap suc e
-    by false false = e
-
 pub ports_length : (n x : ℕ) (links : List LinkEntry) → length (setups_from n x links) ≡ length (neighbours (tree_links links) x)
 ports_length n x [] = refl
-ports_length n x (l ∷ links) = one_end n x l (setups_from (n + 1) x links) (neighbours (tree_links links) x) (ports_length (n + 1) x links)
+ports_length n x (l ∷ links) = one_end x l (setup_of (2 * n - 1) l) (setup_of (2 * n) l) (setups_from (n + 1) x links) (neighbours (tree_links links) x) (ports_length (n + 1) x links)
 
 -- the node at a place is a new one, of its entry
 pub record IsNewNode (plan : Plan) (entries : List NodeEntry) (first x : ℕ) (s : NodeState) : Type 0 where
@@ -56,12 +45,6 @@ new_at plan (n ∷ entries) first (suc x) s get =
 nodes_length : (plan : Plan) (first : ℕ) (entries : List NodeEntry) → length (nodes_from plan first entries) ≡ length (map (λ (n : NodeEntry). n.kind) entries)
 nodes_length plan first [] = refl
 nodes_length plan first (n ∷ entries) = ap suc (nodes_length plan (first + 1) entries)
-
--- a new participant, with nothing in its boxes
-no_wires : (ports : List PortSetup) (at : ℕ) → box_at at (map (λ _. []) ports) ≡ []
-no_wires [] at = refl
-no_wires (p ∷ ports) zero = refl
-no_wires (p ∷ ports) (suc at) = no_wires ports at
 
 -- ---- a link between two participants as a network begins with them
 
@@ -191,8 +174,8 @@ module _ (plan : Plan) (rules : KeepsRules plan)
         (ap (v.part (place_of p.port)) (sym new.is) ∙ (sym (part_is v p (world_of plan) s is) ∙ get)) in
         record {
           begun = one;
-          in_none = inbox_is p (world_of plan) s is ∙ (ap (λ (r : NodeState). box_at (place_of p.port) r.inboxes) new.is ∙ no_wires setups (place_of p.port));
-          out_none = outbox_is p (world_of plan) s is ∙ (ap (λ (r : NodeState). box_at (place_of p.port) r.outboxes) new.is ∙ no_wires setups (place_of p.port));
+          in_none = inbox_is p (world_of plan) s is ∙ (ap (λ (r : NodeState). box_at (place_of p.port) r.inboxes) new.is ∙ box_new setups (place_of p.port));
+          out_none = outbox_is p (world_of plan) s is ∙ (ap (λ (r : NodeState). box_at (place_of p.port) r.outboxes) new.is ∙ box_new setups (place_of p.port));
         }
 
     pub met_start : AreMet v (world_of plan)

@@ -16,7 +16,7 @@ use Rattle.node_core.specs.declared.types.NodeEvent.TheVariants as node_events
 use Rattle.node_core.specs.declared.types.PortStep.TheVariants.{Work, LeaveNow, LeaveAllNow, PeriodicNow, Due, Settle, Send}
 use Rattle.node_core.specs.{State.NodeState, State.box_at, Step.node_step, Step.port_step, Step.after_work, Step.worked_app, Links.with_outbox, Links.with_carried, Links.lost_at, Links.repeated_at, Links.forged_at, Links.spoilt_at}
 use Rattle.world_core.specs.{WorldEvent, Request, Port, Lose, Repeat, Forge, Carry, Clock, NodeSteps, Tick, WorldState, node_at, with_node, with_changed, outbox, app_of, reaches, with_unsound_ends, with_loss, after_repeat, with_forgery, after_carrying, world_step, world_after, world_of, nodes_from, event_of, stream_at, with_event, scripted_from, script_at, step_events, closing_events, tick_events, after_script, after_steps, is_send, IsDuring, NothingWaits, has_send}
-use Rattle.world_core.proofs.{Nodes.stepped_is, StepBoxes.asked_boxes, StepBoxes.spoilt_boxes, Reservations.read_map, Happenings.carried_none, Runs.after_append, Runs.trees_stay}
+use Rattle.world_core.proofs.{Nodes.stepped_is, StepBoxes.asked_boxes, StepBoxes.spoilt_boxes, Reservations.read_map, Happenings.carried_none, Runs.after_append, Runs.trees_stay, Boxes.box_none}
 
 -- ---- at a node
 
@@ -28,13 +28,8 @@ box_stays (b ∷ boxes) zero (suc k) none = none
 box_stays (b ∷ boxes) (suc i) zero none = none
 box_stays (b ∷ boxes) (suc i) (suc k) none = box_stays boxes i k none
 
-box_emptied : (boxes : List (List Wire)) (k : ℕ) → box_at k (slice_set boxes k []) ≡ []
-box_emptied [] k = refl
-box_emptied (b ∷ boxes) zero = refl
-box_emptied (b ∷ boxes) (suc k) = box_emptied boxes k
-
 -- all boxes are empty where a node is new
-box_new : (ports : List PortSetup) (k : ℕ) → box_at k (map (λ _. []) ports) ≡ []
+pub box_new : (ports : List PortSetup) (k : ℕ) → box_at k (map (λ _. []) ports) ≡ []
 box_new [] k = refl
 box_new (p ∷ ports) zero = refl
 box_new (p ∷ ports) (suc k) = box_new ports k
@@ -206,7 +201,7 @@ own_emptied p w =
     by None is = ap (λ (o : Option NodeState). option_map_or (λ s. box_at (place_of p.port) s.outboxes) o []) is
     by (Some s) is =
         let k = place_of p.port in
-        ap (λ (o : Option NodeState). option_map_or (λ r. box_at k r.outboxes) o []) (get_set w.nodes (p.node.0 - 1) s (with_outbox k [] s) is) ∙ box_emptied s.outboxes k
+        ap (λ (o : Option NodeState). option_map_or (λ r. box_at k r.outboxes) o []) (get_set w.nodes (p.node.0 - 1) s (with_outbox k [] s) is) ∙ box_none s.outboxes k
 
 abbrev no_link : Link
 no_link = record { a = record { 0 = 0 }; b = record { 0 = 0 } }
@@ -255,9 +250,6 @@ start_waits_none plan p has = entries_wait_none plan 1 plan.nodes (p.node.0 - 1)
 module _ (ports : (tree : Topology) → IsSound tree → HasPortLaws tree) (plan : Plan) (t : ℕ) (w : WorldState) (tick : Tick) (during : IsDuring plan.tree t w) where
   sound : HasPortLaws plan.tree
   sound = ports plan.tree (subst IsSound during.tree_is during.kept.tree)
-
-  script : List WorldEvent
-  script = map (λ (e : ℕ × WorldEvent). e.1) (script_at plan t)
 
   -- where no step was Send, the carrying at the end of the tick does nothing
   pub none_carried : NothingWaits w → has_send tick.steps ≡ false → world_after (map Carry (link_ports plan.tree)) (after_steps plan t tick w) ≡ after_steps plan t tick w

@@ -10,9 +10,10 @@ use Rattle.frame_flow.specs.{Force.is_port, Force.changes_at, Force.last_upto, F
 use Rattle.topology_file.specs.Plan.{Plan}
 use Rattle.attribute_propagation.specs.Ports.{place_of}
 use Rattle.node_core.specs.State.{NodeState, slope_at}
+use Rattle.frame_flow.proofs.LevelLemmas.{same-port, port-itself}
 use Rattle.world_core.specs.{WorldEvent, Tick, WorldState, node_at, world_after, world_of, script_at, step_events, after_steps, closing_events, tick_events, events_from, IsMoment, caps_at, booked_at_port, IsWithinLimits, no_reservation, said_by, node_force, force_at, world_after_ticks, IsAfterSteps, IsTimelineOf}
 use Rattle.world_core.specs.Reservation.{Reservation}
-use Rattle.world_core.proofs.{PortOrder.AreInOrder, PortOrder.port_itself, PortOrder.same_port, PortOrder.before_other, PortOrder.earlier_is, PortOrder.order_from_pairs, PortOrder.at_append, PortOrder.upto_append, Timelines.after_both}
+use Rattle.world_core.proofs.{PortOrder.AreInOrder, PortOrder.before_other, PortOrder.earlier_is, PortOrder.order_from_pairs, PortOrder.at_append, PortOrder.upto_append, Timelines.after_both}
 
 -- ---- a change is in force in its own tick
 
@@ -22,9 +23,9 @@ later_none c newest [] h = refl
 later_none c newest (d ∷ ds) h =
     elim (cases_Bool (is_port d.at c.at)) [
       | inl is ↦ (
-          let here = same_port d.at c.at is in
+          let here = same-port d.at c.at is in
           elim (earlier_is c d h.0) [
-            | inl b ↦ absurd (false≢true (sym (before_other c.at d.at b) ∙ subst (λ (q : EgressPort). is_port c.at q ≡ true) (sym here) (port_itself c.at)))
+            | inl b ↦ absurd (false≢true (sym (before_other c.at d.at b) ∙ subst (λ (q : EgressPort). is_port c.at q ≡ true) (sym here) (port-itself c.at)))
             | inr b ↦ (
                 let lt = b.1 in
                 ap (last_upto c.tick newest) (cond-true (is_port d.at c.at) (d ∷ changes_at ds c.at) (changes_at ds c.at) is)
@@ -39,7 +40,7 @@ own_tick before c after h =
     let p = c.at in
     let rest = changes_at after p in
     let newest = in_force c.tick (changes_at before p) in
-    ap (in_force c.tick) (at_append p before (c ∷ after) ∙ ap (λ (ds : List PortChange). changes_at before p ++ ds) (cond-true (is_port c.at p) (c ∷ rest) rest (port_itself p)))
+    ap (in_force c.tick) (at_append p before (c ∷ after) ∙ ap (λ (ds : List PortChange). changes_at before p ++ ds) (cond-true (is_port c.at p) (c ∷ rest) rest (port-itself p)))
     ∙ upto_append c.tick None (changes_at before p) (c ∷ rest)
     ∙ ap (λ (o : Option PortChange). last_upto c.tick o rest) (cond-true (nat_le c.tick c.tick) (Some c) newest (le-leb c.tick c.tick (omega arith)))
     ∙ later_none c (Some c) after h

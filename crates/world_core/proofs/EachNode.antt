@@ -6,11 +6,12 @@ use Rattle.std.specs.Option.{option_map_or}
 use Rattle.srp_base.specs.declared.{numbers.NodeNo.NodeNo, numbers.EgressPort.EgressPort, mrp.App.App}
 use Rattle.tree_topology.specs.Ports.{peer_of}
 use Rattle.attribute_propagation.specs.Ports.{place_of}
+use Rattle.attribute_propagation.proofs.Lists.{set_each}
 use Rattle.node_core.specs.declared.{types.NodeEvent.NodeEvent, types.Wire.Wire}
 use Rattle.node_core.specs.declared.types.NodeEvent.TheVariants as node_events
 use Rattle.node_core.specs.{Links.spoilt_at, Links.with_outbox, Links.with_carried, Links.lost_at, Links.repeated_at, Links.forged_at, State.NodeState, Step.node_step}
 use Rattle.world_core.specs.{WorldEvent, Request, Port, Lose, Repeat, Forge, Carry, Clock, WorldState, node_at, with_changed, step_of_node, with_unsound_ends, with_loss, after_repeat, with_forgery, app_of, reaches, outbox, world_step}
-use Rattle.world_core.proofs.{Lists.set_each, Nodes.stepped_is, Nodes.ticked_get}
+use Rattle.world_core.proofs.Nodes.{stepped_is, ticked_get}
 
 -- something holds of each node, by its place
 abbrev pub AllNodes : (ℕ → NodeState → Type 0) → WorldState → Type 0

@@ -1,32 +1,16 @@
 -- What changes at the two ends of one link, and nowhere else, keeps the duties of all links in an application if it keeps those
 -- of this one.
-use Rattle.std.proofs.Common.{◌≡◌, ◌≢◌, ◌⊎◌, inl, inr, ℕ, ◌-◌, ◌<◌, List, ◌++◌, refl, sym, ap, subst, ◌∙◌, arith}
-use Rattle.std.specs.Prelude.{Some, option_map, IsTrue}
+use Rattle.std.proofs.Common.{◌≡◌, ◌≢◌, ◌⊎◌, inl, inr, ℕ, ◌<◌, List, ◌++◌, refl, sym, ap, subst, ◌∙◌, arith}
+use Rattle.std.specs.Prelude.{Some, option_map}
 use Rattle.srp_base.specs.declared.numbers.EgressPort.{EgressPort}
-use Rattle.tree_topology.specs.{Topology.Topology, Topology.HasPort, Ports.peer_of, PortLaws.HasPortLaws, Walk.is_behind}
+use Rattle.tree_topology.specs.{Topology.Topology, Topology.HasPort, Ports.peer_of, PortLaws.HasPortLaws}
 use Rattle.mrp_participant.specs.{MarkedLink.MarkedLink, MarkedLink.AreMarkedDutiesMet, MarkedLink.other_marked_view, State.State}
+use Rattle.tree_topology.proofs.EgressPorts.{decide_port, other_place, other_node}
 use Rattle.attribute_propagation.specs.Ports.{place_of}
 use Rattle.node_core.specs.declared.types.Wire.{Wire}
 use Rattle.node_core.specs.{Proper.IsProperNode, State.NodeState, State.box_at, State.ports_of}
 use Rattle.world_core.specs.{WorldState, node_at, with_changed, inbox, outbox, EndMark, MarksState, BothMarks, mark_at, part_at, marked_link}
-use Rattle.world_core.proofs.{Lists.decide_port, Lists.same_numbers, Views.AppView, Views.AreMet, Views.Met, Views.Boxed, Views.KeepsLink, Views.met_same, Nodes.Base, Nodes.SameAt, Nodes.SameAtPort, Nodes.same_port, Nodes.node_same, Nodes.same_tree, Nodes.node_there, Nodes.part_there, Nodes.part_is, Nodes.inbox_is, Nodes.outbox_is}
-
-module _ (tree : Topology) (laws : HasPortLaws tree) where
-  -- a port's peer is at another node
-  pub other_node : (p : EgressPort) → HasPort tree p → (peer_of tree.links p).node.0 ≢ p.node.0
-  other_node p has e = laws.own p has (subst (λ (x : ℕ). IsTrue (is_behind tree.links p x)) e (laws.far p has))
-
-  pub other_end : (p : EgressPort) → HasPort tree p → peer_of tree.links p ≢ p
-  other_end p has e = other_node p has (ap (λ (r : EgressPort). r.node.0) e)
-
--- ports of one node that differ have other places
-pub other_place : (tree : Topology) (p e : EgressPort) → HasPort tree p → HasPort tree e → e.node.0 - 1 ≡ p.node.0 - 1 → p ≢ e → place_of e.port ≢ place_of p.port
-other_place tree p e hp he same ne is =
-    let p1 = hp.0.0 in
-    let e1 = he.0.0 in
-    let p2 = hp.1 in
-    let e2 = he.1 in
-    ne (same_numbers p e (omega (arith, same, p1, e1)) (omega (arith, is, p2, e2)))
+use Rattle.world_core.proofs.{Views.AppView, Views.AreMet, Views.Met, Views.Boxed, Views.KeepsLink, Views.met_same, Nodes.Base, Nodes.SameAt, Nodes.SameAtPort, Nodes.same_port, Nodes.node_same, Nodes.same_tree, Nodes.node_there, Nodes.part_there, Nodes.part_is, Nodes.inbox_is, Nodes.outbox_is}
 
 module _ {K C : Type 0} (v : AppView K C) where
   -- what a port's link keeps in a network over a tree, with these marks

@@ -7,7 +7,9 @@ use Rattle.srp_base.proofs.Options.{one_some}
 use Rattle.srp_base.specs.declared.{numbers.NodeNo.NodeNo, numbers.EgressPort.EgressPort, mrp.App.App}
 use Rattle.tree_topology.specs.{Topology.Topology, Topology.HasPort, Ports.peer_of, PortLaws.HasPortLaws}
 use Rattle.mrp_participant.specs.{State.State, State.Messages, Link.with_repeat as twice_in, Link.EndEvent.Repeats, Link.LinkEvent.AtFar, MarkedLink.AreMarkedDutiesMet}
+use Rattle.tree_topology.proofs.EgressPorts.{other_place, other_node}
 use Rattle.attribute_propagation.specs.Ports.{place_of}
+use Rattle.flat_side.proofs.Lists.{said_twice}
 use Rattle.node_core.specs.declared.{types.Wire.Wire, types.AppRequest.AppRequest, types.NodeEvent.NodeEvent, types.PortStep.PortStep, types.StepReply.StepReply}
 use Rattle.node_core.specs.declared.types.NodeEvent.TheVariants as node_events
 use Rattle.node_core.specs.declared.types.PortStep.TheVariants as steps
@@ -15,7 +17,7 @@ use Rattle.node_core.specs.declared.types.StepReply.TheVariants.{Nothing, Discar
 use Rattle.node_core.specs.{Leaving.has_leave_all, Leaving.is_leave_all_at, Wires.without, Wires.with_wire, State.NodeState, State.box_at, Step.node_step, Step.port_step, Links.with_outbox, Links.with_inbox, Links.with_carried, Links.lost_at, Links.repeated_at, Links.forged_at, Links.spoilt_at}
 use Rattle.world_core.specs.{WorldEvent, Request, Port, Lose, Repeat, Forge, Carry, Clock, WorldReply, Step, Done, EndMark, MarksState, BothMarks, IsOfTree, is_same_app, mark_at, count_of, without_mark, with_fewer, with_more, both_took, both_sent, both_lost, both_copied, both_forged, WorldState, node_at, with_changed, inbox, outbox, app_of, reaches, step_of_node, after_step, has_leave_all_next, marks_taking, marks_sending, marks_stepping, marks_losing, marks_copying, marks_forging, with_unsound_ends, with_loss, after_repeat, with_forgery, after_clock, world_step, CanHappen, part_at, marked_link, flags_of}
 use Rattle.world_core.specs.declared.events.WorldReply.TheVariants.{Missed}
-use Rattle.world_core.proofs.{Lists.nothing_lost, Lists.nothing_added, Lists.said_twice, Boxes.box_got, Boxes.box_other, Boxes.box_none, Counts.one_of, Counts.app_is, Counts.count_append, Counts.count_without, Counts.count_twice, Counts.count_with, Counts.count_some, Views.AppView, Views.LinkLaws, Views.StepFacts, Views.AreMet, Views.Met, Views.Boxed, Views.KeepsLink, Views.both_heard, Views.both_said, Views.both_stepped, Views.met_same, Views.unsound, StepBoxes.asked_boxes, StepBoxes.step_boxes, StepBoxes.spoilt_boxes, Nodes.Base, Nodes.SameAtPort, Nodes.same_then, Nodes.same_port, Nodes.by_states, Nodes.by_node, Nodes.node_same, Nodes.node_other, Nodes.same_tree, Nodes.same_marks, Nodes.stepped_is, Nodes.ticked_at, Nodes.node_there, Nodes.place_within, Nodes.inbox_there, Nodes.part_there, Nodes.part_is, Nodes.inbox_is, Nodes.outbox_is, Nodes.proper_at, Ends.MetOn, Ends.one_link, Ends.other_node, Ends.other_place, Ends.on_tree, Ends.nowhere, Ends.duties_changed, MarkSteps.AreChanged, MarkSteps.are_changed}
+use Rattle.world_core.proofs.{Lists.nothing_lost, Lists.nothing_added, Boxes.box_got, Boxes.box_other, Boxes.box_none, Counts.one_of, Counts.app_is, Counts.count_append, Counts.count_without, Counts.count_twice, Counts.count_with, Counts.count_some, Views.AppView, Views.LinkLaws, Views.StepFacts, Views.AreMet, Views.Met, Views.Boxed, Views.KeepsLink, Views.both_heard, Views.both_said, Views.both_stepped, Views.met_same, Views.unsound, StepBoxes.asked_boxes, StepBoxes.step_boxes, StepBoxes.spoilt_boxes, Nodes.Base, Nodes.SameAtPort, Nodes.same_then, Nodes.same_port, Nodes.by_states, Nodes.by_node, Nodes.node_same, Nodes.node_other, Nodes.same_tree, Nodes.same_marks, Nodes.stepped_is, Nodes.ticked_at, Nodes.node_there, Nodes.place_within, Nodes.inbox_there, Nodes.part_there, Nodes.part_is, Nodes.inbox_is, Nodes.outbox_is, Nodes.proper_at, Ends.MetOn, Ends.one_link, Ends.on_tree, Ends.nowhere, Ends.duties_changed, MarkSteps.AreChanged, MarkSteps.are_changed}
 
 -- the marks of a network are those of its tree
 pub record HasMarks (w : WorldState) : Type 0 where

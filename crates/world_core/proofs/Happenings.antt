@@ -9,13 +9,14 @@ use Rattle.srp_base.specs.declared.{numbers.NodeNo.NodeNo, numbers.EgressPort.Eg
 use Rattle.mvrp.specs.Part.{Part}
 use Rattle.tree_topology.specs.{Topology.Topology, Ports.peer_of}
 use Rattle.attribute_propagation.specs.Ports.{IsLinkPort, place_of}
+use Rattle.attribute_propagation.proofs.Lists.{set_each}
 use Rattle.flat_side.specs.Side.{with_part_at, with_part}
 use Rattle.node_core.specs.declared.{types.NodeEvent.NodeEvent, types.StepReply.StepReply, types.Wire.Wire}
 use Rattle.node_core.specs.{Holding.NodeHolding, Holding.states_in, State.NodeState, State.box_at, State.ports_of, Step.Stepped, Step.node_step, Links.with_outbox, Links.with_carried, Links.has_index, Links.has_place, Links.forged_at, Links.spoilt_at}
 use Rattle.node_core.proofs.Boxes.{set_same}
 use Rattle.world_core.specs.{MarksState, WorldState, Happened, world_with, after_step, step_of_node, StandsAt, nodes_with, with_changed, outbox, app_of, reaches, with_unsound_ends, with_forgery, after_carrying, Step, Done}
 use Rattle.world_core.specs.declared.events.WorldReply.TheVariants.{Missed}
-use Rattle.world_core.proofs.{Boxes.box_none, Lists.set_each}
+use Rattle.world_core.proofs.Boxes.{box_none}
 
 -- ---- the states of the nodes where the node at a place has changed in its place
 
@@ -321,12 +322,6 @@ module _ (f : NodeState → NodeState) where
   pub none_ticked : (nodes : List NodeHolding) → AreTicked f 0 nodes nodes
   none_ticked [] = refl
   none_ticked (x ∷ nodes) = refl
-
-  pub ticked_length : (count : ℕ) (before after : List NodeHolding) → AreTicked f count before after → length after ≡ length before
-  ticked_length count [] after is = ap length is
-  ticked_length zero (x ∷ before) after is = ap length is
-  ticked_length (suc count) (x ∷ before) [] is = absurd is
-  ticked_length (suc count) (x ∷ before) (y ∷ after) is = ap suc (ticked_length count before after is.1)
 
   -- the next node is as before
   pub next_as_before : (count : ℕ) (before after : List NodeHolding) (x : NodeHolding) → AreTicked f count before after → x ≡ get_or after count x → x ≡ get_or before count x

@@ -138,11 +138,6 @@ module _ (tick : ℕ) (s : NodeState) (n : NodeNo) where
   abbrev port_noted : ℕ → List PortChange → List PortChange
   port_noted k cs = changes_noted tick (port_of n.0 k) (node_force (place_of (port_of n.0 k).port) s) cs
 
-  pub ports_long : (k count : ℕ) (ports : List (List PortChange)) → length (ports_noted tick s n k count ports) ≡ length ports
-  ports_long k zero ports = refl
-  ports_long k (suc count) [] = refl
-  ports_long k (suc count) (cs ∷ ports) = ap suc (ports_long (k + 1) count ports)
-
   -- one more of them
   next_port : (k count : ℕ) (ports : List (List PortChange)) (cs : List PortChange) → count < length ports → cs ≡ get_or (ports_noted tick s n k count ports) count cs
       → set (ports_noted tick s n k count ports) count (port_noted (k + count) cs) ≡ ports_noted tick s n k (suc count) ports
@@ -261,10 +256,6 @@ module _ (tick : ℕ) (n : NodeNo) (w : WorldState) (own : EgressPort → List P
 -- ---- noting the nodes that have acted
 
 module _ (tick : ℕ) (w : WorldState) where
-  -- no node has
-  pub no_acts : (p : EgressPort) (cs : List PortChange) → act_noted tick [] w p cs ≡ cs
-  no_acts p cs = refl
-
   any_more : (f : NodeSteps → Bool) (made : List NodeSteps) (one : NodeSteps) → list_any f (made ++ one ∷ []) ≡ (list_any f made || f one)
   any_more f made one = list_any-append f made (one ∷ []) ∙ ap (λ (b : Bool). list_any f made || b) (or_nothing (f one))
     where

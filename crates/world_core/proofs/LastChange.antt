@@ -6,8 +6,9 @@ use Rattle.std.proofs.lemmas.{Bool.cond-true, Bool.cases_Bool, Bool.cases_lt, Bo
 use Rattle.srp_base.proofs.Lists.{Each-map as each_weaker}
 use Rattle.srp_base.specs.declared.{numbers.EgressPort.EgressPort, ports.PortChange.PortChange}
 use Rattle.frame_flow.specs.{Force.is_port, Force.changes_at, Force.in_force, Given.IsEarlier}
+use Rattle.frame_flow.proofs.LevelLemmas.{same-port}
 use Rattle.world_core.specs.{precedes}
-use Rattle.world_core.proofs.PortOrder.{IsBefore, before_along, after_other, same_port, is_same_port, earlier_is, kept_none, at_append, precedes_before, one_more_from}
+use Rattle.world_core.proofs.PortOrder.{IsBefore, before_along, after_other, is_same_port, earlier_is, kept_none, at_append, precedes_before, one_more_from}
 
 before_from : (p q : EgressPort) → precedes p q ≡ true → IsBefore p q
 before_from p q is =
@@ -73,7 +74,7 @@ module _ (p : EgressPort) where
       λ k d below. elim (cases_Bool (is_port (get_or cs k d).at p)) [
         | inr nay ↦ nay
         | inl is ↦ (
-            let here = same_port (get_or cs k d).at p is in
+            let here = same-port (get_or cs k d).at p is in
             elim (cases_lt k n) [
               | inr le ↦ subst (λ (j : ℕ). P (get_or cs j d)) (let e : n ≡ k = omega arith in e) (subst P (sym (end d)) other)
               | inl less ↦ elim (earlier_is (get_or cs k d) (get_or cs n d) (up k n d less lt)) [

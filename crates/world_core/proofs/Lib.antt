@@ -1,6 +1,6 @@
 mod Lists
 mod Boxes
-mod Counts
+pub mod Counts
 mod Views
 mod Nodes
 mod StepBoxes
@@ -20,9 +20,9 @@ mod NewMarks
 mod Beginnings
 mod NewRows
 mod Starting
-mod Runs
-mod OwnSteps
-mod OneByOne
+pub mod Runs
+pub mod OwnSteps
+pub mod OneByOne
 mod TickRuns
 mod EventLists
 mod Happenings
@@ -30,7 +30,7 @@ mod Carrying
 mod LinksCarried
 mod Scripts
 mod Standing
-mod Marked
+pub mod Marked
 mod Limits
 mod Talks
 mod PortOrder
@@ -38,7 +38,7 @@ mod Noting
 mod Picked
 mod LastChange
 mod Reservations
-mod Timelines
+pub mod Timelines
 mod Changes
 mod Places
 mod Acting
@@ -46,3 +46,5 @@ mod Histories
 mod NotedRuns
 pub mod InStep
 mod Whole
+pub mod TickParts
+pub mod LinkPorts

@@ -10,13 +10,14 @@ use Rattle.tree_topology.specs.Topology.{HasPort}
 use Rattle.topology_file.specs.declared.entries.LinkEntry.{LinkEntry}
 use Rattle.topology_file.specs.Plan.{Plan}
 use Rattle.attribute_propagation.specs.Ports.{place_of}
+use Rattle.attribute_propagation.proofs.Lists.{set_at}
 use Rattle.msrp.specs.declared.domain.DomainSet.{DomainSet}
 use Rattle.msrp.specs.{PortState.PortState, Proper.Setup, Proper.setup_of as port_setup, Side.IsPort, Side.new_port}
 use Rattle.node_core.specs.declared.types.NodeEvent.{NodeEvent}
 use Rattle.node_core.specs.declared.types.NodeEvent.TheVariants as node_events
 use Rattle.node_core.specs.{Links.spoilt_at, Proper.port_setups, State.NodeState, State.slope_at, Step.node_step}
 use Rattle.world_core.specs.{WorldEvent, Request, Port as PortEvent, Lose, Repeat, Forge, Carry, Clock, IsKeptWorld, is_link_of, links_of, caps_of_link, no_caps, caps_at, booked_at_port, IsWithinLimits, domain_set, setup_of, end_setup, setups_from, world_of, WorldState}
-use Rattle.world_core.proofs.{Lists.set_at, Beginnings.new_at, EachNode.AllNodes, EachNode.IsOfSides, EachNode.KeepsOwn, Keeping.base_kept, Nodes.node_there, Nodes.place_within, Nodes.proper_at, StreamSteps.calling, StreamSteps.spoilt_is, Views.unsound}
+use Rattle.world_core.proofs.{Beginnings.new_at, EachNode.AllNodes, EachNode.IsOfSides, EachNode.KeepsOwn, Keeping.base_kept, Nodes.node_there, Nodes.place_within, Nodes.proper_at, StreamSteps.calling, StreamSteps.spoilt_is, Views.unsound}
 
 -- what the ports of a node may give away, by how they are set up
 abbrev caps_in : NodeState → List Caps

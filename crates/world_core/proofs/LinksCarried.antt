@@ -1,8 +1,7 @@
 -- The carrying at the end of a tick, link by link.
-use Rattle.std.proofs.Common.{◌≡◌, ℕ, suc, ◌+◌, ◌-◌, ◌<◌, ◌≤◌, List, [], ◌∷◌, length, map, drop, get_or, sym, ap, ◌∙◌, arith}
+use Rattle.std.proofs.Common.{◌≡◌, ℕ, suc, ◌+◌, ◌-◌, ◌<◌, List, [], ◌∷◌, length, map, drop, get_or, sym, ap, ◌∙◌, arith}
 use Rattle.std.specs.List.{flat_map}
 use Rattle.std.proofs.Math.Seq.{drop-cons}
-use Rattle.srp_base.proofs.Lists.{drop_none as drop_all}
 use Rattle.srp_base.specs.declared.numbers.EgressPort.{EgressPort}
 use Rattle.tree_topology.specs.declared.graph.Link.{Link}
 use Rattle.tree_topology.specs.{Topology.Topology, Topology.link_ports, Ports.port_to, Ports.ends_of}
@@ -39,8 +38,3 @@ one_carried n start w v lt after tree c =
           ∙ (ap (λ (ls : List Link). world_after (map Carry (ports ls)) w) (sym cut) ∙ c.after);
       tree = tree ∙ c.tree;
     }
-
-pub all_carried : (n : ℕ) (start w : WorldState) → length start.tree.links ≤ n → IsCarriedTo n start w → w ≡ world_after (map Carry (link_ports start.tree)) start
-all_carried n start w le c =
-    let links : List Link = start.tree.links in
-    ap (λ (ls : List Link). world_after (map Carry (flat_map (λ l. port_to links l.a.0 l.b.0 ∷ port_to links l.b.0 l.a.0 ∷ []) ls)) w) (sym (drop_all links n le)) ∙ c.after

@@ -5,9 +5,10 @@ use Rattle.std.specs.Option.{option_map_or, option_and_then}
 use Rattle.srp_base.proofs.{Arithmetic.decide, Lists.get_set, Lists.get_set_other}
 use Rattle.srp_base.specs.declared.{numbers.EgressPort.EgressPort, mrp.App.App, mrp.App.TheVariants.Mvrp, mrp.App.TheVariants.Msrp}
 use Rattle.tree_topology.specs.{Topology.Topology, Topology.HasPort, Ports.peer_of, PortLaws.HasPortLaws}
+use Rattle.tree_topology.proofs.EgressPorts.{decide_port, other_place, other_end}
 use Rattle.attribute_propagation.specs.Ports.{place_of}
 use Rattle.world_core.specs.{EndMark, EndMarks, MarksState, BothMarks, IsOfTree, is_same_app, of_app, with_app, no_mark, end_in, mark_in, mark_at, row_with, ends_with, with_mark, with_both}
-use Rattle.world_core.proofs.{Lists.decide_port, Counts.app_is, Ends.other_end, Ends.other_place}
+use Rattle.world_core.proofs.Counts.{app_is}
 
 -- ---- one end
 

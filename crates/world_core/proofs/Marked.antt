@@ -59,7 +59,7 @@ forged_with at index wire tree m m' nodes new reply e f =
 
 -- ---- what the marks count
 
-count_length : (app : App) (ws : List Wire) → count_of app ws ≤ length ws
+pub count_length : (app : App) (ws : List Wire) → count_of app ws ≤ length ws
 count_length app [] = omega arith
 count_length app (w ∷ ws) = by (is_same_app app w.app) (count_length app ws)
   where
@@ -153,34 +153,8 @@ none_first : (e : EgressPort) (m : MarksState) (o : Option Wire) → option_map 
 none_first e m None is = refl
 none_first e m (Some wire) is = cc
 
-unclear_first : (e : EgressPort) (m : MarksState) (app : App) (o : Option Wire) → option_map (λ (x : Wire). x.app) o ≡ Some app → (mark_at app e m).clear ≡ false
-    → with_both app e (both_took false) m ≡ marks_taking e o m
-unclear_first e m app None is off = cc
-unclear_first e m app (Some wire) is off =
-    let own : app ≡ wire.app = cc in
-    ap (λ (b : Bool). with_both app e (both_took (b && has_leave_all wire)) m) (sym off)
-    ∙ ap (λ (a : App). with_both a e (both_took ((mark_at a e m).clear && has_leave_all wire)) m) own
-
-clear_first : (e : EgressPort) (m : MarksState) (app : App) (l : Bool) (o : Option Wire) → option_map (λ (x : Wire). x.app) o ≡ Some app → (mark_at app e m).clear ≡ true
-    → l ≡ option_map_or has_leave_all o false → with_both app e (both_took l) m ≡ marks_taking e o m
-clear_first e m app l None is on leaves = cc
-clear_first e m app l (Some wire) is on leaves =
-    let own : app ≡ wire.app = cc in
-    ap (λ (b : Bool). with_both app e (both_took b) m) leaves
-    ∙ (ap (λ (b : Bool). with_both app e (both_took (b && has_leave_all wire)) m) (sym on)
-    ∙ ap (λ (a : App). with_both a e (both_took ((mark_at a e m).clear && has_leave_all wire)) m) own)
-
 pub takes_nothing : (e : EgressPort) (w : WorldState) → None ≡ app_of e 0 w → w.marks ≡ marks_taking e (slice_get (inbox e w) 0) w.marks
 takes_nothing e w is = none_first e w.marks (slice_get (inbox e w) 0) (sym is)
-
-pub takes_unclear : (e : EgressPort) (w : WorldState) (app : App) → Some app ≡ app_of e 0 w → (mark_at app e w.marks).clear ≡ false
-    → with_both app e (both_took false) w.marks ≡ marks_taking e (slice_get (inbox e w) 0) w.marks
-takes_unclear e w app is off = unclear_first e w.marks app (slice_get (inbox e w) 0) (sym is) off
-
-pub takes_clear : (e : EgressPort) (w : WorldState) (app : App) (l : Bool) → Some app ≡ app_of e 0 w → (mark_at app e w.marks).clear ≡ true
-    → l ≡ option_map_or has_leave_all (slice_get (inbox e w) 0) false
-    → with_both app e (both_took l) w.marks ≡ marks_taking e (slice_get (inbox e w) 0) w.marks
-takes_clear e w app l is on leaves = clear_first e w.marks app l (slice_get (inbox e w) 0) (sym is) on leaves
 
 -- the next PDU of an application, by the port's node
 next_in : App → EgressPort → Option NodeState → Bool

@@ -8,12 +8,13 @@ use Rattle.srp_base.specs.declared.{numbers.NodeNo.NodeNo, numbers.EgressPort.Eg
 use Rattle.tree_topology.specs.{Topology.HasPort, Topology.IsSound, Ports.neighbours}
 use Rattle.mrp_participant.specs.State.{State}
 use Rattle.attribute_propagation.specs.Ports.{place_of}
+use Rattle.attribute_propagation.proofs.Lists.{set_each}
 use Rattle.node_core.specs.declared.{types.Wire.Wire, types.NodeEvent.NodeEvent}
 use Rattle.node_core.specs.{State.NodeState, State.box_at, State.ports_of, Proper.IsProperNode, Step.node_step}
 use Rattle.node_core.specs.declared.types.NodeEvent.TheVariants as node_events
 use Rattle.world_core.specs.declared.events.WorldReply.TheVariants.{Missed}
 use Rattle.world_core.specs.{WorldState, node_at, with_changed, after_step, step_of_node, inbox, outbox, part_at, FitsTree}
-use Rattle.world_core.proofs.{Views.AppView, Lists.set_each}
+use Rattle.world_core.proofs.Views.{AppView}
 
 module _ (n : NodeNo) (change : NodeState → NodeState) (w : WorldState) where
   -- the node itself, and the others

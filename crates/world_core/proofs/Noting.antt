@@ -1,8 +1,8 @@
 -- What the noting of a tick makes of changes: they stay in order, and say from that tick on what is in force.
-use Rattle.std.proofs.Common.{◌≡◌, ℕ, zero, suc, ◌+◌, ◌<◌, ◌≤◌, inl, inr, true, false, List, [], ◌∷◌, ◌++◌, length, map, None, refl, sym, ◌∙◌, ap, subst, arith, append-nil, append_assoc}
+use Rattle.std.proofs.Common.{◌≡◌, ℕ, zero, suc, ◌+◌, ◌<◌, ◌≤◌, inl, inr, true, List, [], ◌∷◌, ◌++◌, length, map, None, refl, sym, ◌∙◌, ap, subst, arith, append-nil, append_assoc}
 use Rattle.std.specs.Prelude.{flat_map, ◌==◌, ◌&&◌}
 use Rattle.std.specs.{List.AllByRecursion, List.range_with_len, Cmp.Lexicographic.pointwise_decides}
-use Rattle.std.proofs.lemmas.{Bool.cond-true, Bool.cond-false, Bool.cond_both, Bool.cases_Bool, Bool.eqb-true, Bool.eqb-false, Bool.eq-eqb, Bool.and_parts, List.map-append, List.Concat.flat_map-append, List.Elements.All-from_recursion, List.Elements.recursion_from_All}
+use Rattle.std.proofs.lemmas.{Bool.cond-true, Bool.cond_both, Bool.cases_Bool, Bool.eqb-true, Bool.eqb-false, Bool.eq-eqb, Bool.and_parts, List.map-append, List.Concat.flat_map-append, List.Elements.All-from_recursion, List.Elements.recursion_from_All}
 use Rattle.srp_base.proofs.{Lists.range-push as range_push, Lists.each_of_map, Arithmetic.numbers as each_of_range, Lists.each_append, Lists.Each-map as each_weaker, Lists.each_filter}
 use Rattle.srp_base.specs.declared.{numbers.EgressPort.EgressPort, numbers.StreamId.StreamId, ports.PortChange.PortChange}
 use Rattle.tree_topology.specs.declared.graph.Link.{Link}
@@ -121,11 +121,6 @@ pub lacks_none : (tick : ℕ) (p : EgressPort) (f : Reservation) (cs items : Lis
 lacks_none tick p f cs items is =
     sym (ap (λ (ds : List PortChange). items ++ ds) (cond-true (is_same (said_by (in_force tick cs)) f) [] (change_of tick p f ∷ []) is) ∙ append-nil items)
 
-pub lacks_one : (tick : ℕ) (p : EgressPort) (f : Reservation) (cs items : List PortChange)
-    → is_same (said_by (in_force tick cs)) f ≡ false → items ++ change_of tick p f ∷ [] ≡ items ++ lacking tick p f cs
-lacks_one tick p f cs items nay =
-    sym (ap (λ (ds : List PortChange). items ++ ds) (cond-false (is_same (said_by (in_force tick cs)) f) [] (change_of tick p f ∷ []) nay))
-
 -- ---- the changes of one tick more
 
 abbrev pub noted_by : ℕ → (EgressPort → Reservation) → List EgressPort → List PortChange → List PortChange
@@ -239,12 +234,6 @@ module _ (tree : Topology) (tick : ℕ) (force : EgressPort → Reservation) (ch
       (recursion_from_All (λ (c : PortChange). HasPort tree c.at) changes are.ports))
 
 -- ---- what is lacking, node by node and port by port
-
-range_pushed : (a n : ℕ) → range_with_len a (suc n) ≡ range_with_len a n ++ (a + n) ∷ []
-range_pushed a zero = ap (λ (k : ℕ). k ∷ []) (let e : a ≡ a + 0 = omega arith in e)
-range_pushed a (suc n) =
-    ap (λ (ks : List ℕ). a ∷ ks) (range_pushed (a + 1) n)
-    ∙ ap (λ (k : ℕ). (a ∷ range_with_len (a + 1) n) ++ k ∷ []) (let e : a + 1 + n ≡ a + suc n = omega arith in e)
 
 flat_one : {X : Type 0} (f : X → List PortChange) (x : X) → flat_map f (x ∷ []) ≡ f x
 flat_one f x = append-nil (f x)

@@ -6,13 +6,14 @@ use Rattle.std.proofs.lemmas.{List.append-nil, List.FromFn.length-map-range_with
 use Rattle.srp_base.proofs.{Arithmetic.is_same, Lists.each_more, Arithmetic.is_other, Lists.length_set, Arithmetic.decide, Lists.get_set, Lists.get-set_same as get_set_same, Lists.get_set_other, Lists.each_of, Lists.at_each, Lists.within, Options.one_some}
 use Rattle.srp_base.specs.declared.{numbers.NodeNo.NodeNo, numbers.PortNo.PortNo, numbers.EgressPort.EgressPort}
 use Rattle.tree_topology.specs.{Topology.Topology, Topology.HasPort, Ports.neighbours}
+use Rattle.tree_topology.proofs.EgressPorts.{same_numbers}
 use Rattle.attribute_propagation.specs.Ports.{IsLinkPort, place_of}
 use Rattle.node_core.specs.declared.types.NodeEvent.TheVariants as node_events
 use Rattle.node_core.specs.declared.{types.NodeStep.NodeStep, types.PortStep.PortStep}
 use Rattle.node_core.specs.{State.NodeState, State.ports_of, State.job_list, Step.node_step}
 use Rattle.world_core.specs.{WorldEvent, Port, WorldReply, Step, NodeSteps, WorldState, node_at, after_step, world_step, world_after, replies_to, step_events, step_replies, steps_at_port, steps_of, jobs_of, AscendByNode, IsDuring, IsAllowed, events_of, replies_of, HavePorts, node_jobs, MakeLeft, steps_before, MakeAll}
 use Rattle.world_core.specs.declared.events.WorldReply.TheVariants.{Missed}
-use Rattle.world_core.proofs.{Lists.same_numbers, Nodes.node_same, Nodes.node_other, Nodes.stepped_is, OwnSteps.replies_append, Runs.after_append}
+use Rattle.world_core.proofs.{Nodes.node_same, Nodes.node_other, Nodes.stepped_is, OwnSteps.replies_append, Runs.after_append}
 
 -- two lists in two parts each, of which the first are as long as one another
 same_parts : {X : Type 0} (a b c d : List X) → length a ≡ length b → a ++ c ≡ b ++ d → (a ≡ b) × (c ≡ d)
@@ -424,12 +425,11 @@ module _ (tree : Topology) (t : ℕ) (stays : (es : List WorldEvent) (w : WorldS
 -- ---- there are such steps
 
 -- how many jobs are left
-total : List (List PortStep) → ℕ
+abbrev pub total : List (List PortStep) → ℕ
 total [] = 0
 total (jobs ∷ left) = length jobs + total left
 
-total_less : (left : List (List PortStep)) (at : ℕ) (step : PortStep) (rest : List PortStep) → slice_get left at ≡ Some (step ∷ rest) → suc (total (slice_set left at rest)) ≡ total left
-unfolding total
+pub total_less : (left : List (List PortStep)) (at : ℕ) (step : PortStep) (rest : List PortStep) → slice_get left at ≡ Some (step ∷ rest) → suc (total (slice_set left at rest)) ≡ total left
 total_less [] at step rest get = cc
 total_less (jobs ∷ left) zero step rest get =
     let same : jobs ≡ step ∷ rest = cc in
@@ -496,7 +496,7 @@ can_make (suc fuel) n left w s is few = by (first_left left) (λ after v r here 
         next_made n left w s is at step rest get (λ v r here. on (slice_set left at rest) v r here (omega (arith, less, few)))
 
 -- the steps of a node before those of later ones
-before_after : (n : NodeNo) (made : List NodeStep) (later : List NodeSteps) (w : WorldState)
+pub before_after : (n : NodeNo) (made : List NodeStep) (later : List NodeSteps) (w : WorldState)
     → world_after (step_events (steps_before n made later)) w ≡ world_after (step_events later) (world_after (events_of n made) w)
 before_after n [] later w = refl
 before_after n (st ∷ made) later w = sym (after_append (events_of n (st ∷ made)) (step_events later) w)

@@ -2,10 +2,11 @@
 use Rattle.std.proofs.Common.{◌≡◌, ℕ, zero, suc, ◌<◌, ◌≤◌, ◌⊎◌, inl, inr, Bool, true, false, cond, List, [], ◌∷◌, ◌++◌, Option, Some, None, refl, sym, ◌∙◌, ap, subst, arith, append_assoc, append-nil}
 use Rattle.std.specs.Prelude.{AllPairs, filter, flat_map, nat_lt, nat_le, ◌==◌, ◌&&◌, not}
 use Rattle.std.specs.List.{AllByRecursion}
-use Rattle.std.proofs.lemmas.{Bool.cond-true, Bool.cond-false, Bool.cases_Bool, Bool.eqb-true, Bool.eq-eqb, Bool.ne_eqb, Bool.lt-ltb, Bool.le-ltb, Bool.le-leb, Bool.lt-leb, Bool.and_parts, Bool.and_from, Bool.and_left, Bool.and_right, Bool.or_left, Bool.or_right, Bool.or_from, Bool.false≢true, Bool.not_from_false, Bool.not_from_true, List.Elements.All-from_recursion, List.Elements.recursion_from_All, List.Elements.filter-append, List.Kept.AllPairs-cons}
+use Rattle.std.proofs.lemmas.{Bool.cond-true, Bool.cond-false, Bool.cases_Bool, Bool.eq-eqb, Bool.ne_eqb, Bool.lt-ltb, Bool.le-ltb, Bool.le-leb, Bool.lt-leb, Bool.and_from, Bool.and_left, Bool.and_right, Bool.or_left, Bool.or_right, Bool.or_from, Bool.false≢true, Bool.not_from_false, Bool.not_from_true, List.Elements.All-from_recursion, List.Elements.recursion_from_All, List.Elements.filter-append, List.Kept.AllPairs-cons}
 use Rattle.srp_base.proofs.Lists.{each_append, each_filter, Each-map as each_weaker}
 use Rattle.srp_base.specs.declared.{numbers.EgressPort.EgressPort, ports.PortChange.PortChange}
 use Rattle.frame_flow.specs.{Force.is_port, Force.changes_at, Force.last_upto, Force.in_force, Given.IsEarlier}
+use Rattle.frame_flow.proofs.LevelLemmas.{same-port, port-itself}
 use Rattle.world_core.specs.{precedes, front_before, rest_from, changes_among}
 
 -- ---- ports in order
@@ -31,18 +32,8 @@ abbrev pub AreInOrder : List PortChange → Type 0
 AreInOrder [] = Unit {0}
 AreInOrder (c ∷ cs) = AllByRecursion (IsEarlier c) cs × AreInOrder cs
 
-pub port_itself : (p : EgressPort) → is_port p p ≡ true
-port_itself p = and_from (p.node.0 == p.node.0) (p.port.0 == p.port.0) (eq-eqb p.node.0 p.node.0 refl) (eq-eqb p.port.0 p.port.0 refl)
-
-pub same_port : (p q : EgressPort) → is_port p q ≡ true → p ≡ q
-same_port p q is =
-    let parts = and_parts (p.node.0 == q.node.0) (p.port.0 == q.port.0) is in
-    let node = eqb-true p.node.0 q.node.0 parts.0 in
-    let port = eqb-true p.port.0 q.port.0 parts.1 in
-    ap (λ (n : ℕ). record { node = record { 0 = n }; port = p.port }) node ∙ ap (λ (k : ℕ). record { node = q.node; port = record { 0 = k } }) port
-
 pub is_same_port : (p q : EgressPort) → p ≡ q → is_port p q ≡ true
-is_same_port p q e = ap (λ (r : EgressPort). is_port p r) (sym e) ∙ port_itself p
+is_same_port p q e = ap (λ (r : EgressPort). is_port p r) (sym e) ∙ port-itself p
 
 pub before_other : (p q : EgressPort) → IsBefore p q → is_port p q ≡ false
 before_other p q (inl lt) = and_left (p.node.0 == q.node.0) (p.port.0 == q.port.0) (ne_eqb p.node.0 q.node.0 (λ e. omega arith))
@@ -64,7 +55,7 @@ earlier_is c d (inl lt) = inl (inl lt)
 earlier_is c d (inr h) =
     elim h.1 [
       | inl lt ↦ inl (inr (h.0, lt))
-      | inr k ↦ inr (same_port c.at d.at (and_from (c.at.node.0 == d.at.node.0) (c.at.port.0 == d.at.port.0) (eq-eqb c.at.node.0 d.at.node.0 h.0) (eq-eqb c.at.port.0 d.at.port.0 k.0)), k.1)
+      | inr k ↦ inr (same-port c.at d.at (and_from (c.at.node.0 == d.at.node.0) (c.at.port.0 == d.at.port.0) (eq-eqb c.at.node.0 d.at.node.0 h.0) (eq-eqb c.at.port.0 d.at.port.0 k.0)), k.1)
     ]
 
 pub earlier_before : (c d : PortChange) → IsBefore c.at d.at → IsEarlier c d
@@ -118,7 +109,7 @@ pub are_at : (p : EgressPort) (cs : List PortChange) → AreAt p (changes_at cs 
 are_at p [] = tt
 are_at p (c ∷ cs) =
     elim (cases_Bool (is_port c.at p)) [
-      | inl is ↦ subst (AreAt p) (sym (cond-true (is_port c.at p) (c ∷ changes_at cs p) (changes_at cs p) is)) (same_port c.at p is, are_at p cs)
+      | inl is ↦ subst (AreAt p) (sym (cond-true (is_port c.at p) (c ∷ changes_at cs p) (changes_at cs p) is)) (same-port c.at p is, are_at p cs)
       | inr nay ↦ subst (AreAt p) (sym (cond-false (is_port c.at p) (c ∷ changes_at cs p) (changes_at cs p) nay)) (are_at p cs)
     ]
 
@@ -207,7 +198,7 @@ others_at p q (c ∷ cs) lt =
     elim (cases_Bool (is_port c.at p)) [
       | inl is ↦ (
           let left = cond-false (not (is_port c.at p)) (c ∷ others p cs) (others p cs) (not_from_true (is_port c.at p) is) in
-          let off = subst (λ (r : EgressPort). is_port r q ≡ false) (sym (same_port c.at p is)) (before_other p q lt) in
+          let off = subst (λ (r : EgressPort). is_port r q ≡ false) (sym (same-port c.at p is)) (before_other p q lt) in
           ap (λ (ds : List PortChange). changes_at ds q) left ∙ others_at p q cs lt ∙ sym (cond-false (is_port c.at q) (c ∷ changes_at cs q) (changes_at cs q) off))
       | inr nay ↦ (
           let stays = cond-true (not (is_port c.at p)) (c ∷ others p cs) (others p cs) (not_from_false (is_port c.at p) nay) in

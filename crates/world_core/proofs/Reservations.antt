@@ -1,12 +1,10 @@
 -- What is in force at a port is changed neither by the carrying of PDUs nor by the clock, and nothing is at the start.
-use Rattle.std.proofs.Common.{◌≡◌, ℕ, zero, suc, ◌+◌, ◌-◌, ◌<◌, ◌≢◌, List, [], ◌∷◌, ◌++◌, length, map, Option, Some, None, refl, sym, ap, ◌∙◌}
-use Rattle.std.specs.Prelude.{Bool, slice_get, slice_set, IfSome}
-use Rattle.std.proofs.lemmas.Option.{none-some}
+use Rattle.std.proofs.Common.{◌≡◌, ℕ, zero, suc, ◌+◌, ◌-◌, List, [], ◌∷◌, ◌++◌, map, Option, Some, None, refl, sym, ap, ◌∙◌}
+use Rattle.std.specs.Prelude.{Bool, slice_get, slice_set}
 use Rattle.std.specs.Option.{option_map_or}
-use Rattle.srp_base.proofs.Lists.{within}
 use Rattle.srp_base.specs.declared.{numbers.EgressPort.EgressPort, numbers.NodeNo.NodeNo, numbers.StreamId.StreamId, numbers.BridgeId.BridgeId, numbers.Cs.Cs, ports.PortSetup.PortSetup, bandwidth.Class.TheVariants.A, bandwidth.Class.TheVariants.B}
 use Rattle.stream_importance.specs.declared.entry.Entry.{Entry}
-use Rattle.port_ledger.specs.{Decision.booked_of, Book.Book, Book.booked_slope}
+use Rattle.port_ledger.specs.{Decision.booked_of, Book.booked_slope}
 use Rattle.tree_topology.specs.declared.graph.NodeKind.{NodeKind}
 use Rattle.tree_topology.specs.{Topology.Topology, Topology.link_ports, Ports.peer_of}
 use Rattle.topology_file.specs.declared.entries.NodeEntry.{NodeEntry}
@@ -18,7 +16,7 @@ use Rattle.msrp.specs.{PortState.PortState, Side.new_port, Side.clocked_port}
 use Rattle.msrp.specs.declared.domain.DomainSet.{DomainSet}
 use Rattle.node_core.specs.{State.NodeState, State.new_node, Step.clocked_node, Step.node_step, Links.with_outbox, Links.with_carried}
 use Rattle.node_core.specs.declared.types.NodeEvent.TheVariants as node_events
-use Rattle.world_core.specs.{Carry, Clock, WorldState, node_at, with_node, with_changed, outbox, after_carrying, after_clock, world_after, world_of, domain_set, nodes_from, setups_from, closing_events, no_reservation, booked_streams, registered_vids, reservation_of, node_force, force_at}
+use Rattle.world_core.specs.{Carry, Clock, WorldState, node_at, with_node, with_changed, outbox, after_carrying, after_clock, world_after, world_of, domain_set, nodes_from, setups_from, closing_events, no_reservation, registered_vids, node_force, force_at}
 use Rattle.world_core.specs.Reservation.{Reservation}
 
 -- ---- what is read at a place of a list
@@ -73,24 +71,6 @@ new_has_none kind bridge leave_time periodic domain ports at =
     (read_made (λ (p : PortState). booked_slope p.ledger.entries A) 0 (new_port bridge leave_time periodic domain) (λ s. refl) ports at)
     (read_made (λ (p : PortState). booked_slope p.ledger.entries B) 0 (new_port bridge leave_time periodic domain) (λ s. refl) ports at)
     (read_made (λ (p : Part). registered_vids p.rows) [] (λ (q : PortSetup). new_state q.period leave_time periodic) (λ s. refl) ports at)
-
--- what a port has in force by its participant and its ledger
-port_force : (s : NodeState) (at : ℕ) (part : Part) (book : Book) (o : Option Part) (q : Option PortState) → o ≡ Some part → q ≢ None → IfSome q (λ p. book ≡ p.ledger)
-    → slice_get s.vlans.parts at ≡ o → slice_get s.streams.ports at ≡ q → node_force at s ≡ reservation_of part book
-port_force s at part book o None there some is e f = absurd (some refl)
-port_force s at part book o (Some p) there some is e f =
-    same_force (node_force at s) (reservation_of part book)
-    (ap (λ (r : Option PortState). map (λ (x : Entry). x.want.stream) (option_map_or (λ (y : PortState). booked_of y.ledger.entries) r [])) f ∙ ap (λ (b : Book). booked_streams b.entries) (sym is))
-    (ap (λ (r : Option PortState). option_map_or (λ (y : PortState). booked_slope y.ledger.entries A) r 0) f ∙ ap (λ (b : Book). booked_slope b.entries A) (sym is))
-    (ap (λ (r : Option PortState). option_map_or (λ (y : PortState). booked_slope y.ledger.entries B) r 0) f ∙ ap (λ (b : Book). booked_slope b.entries B) (sym is))
-    (ap (λ (r : Option Part). option_map_or (λ (y : Part). registered_vids y.rows) r []) (e ∙ there))
-
-pub force_is : (s : NodeState) (at : ℕ) (part : Part) (book : Book) → at < length s.streams.ports
-    → slice_get s.vlans.parts at ≡ Some part → IfSome (slice_get s.streams.ports at) (λ p. book ≡ p.ledger)
-    → node_force at s ≡ reservation_of part book
-force_is s at part book lt there is =
-    port_force s at part book (slice_get s.vlans.parts at) (slice_get s.streams.ports at) there
-    (λ none. let w = within s.streams.ports at lt in none-some w.0 (sym none ∙ w.1)) is refl refl
 
 -- ---- in a network
 

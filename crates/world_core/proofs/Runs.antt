@@ -1,21 +1,22 @@
 -- Each event of a legal run may happen in its turn.
-use Rattle.std.proofs.Common.{◌≡◌, ◌⊎◌, inl, inr, ℕ, zero, suc, ◌+◌, ◌-◌, ◌<◌, ◌≤◌, ◌^◌, Bool, true, false, ◌&&◌, List, [], ◌∷◌, ◌++◌, length, map, take, get_or, refl, sym, ap, subst, ◌∙◌, arith}
+use Rattle.std.proofs.Common.{◌≡◌, inl, inr, ℕ, zero, suc, ◌+◌, ◌-◌, ◌<◌, ◌≤◌, ◌^◌, Bool, true, false, List, [], ◌∷◌, ◌++◌, length, map, take, get_or, refl, sym, ap, subst, ◌∙◌, arith}
 use Rattle.std.specs.Prelude.{slice_get, Option, Some, None, option_map, IfSome, ◌==◌}
 use Rattle.std.specs.List.{AllByRecursion, flat_map, list_any}
 use Rattle.std.proofs.lemmas.{Option.slice_get_within}
-use Rattle.srp_base.proofs.{Bools.or_true, Lists.each_append, Lists.all_taken as each_take, Bools.both as and_true, Arithmetic.same_where_equal as same_number, Options.one_some, Lists.all_each, Lists.at_each, Lists.within}
+use Rattle.srp_base.proofs.{Lists.each_append, Lists.all_taken as each_take, Options.one_some, Lists.all_each, Lists.at_each, Lists.within}
 use Rattle.srp_base.specs.declared.{numbers.Cs.Cs, numbers.NodeNo.NodeNo, numbers.PortNo.PortNo, numbers.EgressPort.EgressPort, mrp.App.App, mrp.App.TheVariants.Mvrp, mrp.App.TheVariants.Msrp}
-use Rattle.tree_topology.specs.declared.{graph.Link.Link, graph.NodeKind.NodeKind, graph.NodeKind.TheVariants.Station, graph.NodeKind.TheVariants.Bridge}
-use Rattle.tree_topology.specs.{Graph.Joins, Graph.Joined, Topology.Topology, Topology.HasPort, Topology.IsSound, Topology.link_ports, Ports.port_to, Ports.peer_of, PortLaws.HasPortLaws, Refusal.is_station}
-use Rattle.topology_file.specs.declared.{entries.NodeEntry.NodeEntry, entries.LinkEntry.LinkEntry, entries.StreamEntry.StreamEntry, entries.EventEntry.EventEntry, entries.EventKind.EventKind}
+use Rattle.tree_topology.specs.declared.{graph.Link.Link, graph.NodeKind.TheVariants.Station}
+use Rattle.tree_topology.specs.{Graph.Joined, Topology.Topology, Topology.HasPort, Topology.IsSound, Topology.link_ports, Ports.port_to, Ports.peer_of, PortLaws.HasPortLaws, Refusal.is_station}
+use Rattle.topology_file.specs.declared.{entries.NodeEntry.NodeEntry, entries.StreamEntry.StreamEntry, entries.EventEntry.EventEntry, entries.EventKind.EventKind}
 use Rattle.topology_file.specs.declared.entries.EventKind.TheVariants as kinds
-use Rattle.topology_file.specs.{Entries.joins_both, Plan.Plan, Scenario.KeepsRules, Scenario.HasStreamForm, Scenario.node_kinds, Scenario.tree_links, Kinds.IsKnownKind, Kinds.IsStationNumber, Kinds.IsStreamNumber}
+use Rattle.topology_file.specs.{Entries.joins_both, Plan.Plan, Scenario.KeepsRules, Scenario.HasStreamForm, Scenario.tree_links, Kinds.IsKnownKind, Kinds.IsStationNumber, Kinds.IsStreamNumber}
 use Rattle.attribute_propagation.specs.Ports.{place_of}
 use Rattle.msrp_codec.specs.FirstValue.{IsTalker}
 use Rattle.node_core.specs.declared.{types.AppRequest.AppRequest, types.Wire.Wire, types.NodeEvent.NodeEvent, types.NodeStep.NodeStep, types.PortStep.PortStep}
 use Rattle.node_core.specs.declared.types.AppRequest.TheVariants.{Talk, Hush, Listen, Unlisten}
 use Rattle.node_core.specs.declared.types.NodeEvent.TheVariants as node_events
 use Rattle.node_core.specs.{State.NodeState, Step.node_step, Links.with_outbox, Links.with_carried, Links.lost_at, Links.repeated_at, Links.forged_at, Links.spoilt_at}
+use Rattle.topology_file.proofs.EntryLemmas.{some_joins, station_kind}
 use Rattle.world_core.specs.{WorldEvent, Request, Port, Lose, Repeat, Forge, Carry, Clock, NodeSteps, Tick, WorldState, with_changed, step_of_node, outbox, app_of, reaches, with_unsound_ends, with_loss, after_repeat, with_forgery, world_step, world_after, CanHappen, CanAllHappen, IsEventInRange, world_of, talker_of_entry, stream_at, event_of, with_event, scripted_from, script_at, step_events, tick_events, IsLegalTick, LeadTo, IsDuring, IsAllowed, NamesNeighbours, IsMoment, events_from, IsKeptWorld}
 use Rattle.world_core.proofs.{Nodes.same_tree, Nodes.stepped_is, Nodes.ticked_get, EachNode.AllNodes, EachNode.IsOfSides, EachNode.KeepsOwn, EachNode.all_keep}
 
@@ -101,31 +102,6 @@ pub record RunLaws : Type 0 where
   pub asked : (request : AppRequest) (s : NodeState) → (node_step (node_events.Request request) s).0.clock ≡ s.clock
 
 -- ---- the scenario's events
-
-a_station : (k : NodeKind) → is_station k ≡ true → k ≡ Station
-a_station Station h = refl
-a_station Bridge h = cc
-
-station_kind : (nodes : List NodeEntry) (i : ℕ) → i < length nodes → ((d : NodeEntry) → is_station (get_or nodes i d).kind ≡ true) → slice_get (node_kinds nodes) i ≡ Some Station
-station_kind [] i lt h = absurd (omega arith)
-station_kind (n ∷ nodes) zero lt h = ap Some (a_station n.kind (h n))
-station_kind (n ∷ nodes) (suc i) lt h = let less : i < length nodes = omega arith in station_kind nodes i less h
-
--- a link that joins two nodes joins them the other way round
-link_joins : (l : LinkEntry) (x y : ℕ) → joins_both x y l ≡ true → Joins (record { a = l.a; b = l.b }) y x
-link_joins l x y h = by (or_true (l.a.0 == x && l.b.0 == y) (l.a.0 == y && l.b.0 == x) h)
-  where
-    by : ((l.a.0 == x && l.b.0 == y) ≡ true) ⊎ ((l.a.0 == y && l.b.0 == x) ≡ true) → Joins (record { a = l.a; b = l.b }) y x
-    by (inl e) = let both = and_true _ _ e in inr (same_number l.a.0 x both.0, same_number l.b.0 y both.1)
-    by (inr e) = let both = and_true _ _ e in inl (same_number l.a.0 y both.0, same_number l.b.0 x both.1)
-
-some_joins : (ls : List LinkEntry) (x y : ℕ) → list_any (joins_both x y) ls ≡ true → Joined (tree_links ls) y x
-some_joins [] x y h = cc
-some_joins (l ∷ ls) x y h = by (or_true (joins_both x y l) (list_any (joins_both x y) ls) h) (some_joins ls x y)
-  where
-    by : (joins_both x y l ≡ true) ⊎ (list_any (joins_both x y) ls ≡ true) → (list_any (joins_both x y) ls ≡ true → Joined (tree_links ls) y x) → Joined (tree_links (l ∷ ls)) y x
-    by (inl e) later = inl (link_joins l x y e)
-    by (inr e) later = inr (later e)
 
 module _ (laws : RunLaws) where
   -- each event but the clock's leaves the clocks

@@ -1,13 +1,13 @@
 -- Where the ports of a network's tree stand among its nodes.
 use Rattle.std.proofs.Common.{◌≡◌, ℕ, ◌-◌, ◌+◌, List, [], ◌∷◌, zero, suc, refl, sym, ap, subst, arith}
-use Rattle.std.specs.Prelude.{◌<◌, ◌≤◌, ◌^◌, length, slice_get, Some, Result, Ok, Err, IfOk, OnErr}
+use Rattle.std.specs.Prelude.{◌≤◌, length, slice_get, Some, Result, Ok, Err, IfOk, OnErr}
 use Rattle.std.specs.List.{AllByRecursion}
 use Rattle.std.proofs.lemmas.Option.{slice_get_within}
-use Rattle.srp_base.specs.declared.{numbers.Cs.Cs, numbers.NodeNo.NodeNo, numbers.EgressPort.EgressPort}
+use Rattle.srp_base.specs.declared.{numbers.NodeNo.NodeNo, numbers.EgressPort.EgressPort}
 use Rattle.tree_topology.specs.{Topology.Topology, Topology.HasPort, Ports.peer_of, PortLaws.HasPortLaws}
 use Rattle.node_core.specs.State.{NodeState}
 use Rattle.node_core.specs.declared.types.AppRequest.{AppRequest}
-use Rattle.world_core.specs.{WorldEvent, Request, Clock, WorldReply, MarksState, WorldState, Happened, StandsAt, node_at, CanHappen, IsKeptWorld}
+use Rattle.world_core.specs.{WorldEvent, Request, WorldReply, MarksState, WorldState, Happened, StandsAt, CanHappen, IsKeptWorld}
 use Rattle.world_core.proofs.{Nodes.node_there, Nodes.place_within, Keeping.base_kept}
 
 -- a port of the tree stands at its node
@@ -56,7 +56,3 @@ pub kept_either : {E : Type 0} (r : Result WorldReply E) (h : Happened) (tree : 
     → IsKeptWorld h.0 → IsKeptWorld (record { tree = tree; nodes = nodes; marks = marks }) → IsKeptWorld (record { tree = tree; nodes = new; marks = marks })
 kept_either (Ok reply) h tree marks nodes new is err after before = subst IsKeptWorld (ap (λ (x : Happened). x.0) is) after
 kept_either (Err e) h tree marks nodes new ok is after before = subst (λ (xs : List NodeState). IsKeptWorld (record { tree = tree; nodes = xs; marks = marks })) (sym is) before
-
--- where the clock of one node is below 2^61, the clock goes on: all nodes have one clock
-pub clock_goes_on : (w : WorldState) (t : NodeState) → IsKeptWorld w → node_at (record { 0 = 1 }) w ≡ Some t → t.clock.0 < 2 ^ 61 → CanHappen Clock w
-clock_goes_on w t kept there below n s is = subst (λ (c : Cs). c.0 < 2 ^ 61) (kept.clock 0 (n.0 - 1) t s there is) below

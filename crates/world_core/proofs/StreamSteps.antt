@@ -13,13 +13,14 @@ use Rattle.msrp.specs.{PortState.PortState, Part.Part, Part.HasOwnContents, Part
 use Rattle.msrp.specs.declared.asking.SrpRequest.{SrpRequest}
 use Rattle.msrp.specs.declared.asking.SrpRequest.TheVariants as asks
 use Rattle.attribute_propagation.specs.Ports.{marked_elsewhere}
+use Rattle.attribute_propagation.proofs.Lists.{set_at, set_at_there, set_at_other}
 use Rattle.node_core.specs.declared.{types.AppRequest.AppRequest, types.Wire.Wire, types.NodeKey.TheVariants.Vlan, types.NodeKey.TheVariants.Srp, types.PortStep.PortStep}
 use Rattle.node_core.specs.declared.types.AppRequest.TheVariants.{Declare, Withdraw, Talk, Hush, Listen, Unlisten}
 use Rattle.node_core.specs.declared.types.NodeEvent.TheVariants as node_events
 use Rattle.node_core.specs.declared.types.PortStep.TheVariants.{Work, LeaveNow, LeaveAllNow, PeriodicNow, Due, Settle, Send}
 use Rattle.node_core.specs.{State.NodeState, State.box_at, Step.node_step, Step.port_step, Step.after_work, Step.worked_app, Step.worked_msrp, Step.octets_to_say, Step.sent_octets, Leaving.vlans_leave, Leaving.streams_leave, Leaving.octets_leave, Leaving.has_leave_all, Leaving.is_leave_all_at, Links.spoilt_at, Proper.IsProperNode}
 use Rattle.world_core.specs.{said_of_streams, octets_said, streams_said, stream_place, BothMarks, is_same_app}
-use Rattle.world_core.proofs.{Lists.set_at, Lists.set_at_there, Lists.set_at_other, Boxes.box_got, Boxes.box_set, Views.AppView, Views.LinkLaws, Views.StepFacts, Views.KeepsLink, Views.both_heard, Views.both_said, Views.both_stepped, Views.both_same, Views.says_leave_all, Views.unsound, Nodes.outbox_there, LinkSteps.KeepsNear, LinkSteps.HasSpoken, LinkSteps.declares, LinkSteps.withdraws, LinkSteps.leaves, LinkSteps.fires, LinkSteps.fires_leave_all, LinkSteps.fires_periodic, LinkSteps.all_keep, LinkSteps.same_near, LinkSteps.called, LinkSteps.hearing, LinkSteps.taken, LinkSteps.spoken, LinkSteps.unheard, LinkSteps.still}
+use Rattle.world_core.proofs.{Boxes.box_got, Boxes.box_set, Views.AppView, Views.LinkLaws, Views.StepFacts, Views.KeepsLink, Views.both_heard, Views.both_said, Views.both_stepped, Views.both_same, Views.says_leave_all, Views.unsound, Nodes.outbox_there, LinkSteps.KeepsNear, LinkSteps.HasSpoken, LinkSteps.declares, LinkSteps.withdraws, LinkSteps.leaves, LinkSteps.fires, LinkSteps.fires_leave_all, LinkSteps.fires_periodic, LinkSteps.all_keep, LinkSteps.same_near, LinkSteps.called, LinkSteps.hearing, LinkSteps.taken, LinkSteps.spoken, LinkSteps.unheard, LinkSteps.still}
 
 -- MSRP as the network's proofs see it
 abbrev pub stream_view : AppView MsrpKey MsrpContent
@@ -142,11 +143,11 @@ spoilt_other Msrp at k s ne = cc
 -- ---- requests, and the clock
 
 -- a choice between two sides with the same ports
-either_ports : (b : Bool) (v x y : Streams) → x.ports ≡ v.ports → y.ports ≡ v.ports → (if b then x else y).ports ≡ v.ports
+pub either_ports : (b : Bool) (v x y : Streams) → x.ports ≡ v.ports → y.ports ≡ v.ports → (if b then x else y).ports ≡ v.ports
 either_ports true v x y h i = h
 either_ports false v x y h i = i
 
-asked_ports : (request : SrpRequest) (v : Streams) → (requested_streams request v).ports ≡ v.ports
+pub asked_ports : (request : SrpRequest) (v : Streams) → (requested_streams request v).ports ≡ v.ports
 asked_ports (asks.Talk talker) v = either_ports (is_talk (talk_of talker.stream v.talks) talker) v v (with_asks talker.stream (talker ∷ talks_without talker.stream v.talks) v.listens v) refl refl
 asked_ports (asks.Hush stream) v = either_ports (has_talk stream v) v (with_asks stream (talks_without stream v.talks) v.listens v) v refl refl
 asked_ports (asks.Listen stream) v = either_ports (has_listen stream v) v v (with_asks stream v.talks (stream ∷ v.listens) v) refl refl

@@ -1,5 +1,5 @@
 -- What a node's steps make of the participants of MVRP.
-use Rattle.std.proofs.Common.{◌≡◌, ◌≢◌, ℕ, Bool, true, false, if◌then◌else◌, List, [], ◌∷◌, ◌++◌, map, refl, sym, ap, subst, ◌∙◌}
+use Rattle.std.proofs.Common.{◌≡◌, ◌≢◌, ℕ, Bool, true, false, if◌then◌else◌, List, [], ◌∷◌, ◌++◌, refl, sym, ap, subst, ◌∙◌}
 use Rattle.std.proofs.lemmas.Option.{slice_get_within}
 use Rattle.std.specs.Prelude.{slice_get, slice_set, Option, Some, None, option_map, Result, Ok, Err}
 use Rattle.std.specs.{Option.option_map_or, Ordering.nat_cmp}
@@ -8,15 +8,17 @@ use Rattle.srp_base.specs.declared.{numbers.Cs.Cs, mrp.App.App, mrp.App.TheVaria
 use Rattle.mvrp_codec.specs.declared.pdu.MvrpPdu.{MvrpPdu}
 use Rattle.mvrp_codec.specs.{Meaning.mvrp_reading, Writing.mvrp_spelling}
 use Rattle.mrp_participant.specs.{Duty.IsDutyMet, State.Messages, State.AreRows, State.is_active, State.is_silent, State.declared_state, State.withdrawn_state, State.due_state, State.left_keys, State.left_state, State.leave_all_state, State.periodic_state, State.sent_messages, State.sent_events, Link.LinkEvent, MarkedLink.Mark, MarkedLink.MarkedLink, MarkedLink.IsNoMore, MarkedLink.AreMarkedDutiesMet, MarkedLink.after_marked_event, MarkedLink.other_marked_view}
+use Rattle.attribute_propagation.proofs.Lists.{set_at, set_at_there, set_at_other}
 use Rattle.mvrp.specs.{Part.Part, Part.base, Part.octets, Part.pdu_sent, Part.received_part, Part.told_by_receipt, Part.sent_part, Part.settled_vid, Part.settled_part, Side.Vlans, Side.IsWritten, Side.with_told_part, Side.left_vids, Side.has_own, Side.is_flat, Side.received_vlans, Side.due_vlans, Side.left_vlans, Side.leave_all_vlans, Side.periodic_vlans, Side.settled_vlans, Side.sent_vlans, Side.spoilt_vlans, Vids.HasVidRows}
 use Rattle.flat_side.specs.{Part.same_content, Side.with_part, Side.at_part, Side.with_part_at, Side.awaiting_at}
+use Rattle.flat_side.proofs.Lists.{contents_again}
 use Rattle.node_core.specs.declared.{types.AppRequest.AppRequest, types.Wire.Wire, types.NodeKey.TheVariants.Vlan, types.NodeKey.TheVariants.Srp, types.PortStep.PortStep}
 use Rattle.node_core.specs.declared.types.AppRequest.TheVariants.{Declare, Withdraw, Talk, Hush, Listen, Unlisten}
 use Rattle.node_core.specs.declared.types.NodeEvent.TheVariants as node_events
 use Rattle.node_core.specs.declared.types.PortStep.TheVariants.{Work, LeaveNow, LeaveAllNow, PeriodicNow, Due, Settle, Send}
 use Rattle.node_core.specs.{State.NodeState, State.box_at, Step.node_step, Step.port_step, Step.after_work, Step.worked_app, Step.worked_mvrp, Step.octets_to_say, Step.sent_octets, Leaving.vlans_leave, Leaving.streams_leave, Leaving.octets_leave, Leaving.has_leave_all, Leaving.is_leave_all_at, Links.spoilt_at, Proper.IsProperNode}
 use Rattle.world_core.specs.{said_of_vlans, vlans_said, message_of, vlan_place, BothMarks, is_same_app}
-use Rattle.world_core.proofs.{Lists.set_at, Lists.set_at_there, Lists.set_at_other, Boxes.box_got, Boxes.box_set, Views.AppView, Views.LinkLaws, Views.StepFacts, Views.KeepsLink, Views.both_heard, Views.both_said, Views.both_stepped, Views.both_same, Views.says_leave_all, Views.unsound, Nodes.outbox_there, LinkSteps.KeepsNear, LinkSteps.HasSpoken, LinkSteps.declares, LinkSteps.withdraws, LinkSteps.leaves, LinkSteps.fires, LinkSteps.fires_leave_all, LinkSteps.fires_periodic, LinkSteps.all_keep, LinkSteps.same_near, LinkSteps.by_call, LinkSteps.called, LinkSteps.hearing, LinkSteps.taken, LinkSteps.spoken, LinkSteps.unheard, LinkSteps.still}
+use Rattle.world_core.proofs.{Boxes.box_got, Boxes.box_set, Views.AppView, Views.LinkLaws, Views.StepFacts, Views.KeepsLink, Views.both_heard, Views.both_said, Views.both_stepped, Views.both_same, Views.says_leave_all, Views.unsound, Nodes.outbox_there, LinkSteps.KeepsNear, LinkSteps.HasSpoken, LinkSteps.declares, LinkSteps.withdraws, LinkSteps.leaves, LinkSteps.fires, LinkSteps.fires_leave_all, LinkSteps.fires_periodic, LinkSteps.all_keep, LinkSteps.same_near, LinkSteps.by_call, LinkSteps.called, LinkSteps.hearing, LinkSteps.taken, LinkSteps.spoken, LinkSteps.unheard, LinkSteps.still}
 
 -- MVRP as the network's proofs see it
 abbrev pub vlan_view : AppView ℕ (Unit {0})
@@ -210,18 +212,13 @@ module _ (laws : VlanLaws) where
           (subst (λ (a : App). slice_get s.vlans.parts at ≡ option_map (hearing vlan_view links s.clock (vlans_said a wire.octets)) (slice_get s.vlans.parts at)) (sym e) (heard (Err 0)))
           is left refl)
 
-  -- events without their content, and with it again, are the same
-  again : (es : List (MrpEvent × ℕ × Unit {0})) → map (λ (e : MrpEvent × ℕ). (e.0, e.1, tt)) (map (λ (e : MrpEvent × ℕ × Unit {0}). (e.0, e.1)) es) ≡ es
-  again [] = refl
-  again (e ∷ es) = ap (λ (later : List (MrpEvent × ℕ × Unit {0})). e ∷ later) (again es)
-
   -- the octets say what the participant sends
   said_is : (now : Cs) (x : Part) → AreRows nat_cmp x.rows → HasVidRows x → is_silent x ≡ false
       → message_of (record { app = Mvrp; octets = mvrp_spelling (pdu_sent now x) }) ≡ Some (sent_messages base octets nat_cmp now x)
   said_is now x rows own speaks =
       ap said_of_vlans (laws.written now x rows own speaks).reads
       ∙ ap (λ (es : List (MrpEvent × ℕ × Unit {0})). let m : Messages ℕ (Unit {0}) = record { leave_all = is_active x.leave_all; events = es } in
-      Some m) (again (sent_events base octets nat_cmp now x))
+      Some m) (contents_again (sent_events base octets nat_cmp now x))
 
   spoken_there : (at : ℕ) (s : NodeState) → IsProperNode s → (x : Part) → slice_get s.vlans.parts at ≡ Some x → is_silent x ≡ false
       → HasSpoken vlan_view links s.clock at s (sent_octets Mvrp at (Some (mvrp_spelling (pdu_sent s.clock x))) s).0 (is_leave_all_at Mvrp at s) x

@@ -1,15 +1,16 @@
 use Rattle.std.proofs.Common.{refl, arith}
 use Rattle.mrp_participant.specs.{Lookup.same, State.is_active, State.sent_events}
 use Rattle.msrp_codec.specs.{Content.Belongs, Content.base_octets, Content.octets_of, Writing.AreInRange, Writing.IsWritable}
+use Rattle.attribute_propagation.proofs.Lists.{some_or}
 use Rattle.msrp.specs.{key_cmp, pdu_sent}
-use Rattle.msrp.proofs.{Contents.own_row, Ranges.IsWithin, Ranges.range_row, Said.all_said, Said.in_order, Said.one_at_most, Said.says_some}
+use Rattle.msrp.proofs.{Contents.own_row, Ranges.IsWithin, Ranges.range_row, Said.all_said, Said.in_order, Said.one_at_most}
 use Rattle.msrp.proofs.laws.what_is_sent_is_read.Goals as goal
 
 pub returns-clause-written : goal.returns-clause-written
 returns-clause-written c = λ now s rows own fit speaks.
     let es = sent_events base_octets octets_of key_cmp now s in
     let can : IsWritable (pdu_sent now s) = record {
-      some = says_some (is_active s.leave_all) es (c.what_is_sent_is_a_pdu.ensures.says s now rows speaks);
+      some = some_or (is_active s.leave_all) es (c.what_is_sent_is_a_pdu.ensures.says s now rows speaks);
       belong = all_said Belongs s (own_row s own) es (λ e inside. c.what_is_sent_is_declared.ensures.content s now e rows inside);
       few = c.what_is_sent_is_a_pdu.ensures.fits s now rows;
     } in

@@ -1,4 +1,4 @@
-use Rattle.network_laws.proofs.Places.{link-port}
+use Rattle.world_core.proofs.LinkPorts.{link-port}
 use Rattle.network_laws.proofs.streams.is_booked.Goals as goal
 
 pub booked-requires : goal.booked-requires

@@ -1,4 +1,4 @@
-use Rattle.network_laws.proofs.Places.{link-port}
+use Rattle.world_core.proofs.LinkPorts.{link-port}
 use Rattle.network_laws.proofs.streams.refusal_by.Goals as goal
 
 pub refusal_of_node-requires : goal.refusal_of_node-requires

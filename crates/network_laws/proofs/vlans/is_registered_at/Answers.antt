@@ -1,4 +1,4 @@
-use Rattle.network_laws.proofs.Places.{link-port}
+use Rattle.world_core.proofs.LinkPorts.{link-port}
 use Rattle.network_laws.proofs.vlans.is_registered_at.Goals as goal
 
 pub registrar-requires : goal.registrar-requires

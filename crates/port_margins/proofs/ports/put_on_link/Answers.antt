@@ -6,7 +6,7 @@ use Rattle.topology_file.specs.Plan.{Plan}
 use Rattle.topology_file.specs.declared.entries.NodeEntry.{NodeEntry}
 use Rattle.node_core.specs.State.{NodeState}
 use Rattle.report_words.specs.Names.{port_name}
-use Rattle.srp_report.proofs.LinkPorts.{link-port}
+use Rattle.world_core.proofs.LinkPorts.{link-port}
 use Rattle.port_margins.specs.{place_lines}
 use Rattle.port_margins.proofs.ports.put_on_link.Goals as goal
 

@@ -6,7 +6,8 @@ use Rattle.tree_topology.specs.{Topology.Topology, Topology.HasPort, Ports.peer_
 use Rattle.attribute_propagation.specs.Ports.{place_of}
 use Rattle.node_core.specs.State.{NodeState, box_at}
 use Rattle.world_core.specs.World.{inbox, outbox}
-use Rattle.port_worker.proofs.MarkLemmas.{port_link, few_counted}
+use Rattle.world_core.proofs.LinkPorts.{link-port}
+use Rattle.port_worker.proofs.MarkLemmas.{few_counted}
 use Rattle.port_worker.proofs.gather.few_from.Goals as goal
 
 pub node-requires : goal.node-requires
@@ -21,10 +22,10 @@ pending_pdus-coming-requires c =
     let w = c.args.world.now in
     let kept = c.keeps.ensures in
     let is : c.peer-peer.result ≡ peer_of w.tree.links c.args.at = c.peer-peer.ensures ∙ ap (λ (t : Topology). peer_of t.links c.args.at) c.tree.ensures in
-    port_link w kept c.peer-peer.result (subst (HasPort w.tree) (sym is) ((c.ports.ensures w.tree kept.tree).peer_port c.args.at c.requires)) c.node.result.now.state c.node.ensures
+    link-port w kept c.peer-peer.result (subst (HasPort w.tree) (sym is) ((c.ports.ensures w.tree kept.tree).peer_port c.args.at c.requires)) c.node.result.now.state c.node.ensures
 
 pub outgoing_pdus-going-requires : goal.outgoing_pdus-going-requires
-outgoing_pdus-going-requires c = port_link c.args.world.now c.keeps.ensures c.args.at c.requires c.node-2.result.now.state c.node-2.ensures
+outgoing_pdus-going-requires c = link-port c.args.world.now c.keeps.ensures c.args.at c.requires c.node-2.result.now.state c.node-2.ensures
 
 pub returns : goal.returns
 returns c = λ app.

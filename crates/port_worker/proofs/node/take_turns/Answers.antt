@@ -6,7 +6,7 @@ use Rattle.srp_base.proofs.Options.{one_some}
 use Rattle.turn_lock.specs.Passes.{first_passes}
 use Rattle.bridge_book.specs.Hub.{PortPass}
 use Rattle.port_worker.specs.{Turn, IsTurn}
-use Rattle.port_worker.proofs.{CrossingLemmas.pass_crosses, CrossingLemmas.turn_crosses, TurnLemmas.first_at, TurnLemmas.first_many}
+use Rattle.port_worker.proofs.{CrossingLemmas.pass_crosses, CrossingLemmas.turn_crosses, TurnLemmas.first_at, TurnLemmas.first_count}
 use Rattle.port_worker.proofs.node.take_turns.Goals as goal
 
 pub map_vec-requires-send-J : goal.map_vec-requires-send-J
@@ -31,7 +31,7 @@ returns g c =
     let passes = c.args.passes.items in
     let turns = c.in_ok-turns.turns.items in
     let len = c.in_ok-turns.ensures.len in
-    let many = first_many hub.lock hub.lock.passes in
+    let many = first_count hub.lock hub.lock.passes in
     let all : length {A = PortPass} passes ≡ length {A = PortPass} (first_passes hub.lock hub.lock.passes) = ap (λ (ps : List PortPass). length ps) c.requires in
     record {
       count = omega (arith, len, many, all);

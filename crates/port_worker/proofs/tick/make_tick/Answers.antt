@@ -3,7 +3,8 @@ use Rattle.std.specs.List.{AllByRecursion}
 use Rattle.tree_topology.specs.Topology.{Topology}
 use Rattle.world_core.specs.declared.{journal.NodeSteps.NodeSteps, journal.Tick.Tick}
 use Rattle.world_core.specs.{Timeline.AreChanges, History.HasPortsOf, History.acts_noted, Carrying.NothingWaits, Carrying.has_send}
-use Rattle.port_worker.proofs.TickLemmas.{stepped_stays, steps_known, steps_reach, clock_can, nothing_carried, tick_made}
+use Rattle.world_core.proofs.TickParts.{nothing_carried}
+use Rattle.port_worker.proofs.TickLemmas.{stepped_stays, steps_known, steps_reach, clock_can, tick_made}
 use Rattle.port_worker.proofs.tick.make_tick.Goals as goal
 
 pub note_steps-requires-clause-tree : goal.note_steps-requires-clause-tree

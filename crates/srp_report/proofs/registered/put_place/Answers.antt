@@ -1,4 +1,4 @@
-use Rattle.srp_report.proofs.LinkPorts.{link-port}
+use Rattle.world_core.proofs.LinkPorts.{link-port}
 use Rattle.srp_report.proofs.registered.put_place.Goals as goal
 
 pub keys-requires : goal.keys-requires

@@ -1,4 +1,4 @@
-use Rattle.srp_report.proofs.LinkPorts.{link-port}
+use Rattle.world_core.proofs.LinkPorts.{link-port}
 use Rattle.srp_report.proofs.totals.booked_at.Goals as goal
 
 pub bookings-requires : goal.bookings-requires

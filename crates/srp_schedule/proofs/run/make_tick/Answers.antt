@@ -3,8 +3,9 @@ use Rattle.std.specs.List.{AllByRecursion}
 use Rattle.tree_topology.specs.Topology.{Topology}
 use Rattle.world_core.specs.declared.{journal.NodeSteps.NodeSteps, journal.Tick.Tick}
 use Rattle.world_core.specs.{Timeline.AreChanges, History.HasPortsOf, World.WorldState, World.world_after, Ticks.step_events, Carrying.NothingWaits, Carrying.has_send}
+use Rattle.world_core.proofs.TickParts.{nothing_carried}
 use Rattle.srp_schedule.specs.{AreRests}
-use Rattle.srp_schedule.proofs.{RestLemmas.empty_as, RestLemmas.script_rests, TickLemmas.tick_parts, TickLemmas.clock_can, TickLemmas.canonical_tick, TickLemmas.after_tick, TickLemmas.begins_next, TickLemmas.carried_stays, TickLemmas.scripted_stays, TickLemmas.stepped_stays, TickLemmas.steps_known, TickLemmas.steps_noted, TickLemmas.nothing_carried}
+use Rattle.srp_schedule.proofs.{RestLemmas.empty_as, RestLemmas.script_rests, TickLemmas.tick_parts, TickLemmas.clock_can, TickLemmas.canonical_tick, TickLemmas.after_tick, TickLemmas.begins_next, TickLemmas.carried_stays, TickLemmas.scripted_stays, TickLemmas.stepped_stays, TickLemmas.steps_known, TickLemmas.steps_noted}
 use Rattle.srp_schedule.proofs.run.make_tick.Goals as goal
 
 pub note_steps-requires-clause-tree : goal.note_steps-requires-clause-tree
