@@ -189,9 +189,6 @@ stays_below groups slope height slopes none all n =
 
 -- ---- one step of a walk: a greater height, and one crossing more
 
-raised : (groups : List Group) (slope height more span : ℕ) → height ≤ more → IsBelowIn groups slope height span → IsBelowIn groups slope more span
-raised groups slope height more span le is = omega (arith, le, is)
-
 pub raised_at : (groups : List Group) (slope height more : ℕ) (steep flat : Bound) → height ≤ more → IsBelowAt groups slope height steep flat
     → IsBelowAt groups slope more steep flat
 raised_at groups slope height more steep flat le is rising = (omega (arith, le, (is rising).0), omega (arith, le, (is rising).1))

@@ -19,11 +19,11 @@ sum_no_more {F} f g (x ∷ xs) all =
     let P : F → Type 0 = λ t. f t ≤ g t in
     omega (arith, sum_by-cons f x xs, sum_by-cons g x xs, All-head P x xs all, sum_no_more f g xs (All-tail P x xs all))
 
-sum_both : {F : Type 0} (f g : F → ℕ) (fs : List F) → sum_by (λ x. f x + g x) fs ≡ sum_by f fs + sum_by g fs
+pub sum_both : {F : Type 0} (f g : F → ℕ) (fs : List F) → sum_by (λ x. f x + g x) fs ≡ sum_by f fs + sum_by g fs
 sum_both f g [] = refl
 sum_both f g (x ∷ xs) = omega (arith, sum_by-cons (λ t. f t + g t) x xs, sum_by-cons f x xs, sum_by-cons g x xs, sum_both f g xs)
 
-sum_same : {F : Type 0} (f g : F → ℕ) (fs : List F) → ((x : F) → f x ≡ g x) → sum_by f fs ≡ sum_by g fs
+pub sum_same : {F : Type 0} (f g : F → ℕ) (fs : List F) → ((x : F) → f x ≡ g x) → sum_by f fs ≡ sum_by g fs
 sum_same f g [] same = refl
 sum_same f g (x ∷ xs) same = omega (arith, sum_by-cons f x xs, sum_by-cons g x xs, same x, sum_same f g xs same)
 

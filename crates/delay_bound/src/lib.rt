@@ -19,7 +19,7 @@
 //!   node.
 //! - `heights`: `peak`, the least height with which what some groups bring in over each span of
 //!   time is no more than the height and what a slope takes away.
-//! - `stream`: `StreamLimits` and `SentFrame`; `conforms`, whether a stream's frames keep its
+//! - `stream`: `StreamLimits`, `ClassStream` and `SentFrame`; `conforms`, whether a stream's frames keep its
 //!   limits by pairs, exactly and in one pass; `are_in_order`, whether it may be asked.
 //! - `way`: `idle`, `wait`, `late` and `within`, from a port's peak to the time on a way of `Hop`s.
 //! - `laws`: what these numbers say, whatever comes to the ports.
@@ -43,5 +43,5 @@ mod way;
 
 pub use bound::{Bound, Group};
 pub use heights::{NoPeak, peak};
-pub use stream::{SentFrame, StreamLimits, are_in_order, conforms};
+pub use stream::{ClassStream, SentFrame, StreamLimits, are_in_order, conforms};
 pub use way::{Hop, idle, late, wait, within};

@@ -5,7 +5,7 @@ ghost use Rattle.delay_bound.specs.Bounds.{second};
 ghost use Rattle.delay_bound.specs.Frames.{IsInOrder, DoConform};
 ghost use Rattle.delay_bound.specs.Levels.{IsNext};
 
-use srp_base::Ps;
+use srp_base::{NodeNo, Ps, StreamId};
 
 /// What a Talker may send of a stream (IEEE Std 802.1Q-2018, 35.2.2.8.4: the TSpec, in bits on the
 /// line).
@@ -17,6 +17,19 @@ pub struct StreamLimits {
     pub burst: u64,
     /// What it may send in time, in bit/s.
     pub slope: u64,
+}
+
+/// A stream of a class, as bounds are reckoned for it.
+#[derive(Clone, Copy, PartialEq, Eq)]
+pub struct ClassStream {
+    /// Its StreamID.
+    pub id: StreamId,
+    /// Its Talker's station.
+    pub talker: NodeNo,
+    /// What its Talker may send.
+    pub limits: StreamLimits,
+    /// The bits of the least of its frames.
+    pub least: u64,
 }
 
 /// A frame of a stream as its Talker sent it.

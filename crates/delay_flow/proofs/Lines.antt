@@ -645,4 +645,4 @@ pub further-there : (s : Setting) (flows : List PortFlow) (traffic : Traffic) (s
     → (p r : EgressPort) → HasPort s.tree p → IsBefore s p r → HoldsAt s flows traffic streams n (peer_of s.tree.links r)
     → All (λ b. IsBoundBy (λ f. f.bits) (there_at s flows n.rate p) b.base b.slope (filter (λ f. is_behind s.tree.links r f.from.0) (frames_there s flows n.rate traffic p))) (n.more p r)
 further-there s flows traffic streams n tick prem p r port other hold k d below =
-    further-each s flows traffic streams n tick prem p r port other hold (get_or (n.more p r) k d) (prem.rules.more p r port other k d below)
+    further-each s flows traffic streams n tick prem p r port other hold (get_or (n.more p r) k d) ((prem.rules.at p port).more r other k d below)

@@ -11,7 +11,7 @@ use Rattle.credit_shaper.specs.declared.shaper.Traffic.TheVariants.{A, B, Other}
 use Rattle.credit_shaper.specs.{Credit.traffic_number, Port.IsPortInput, Port.is_of, Departures.sent_of, Departures.left_of, Departures.departs_as, Departures.DepartInOrder}
 use Rattle.tree_topology.specs.{Topology.Topology, Topology.HasNode, Topology.HasPort, Ports.neighbours, Ports.peer_of, Ports.ends_of, Walk.is_behind, PortLaws.HasPortLaws}
 use Rattle.frame_flow.specs.declared.{frame.Frame.Frame, frame.FrameCopy.FrameCopy, result.Fate.TheVariants.Departed, result.PortFlow.PortFlow, place.Place.Place}
-use Rattle.frame_flow.specs.{Moments.bits_of_ticks, Moments.tick_at, Moments.bit_from, Moments.moment_of, Copies.all_places, Copies.places_of_link, Copies.port_of, Copies.ports_at, Flow.Setting, Flow.IsFlow, Flow.port_flow, Given.IsSetting, Given.IsFrame, Origins.ComesOver, Origins.HasSource}
+use Rattle.frame_flow.specs.{Moments.bits_of_ticks, Moments.bit_from, Moments.moment_of, Copies.all_places, Copies.places_of_link, Copies.port_of, Copies.ports_at, Flow.Setting, Flow.IsFlow, Flow.port_flow, Given.IsSetting, Given.IsFrame, Origins.ComesOver, Origins.HasSource}
 use Rattle.frame_flow.proofs.{NumberLemmas.find-here, CopyLemmas.known-each, CopyLemmas.All-find, OnceLemmas.once-copies, OnceLemmas.side-copies, OriginLemmas.sources, OriginLemmas.flow-of, OriginLemmas.departed}
 use Rattle.delay_flow.specs.{place_at, copies_at, may_go, sendable_at, flow_there, copy_in, moment_in, there_at, has_moment, is_there, IsBefore}
 use Rattle.delay_flow.proofs.Sums.{Differ, contains-filter, contains-map}
@@ -43,16 +43,6 @@ pub bits-since : (rate : Rate) (tick bit : ℕ) → tick * 10000000000 ≤ momen
 bits-since M100 tick bit h = omega (arith, h)
 bits-since G1 tick bit h = omega (arith, h)
 bits-since G10 tick bit h = omega (arith, h)
-
-pub tick-since : (rate : Rate) (tick bit : ℕ) → bits_of_ticks rate tick ≤ bit → tick ≤ tick_at rate bit
-tick-since M100 tick bit h = omega (arith, h)
-tick-since G1 tick bit h = omega (arith, h)
-tick-since G10 tick bit h = omega (arith, h)
-
-pub tick-early : (rate : Rate) (ticks bit : ℕ) → bit < bits_of_ticks rate ticks → tick_at rate bit < ticks
-tick-early M100 ticks bit h = omega (arith, h)
-tick-early G1 ticks bit h = omega (arith, h)
-tick-early G10 ticks bit h = omega (arith, h)
 
 pub same-traffic : (a b : Traffic) → (traffic_number a == traffic_number b) ≡ true → a ≡ b
 same-traffic A A e = refl

@@ -16,8 +16,8 @@ use Rattle.frame_flow.specs.{Moments.bits_of_ticks, Moments.tick_at, Moments.bit
 use Rattle.delay_bound.specs.{Bounds.second, Windows.IsBoundBy, Windows.ComesFrom}
 use Rattle.delay_bound.proofs.WindowLemmas.{bound_on}
 use Rattle.delay_flow.specs.{ClassStream, is_in_class, is_route_of, is_frame_of, IsSentBy, AreStreams, sendable_at, copy_in, moment_in, there_at, is_booked, IsSteady, Numbers, IsBefore, KeepRules, GoesInTime, HoldsAt}
-use Rattle.frame_flow.proofs.LevelLemmas.{same-port}
-use Rattle.delay_flow.proofs.Places.{Network, FromBefore, bit-after, bit-soon, moments-up, bits-since, tick-since, tick-early, copy-there, differ-there, found-copy, at-copy, origin, aside-there, frame-is, early-there}
+use Rattle.frame_flow.proofs.{LevelLemmas.same-port, ForceLemmas.begun, ForceLemmas.not-begun}
+use Rattle.delay_flow.proofs.Places.{Network, FromBefore, bit-after, bit-soon, moments-up, bits-since, copy-there, differ-there, found-copy, at-copy, origin, aside-there, frame-is, early-there}
 
 -- ---- the premises
 
@@ -127,18 +127,18 @@ fed-there s flows traffic streams n tick prem p port before x c has there is =
     let sends = (copy-there s flows n.rate p c there).1 in
     let unbooked = held_from (is_unbooked c.frame.route force) (and_parts (not (is_unbooked c.frame.route force)) (has_vid c.frame.vid force) sends).0 in
     let route = (and_parts (is_in_class traffic c.frame) (is_route_of x.id c.frame.route) is).1 in
-    let ge = tick-since (n.rate p) tick c.bit (steady-tick s flows traffic streams n tick prem p port before x c has there is) in
-    let lt = tick-early (n.rate p) s.ticks c.bit (early-there s flows n.rate p port c there) in
+    let ge = begun (n.rate p) tick c.bit (steady-tick s flows traffic streams n tick prem p port before x c has there is) in
+    let lt = not-begun (n.rate p) s.ticks c.bit (early-there s flows n.rate p port c there) in
     let same = (prem.steady.same p (tick_at (n.rate p) c.bit) port ge lt).booked x.id in
     let booked : is_booked s p x.id ≡ true = sym same ∙ booked-route c.frame.route x.id force route unbooked in
     let by = sent-by s traffic streams prem.are x c.frame has from.0 is in
     elim from.1 [
-      | inl own ↦ prem.rules.fed_first p x port has booked (sym by.from ∙ own.from)
+      | inl own ↦ (prem.rules.at p port).fed_first x has booked (sym by.from ∙ own.from)
       | inr (via, b) ↦ (
           let q = peer_of s.tree.links via in
           let hold = before via b.before.port b.before.node b.before.other in
           let is_there = subst (λ (f : Frame). is_frame_of traffic x f ≡ true) (sym b.same) is in
-          prem.rules.fed_on p via x port b.before has booked
+          (prem.rules.at p port).fed_on via x b.before has booked
           (of-all traffic (λ y d. n.fed q y ≡ true) streams (sendable_at s flows n.rate q) hold.fed x b.copy has b.there is_there))
     ]
 
@@ -201,8 +201,8 @@ own-alone s flows rate net p port c via b from =
     net.laws.own via b.before.port (subst (λ (y : ℕ). is_behind s.tree.links via y ≡ true) (from ∙ sym b.before.node) b.behind)
 
 kept-first : (s : Setting) (flows : List PortFlow) (traffic : Traffic) (streams : List ClassStream) (n : Numbers) (tick : ℕ) → Premises s flows traffic streams n tick
-    → (p : EgressPort) → HasPort s.tree p → (x : ClassStream) → Contains streams x → x.talker.0 ≡ p.node.0 → IsKept s flows traffic n p x
-kept-first s flows traffic streams n tick prem p port x has own =
+    → (p : EgressPort) → HasPort s.tree p → (x : ClassStream) → Contains streams x → n.fed p x ≡ true → x.talker.0 ≡ p.node.0 → IsKept s flows traffic n p x
+kept-first s flows traffic streams n tick prem p port x has fed own =
     kept-from_file s flows traffic streams n tick prem p port x has
     (λ c there is.
     let from = origin s flows n.rate prem.net p port c there in
@@ -210,7 +210,7 @@ kept-first s flows traffic streams n tick prem p port x has own =
     elim from.1 [
       | inl st ↦ (
           let m : moment_of (n.rate p) c.bit ≡ moment_of (n.rate p) (bit_from (n.rate p) c.frame.at.0) = ap (λ (b : ℕ). moment_of (n.rate p) b) st.bit in
-          let late = prem.rules.late_first p x port own in
+          let late = (prem.rules.at p port).late_first x has fed own in
           (omega (arith, m, bit-after (n.rate p) c.frame.at.0), omega (arith, m, bit-soon (n.rate p) c.frame.at.0, late)))
       | inr (via, b) ↦ absurd (own-alone s flows n.rate prem.net p port c via b (by.from ∙ own))
     ])
@@ -240,8 +240,8 @@ came-by s flows traffic streams n tick prem p r port other x has behind c there 
 
 kept-on : (s : Setting) (flows : List PortFlow) (traffic : Traffic) (streams : List ClassStream) (n : Numbers) (tick : ℕ) → Premises s flows traffic streams n tick
     → (p r : EgressPort) → HasPort s.tree p → IsBefore s p r → HoldsAt s flows traffic streams n (peer_of s.tree.links r) → (x : ClassStream) → Contains streams x
-    → is_behind s.tree.links r x.talker.0 ≡ true → n.fed (peer_of s.tree.links r) x ≡ true → IsKept s flows traffic n p x
-kept-on s flows traffic streams n tick prem p r port other hold x has behind fed =
+    → is_behind s.tree.links r x.talker.0 ≡ true → n.fed (peer_of s.tree.links r) x ≡ true → n.fed p x ≡ true → IsKept s flows traffic n p x
+kept-on s flows traffic streams n tick prem p r port other hold x has behind fed fed_here =
     let q = peer_of s.tree.links r in
     let test = is_frame_of traffic x in
     let fs = filter test s.frames in
@@ -250,7 +250,7 @@ kept-on s flows traffic streams n tick prem p r port other hold x has behind fed
     let gap = n.wait q x * bit_ps_of (n.rate q) + bit_ps_of (n.rate p) in
     let old = All-contains (λ (y : ClassStream). n.fed q y ≡ true → IsKept s flows traffic n q y) streams x hold.kept has fed in
     let base : (x.limits.burst * second + slope * n.late q x) + slope * gap ≡ x.limits.burst * second + slope * n.late p x =
-    (let late : n.late p x ≡ n.late q x + gap = prem.rules.late_on p r x port other behind ∙ omega arith in
+    (let late : n.late p x ≡ n.late q x + gap = (prem.rules.at p port).late_on r x other has fed_here behind ∙ omega arith in
     let apart : slope * n.late p x ≡ slope * n.late q x + slope * gap = ap (λ (k : ℕ). slope * k) late ∙ mul-add slope (n.late q x) gap in
     omega (arith, apart)) in
     subst (λ (k : ℕ). IsBoundBy (λ f. f.bits) (there_at s flows n.rate p) k slope fs) base
@@ -279,14 +279,15 @@ kept-on s flows traffic streams n tick prem p r port other hold x has behind fed
     subst (λ (o : Option ℕ). ComesFrom least gap o (Some (moment_of (n.rate p) c.bit))) (sym found) both)))
 
 pub kept-there : (s : Setting) (flows : List PortFlow) (traffic : Traffic) (streams : List ClassStream) (n : Numbers) (tick : ℕ) → Premises s flows traffic streams n tick
-    → (p : EgressPort) → HasPort s.tree p → HoldBefore s flows traffic streams n p → (x : ClassStream) → Contains streams x → IsKept s flows traffic n p x
-kept-there s flows traffic streams n tick prem p port before x has =
+    → (p : EgressPort) → HasPort s.tree p → HoldBefore s flows traffic streams n p → (x : ClassStream) → Contains streams x → n.fed p x ≡ true
+    → IsKept s flows traffic n p x
+kept-there s flows traffic streams n tick prem p port before x has fed_here =
     let links = s.tree.links in
     let laws = prem.net.laws in
     let test = is_frame_of traffic x in
     let node = All-contains (λ (y : ClassStream). HasNode s.tree y.talker.0) streams x prem.are.talkers has in
     elim (laws.some_port p.node.0 x.talker.0 port.0 node) [
-      | inl own ↦ kept-first s flows traffic streams n tick prem p port x has (sym own)
+      | inl own ↦ kept-first s flows traffic streams n tick prem p port x has fed_here (sym own)
       | inr (r, there, at, behind) ↦ elim (cases_Bool (is_port r p)) [
         | inl itself ↦ kept-nowhere s flows traffic streams n tick prem p port x has
             (λ c copy mine.
@@ -299,7 +300,7 @@ kept-there s flows traffic streams n tick prem p port before x has =
             let q = peer_of links r in
             let hold = before r there at other in
             elim (cases_Bool (n.fed q x)) [
-              | inl fed ↦ kept-on s flows traffic streams n tick prem p r port is_before hold x has behind fed
+              | inl fed ↦ kept-on s flows traffic streams n tick prem p r port is_before hold x has behind fed fed_here
               | inr unfed ↦ kept-nowhere s flows traffic streams n tick prem p port x has
                   (λ c copy mine.
                   let b = came-by s flows traffic streams n tick prem p r port is_before x has behind c copy mine in

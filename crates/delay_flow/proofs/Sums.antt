@@ -4,6 +4,7 @@ use Rattle.std.specs.Prelude.{All, AllPairs, Contains, sum_by, filter, find, ◌
 use Rattle.std.proofs.lemmas.{Bool.cond_both, Bool.cond-true, Bool.cond-false, Bool.cases_Bool, Bool.cases_eq, Bool.eq-eqb, Bool.ne_eqb, List.get_or-map, List.length-map, List.Elements.All-head, List.Elements.All-tail, List.Elements.All-weaker, List.Sums.sum_by-cons, List.Sums.get_or-le-sum_by}
 use Rattle.credit_shaper.proofs.PairLemmas.{pairs-head, pairs-tail}
 use Rattle.frame_flow.specs.declared.{frame.Frame.Frame, frame.FrameCopy.FrameCopy}
+use Rattle.delay_bound.proofs.WindowLemmas.{sum_both, sum_same}
 use Rattle.delay_flow.specs.{copy_in}
 
 -- ---- membership
@@ -22,14 +23,6 @@ contains-map f xs x (k, below, same) =
     (k, omega (arith, below, length-map xs f), get_or-map f xs k x (f x) below ∙ ap f same)
 
 -- ---- sums
-
-pub sum-same : {F : Type 0} (f g : F → ℕ) (fs : List F) → ((x : F) → f x ≡ g x) → sum_by f fs ≡ sum_by g fs
-sum-same f g [] same = refl
-sum-same f g (x ∷ xs) same = omega (arith, sum_by-cons f x xs, sum_by-cons g x xs, same x, sum-same f g xs same)
-
-pub sum-both : {F : Type 0} (f g : F → ℕ) (fs : List F) → sum_by (λ x. f x + g x) fs ≡ sum_by f fs + sum_by g fs
-sum-both f g [] = refl
-sum-both f g (x ∷ xs) = omega (arith, sum_by-cons (λ t. f t + g t) x xs, sum_by-cons f x xs, sum_by-cons g x xs, sum-both f g xs)
 
 pub sum-filter_cons : {F : Type 0} (g : F → ℕ) (p : F → Bool) (x : F) (xs : List F) → sum_by g (filter p (x ∷ xs)) ≡ cond (p x) (g x) 0 + sum_by g (filter p xs)
 sum-filter_cons {F} g p x xs =
@@ -102,10 +95,10 @@ sum-keys {X} {Y} kx ky g (x ∷ xs) ys apart known =
     let rest = sum-keys kx ky g xs ys (pairs-tail R x xs apart) (All-tail K x xs known) in
     let old : Y → ℕ = λ y. value_in g (find (λ z. kx z == ky y) xs) in
     let one : Y → ℕ = λ y. cond (kx x == ky y) (g x) 0 in
-    let both = sum-same (λ y. old y + one y) (λ y. value_in g (find (λ z. kx z == ky y) (x ∷ xs))) ys (λ y. value-more kx g x xs (ky y) (pairs-head R x xs apart)) in
+    let both = sum_same (λ y. old y + one y) (λ y. value_in g (find (λ z. kx z == ky y) (x ∷ xs))) ys (λ y. value-more kx g x xs (ky y) (pairs-head R x xs apart)) in
     let there = All-head K x xs known in
     let own : g x ≡ one there.0 = sym (cond-true (kx x == ky there.0) (g x) 0 (eq-eqb (kx x) (ky there.0) (sym there.2))) in
-    omega (arith, sum_by-cons g x xs, rest, both, sum-both old one ys, own, sum-has one ys there.0 there.1)
+    omega (arith, sum_by-cons g x xs, rest, both, sum_both old one ys, own, sum-has one ys there.0 there.1)
 
 -- a sum over copies of different frames is one over the frames
 pub sum-frames : (g : FrameCopy → ℕ) (cs : List FrameCopy) (fs : List Frame) → AllPairs Differ cs → All (λ c. Contains fs c.frame) cs

@@ -92,7 +92,7 @@ are-there s flows traffic n p k d below =
 -- the first bound of what passes a test is that of the streams that are fed there and pass their own
 first-bound : (s : Setting) (flows : List PortFlow) (traffic : Traffic) (streams : List ClassStream) (n : Numbers) (tick : ℕ) → Premises s flows traffic streams n tick
     → (p : EgressPort) → HasPort s.tree p → OfCopies traffic (λ x c. n.fed p x ≡ true) streams (sendable_at s flows n.rate p)
-    → ((x : ClassStream) → Contains streams x → IsKept s flows traffic n p x) → (side : ℕ → Bool)
+    → ((x : ClassStream) → Contains streams x → n.fed p x ≡ true → IsKept s flows traffic n p x) → (side : ℕ → Bool)
     → IsBoundBy (λ f. f.bits) (there_at s flows n.rate p) (bound_of n p (filter (λ x. n.fed p x && side x.talker.0) streams)).base
     (bound_of n p (filter (λ x. n.fed p x && side x.talker.0) streams)).slope (filter (λ f. side f.from.0) (frames_there s flows n.rate traffic p))
 first-bound s flows traffic streams n tick prem p port fed kept side =
@@ -124,7 +124,7 @@ first-bound s flows traffic streams n tick prem p port fed kept side =
     (λ from to.
     let part : Frame → ℕ = λ f. cond (is_within from to (at f)) f.bits 0 in
     omega (arith, sum-filter_more part own test all, sum-filter_more part own (λ f. is_in_class traffic f && is_there s flows n.rate p f) s.frames))
-    (kept x (has k d below)))
+    (kept x (has k d below) (and_parts (n.fed p x) (side x.talker.0) (filter_passes mine streams k d below)).0))
 
 -- the tests of a port's groups
 abbrev tests_at : Setting → EgressPort → List (Frame → Bool)
@@ -132,7 +132,7 @@ tests_at s p = (λ f. f.from.0 == p.node.0) ∷ map (λ r f. is_behind s.tree.li
 
 brought-there : (s : Setting) (flows : List PortFlow) (traffic : Traffic) (streams : List ClassStream) (n : Numbers) (tick : ℕ) → Premises s flows traffic streams n tick
     → (p : EgressPort) → HasPort s.tree p → OfCopies traffic (λ x c. n.fed p x ≡ true) streams (sendable_at s flows n.rate p)
-    → ((x : ClassStream) → Contains streams x → IsKept s flows traffic n p x) → HoldBefore s flows traffic streams n p → (from to : ℕ) → from ≤ to
+    → ((x : ClassStream) → Contains streams x → n.fed p x ≡ true → IsKept s flows traffic n p x) → HoldBefore s flows traffic streams n p → (from to : ℕ) → from ≤ to
     → bits_within (λ f. f.bits) (there_at s flows n.rate p) from to (frames_there s flows n.rate traffic p) * second ≤ brought_in (groups_at s n streams p) (to - from)
 brought-there s flows traffic streams n tick prem p port fed kept before from to up =
     let links = s.tree.links in
@@ -189,7 +189,7 @@ none-before s flows traffic streams n tick prem p port before =
 -- a copy that has waited up to a bit time has waited no more than its stream does there
 owed-number : (s : Setting) (flows : List PortFlow) (traffic : Traffic) (streams : List ClassStream) (n : Numbers) (tick : ℕ) → Premises s flows traffic streams n tick
     → (p : EgressPort) → HasPort s.tree p → OfCopies traffic (λ x c. n.fed p x ≡ true) streams (sendable_at s flows n.rate p)
-    → ((x : ClassStream) → Contains streams x → IsKept s flows traffic n p x) → HoldBefore s flows traffic streams n p
+    → ((x : ClassStream) → Contains streams x → n.fed p x ≡ true → IsKept s flows traffic n p x) → HoldBefore s flows traffic streams n p
     → (x : ClassStream) → Contains streams x → (k : ℕ) (d : FrameCopy) → k < length (sendable_at s flows n.rate p)
     → is_frame_of traffic x (get_or (sendable_at s flows n.rate p) k d).frame ≡ true → (u : ℕ) → (get_or (sendable_at s flows n.rate p) k d).bit ≤ u
     → IsWaitOwed (input_at s flows n.rate p) (map arrival_of (take k (sendable_at s flows n.rate p))) (arrival_of (get_or (sendable_at s flows n.rate p) k d))
@@ -225,8 +225,8 @@ owed-number s flows traffic streams n tick prem p port fed kept before x has k d
     let is_owed : IsOwed groups (bits_of rate) (bit_ps_of rate) slope idle c.frame.bits ahead owed.since c.bit u =
     record { since = owed.before; until = upto; owed = wait; brought = omega (arith, count, within, spanned) } in
     let number = wait_within groups (bits_of rate) (bit_ps_of rate) slope idle (n.peak p) x.least c.frame.bits ahead owed.since c.bit u
-    (prem.rules.peak p x port has is_fed) (rate-second rate) (prem.rules.slope p x port has is_fed) (slope-fast (bits_of rate) traffic force below_rate) by.least is_owed in
-    omega (arith, number, prem.rules.wait p x port has is_fed)
+    ((prem.rules.at p port).peak x has is_fed) (rate-second rate) ((prem.rules.at p port).slope x has is_fed) (slope-fast (bits_of rate) traffic force below_rate) by.least is_owed in
+    omega (arith, number, (prem.rules.at p port).wait x has is_fed)
 
 -- ---- a copy goes in time
 
@@ -247,7 +247,7 @@ record Times (s : Setting) (flows : List PortFlow) (n : Numbers) (p : EgressPort
 
 times-there : (s : Setting) (flows : List PortFlow) (traffic : Traffic) (streams : List ClassStream) (n : Numbers) (tick : ℕ) → Premises s flows traffic streams n tick
     → (p : EgressPort) → HasPort s.tree p → HoldBefore s flows traffic streams n p → OfCopies traffic (λ x c. n.fed p x ≡ true) streams (sendable_at s flows n.rate p)
-    → ((x : ClassStream) → Contains streams x → IsKept s flows traffic n p x)
+    → ((x : ClassStream) → Contains streams x → n.fed p x ≡ true → IsKept s flows traffic n p x)
     → (x : ClassStream) → Contains streams x → (k : ℕ) (d : FrameCopy) → k < length (sendable_at s flows n.rate p)
     → is_frame_of traffic x (get_or (sendable_at s flows n.rate p) k d).frame ≡ true → Times s flows n p x (get_or (sendable_at s flows n.rate p) k d)
 times-there s flows traffic streams n tick prem p port before fed kept x has k d below is =
@@ -267,7 +267,7 @@ times-there s flows traffic streams n tick prem p port before fed kept x has k d
     let class = (and_parts (is_in_class traffic c.frame) (is_route_of x.id c.frame.route) is).0 in
     let same = sym (same-traffic (traffic_of c.frame.route) traffic class) in
     let fresh = prem.laws.fresh input traffic z valid prem.class (none-before s flows traffic streams n tick prem p port before) in
-    let some = prem.rules.slope p x port has (fed x c has there is) in
+    let some = (prem.rules.at p port).slope x has (fed x c has there is) in
     let one = one-slope s flows traffic streams n tick prem p port some in
     let starts = prem.laws.start input (map arrival_of (take k cs)) (map arrival_of (drop (suc k) cs)) a slope slope_a z valid (has-place cs k d below)
     (subst IsClass same prem.class) (subst (λ (t : Traffic). IsFresh input t z) same fresh) (steady-tick s flows traffic streams n tick prem p port before x c has there is)
@@ -310,9 +310,9 @@ times-there s flows traffic streams n tick prem p port before fed kept x has k d
 -- how long it has taken on its way
 spent-there : (s : Setting) (flows : List PortFlow) (traffic : Traffic) (streams : List ClassStream) (n : Numbers) (tick : ℕ) → Premises s flows traffic streams n tick
     → (p : EgressPort) → HasPort s.tree p → HoldBefore s flows traffic streams n p → (x : ClassStream) → Contains streams x → (c : FrameCopy)
-    → Contains (sendable_at s flows n.rate p) c → is_frame_of traffic x c.frame ≡ true → (end : ℕ) → end ≤ c.bit + (n.wait p x + x.least)
+    → n.fed p x ≡ true → Contains (sendable_at s flows n.rate p) c → is_frame_of traffic x c.frame ≡ true → (end : ℕ) → end ≤ c.bit + (n.wait p x + x.least)
     → moment_of (n.rate p) end ≤ c.frame.at.0 + n.spent p x
-spent-there s flows traffic streams n tick prem p port before x has c there is end soon =
+spent-there s flows traffic streams n tick prem p port before x has c is_fed there is end soon =
     let rate = n.rate p in
     let way = n.wait p x + x.least in
     let up = moments-up rate end (c.bit + way) soon in
@@ -321,7 +321,7 @@ spent-there s flows traffic streams n tick prem p port before x has c there is e
     let by = sent-by s traffic streams prem.are x c.frame has from.0 is in
     let m : ℕ → ℕ = λ b. moment_of rate b in
     elim from.1 [
-      | inl own ↦ omega (arith, up, apart, bit-soon rate c.frame.at.0, ap m own.bit, prem.rules.spent_first p x port (sym by.from ∙ own.from))
+      | inl own ↦ omega (arith, up, apart, bit-soon rate c.frame.at.0, ap m own.bit, (prem.rules.at p port).spent_first x has is_fed (sym by.from ∙ own.from))
       | inr (via, b) ↦ (
           let q = peer_of s.tree.links via in
           let hold = before via b.before.port b.before.node b.before.other in
@@ -330,7 +330,7 @@ spent-there s flows traffic streams n tick prem p port before x has c there is e
           let old = goes.spent b.start b.end b.fate in
           let at : b.copy.frame.at.0 ≡ c.frame.at.0 = ap (λ (f : Frame). f.at.0) b.same in
           let behind = subst (λ (y : ℕ). is_behind s.tree.links via y ≡ true) by.from b.behind in
-          omega (arith, up, apart, old, at, bit-soon rate (moment_of (n.rate q) b.end), ap m b.bit, prem.rules.spent_on p via x port b.before behind))
+          omega (arith, up, apart, old, at, bit-soon rate (moment_of (n.rate q) b.end), ap m b.bit, (prem.rules.at p port).spent_on via x b.before has is_fed behind))
     ]
 
 -- ---- at each port
@@ -344,7 +344,7 @@ step s flows traffic streams n tick prem p port before =
     record {
       fed = all-of traffic (λ x c. n.fed p x ≡ true) streams cs fed;
       since = all-of traffic (IsTimely n.rate p) streams cs (since-there s flows traffic streams n tick prem p port before);
-      kept = λ i y few is_fed. kept (get_or streams i y) (Contains-get_or streams i y few);
+      kept = λ i y few is_fed. kept (get_or streams i y) (Contains-get_or streams i y few) is_fed;
       in_time = λ i y few k d below is.
           let x = get_or streams i y in
           let has = Contains-get_or streams i y few in
@@ -353,7 +353,7 @@ step s flows traffic streams n tick prem p port before =
           record {
             starts = times.starts;
             ends = times.ends;
-            spent = λ start end fate. spent-there s flows traffic streams n tick prem p port before x has (get_or cs k d) there is end (times.starts start end fate).1;
+            spent = λ start end fate. spent-there s flows traffic streams n tick prem p port before x has (get_or cs k d) (fed x (get_or cs k d) has there is) there is end (times.starts start end fate).1;
           };
     }
 

@@ -1,6 +1,6 @@
 -- The numbers of a stream along its way, and what conforms.
 use Rattle.std.proofs.Common.{◌≡◌, ℕ, ◌+◌, ◌*◌, ◌<◌, ◌≤◌, inl, inr, Bool, true, false, cond, List, [], ◌∷◌, ◌++◌, length, map, Some, refl, sym, ◌∙◌, ap, subst, arith}
-use Rattle.std.specs.Prelude.{All, filter, sum_by, not, ◌&&◌}
+use Rattle.std.specs.Prelude.{All, Contains, filter, sum_by, not, ◌&&◌}
 use Rattle.std.specs.List.{list_all}
 use Rattle.std.proofs.lemmas.{Bool.cases_Bool, Bool.and_from, Bool.and_parts, Bool.false≢true, List.map-append, List.length-map, List.get_or-map, List.Folds.list_all-append, List.Sorted.IsPermutation-sym, List.Sorted.All-permutation, List.Sorted.sum_by-IsPermutation, List.Sums.sum_by-append, List.Sums.sum_by-cons}
 use Rattle.srp_base.proofs.Bools.{held_from}
@@ -45,10 +45,10 @@ behind-before : (s : Setting) → HasPortLaws s.tree → (y : ℕ) → HasNode s
     → is_behind s.tree.links r y ≡ true
 behind-before s laws y node r port aside = laws.sides r y port node ∙ ap (λ (b : Bool). not b) aside
 
--- ---- what is spent on a frame
+-- ---- what is spent on a frame, by a way
 
 abbrev IsWithin : Setting → Numbers → ClassStream → EgressPort → Type 0
-IsWithin s n x p = is_behind s.tree.links p x.talker.0 ≡ false → n.spent p x ≡ within_of x.least (map (hop_of n x) (way_to s x p))
+IsWithin s n x p = is_fed s p x ≡ true → n.spent p x ≡ within_of x.least (map (hop_of n x) (way_to s x p))
 
 hops-more : (n : Numbers) (x : ClassStream) (way : List EgressPort) (p : EgressPort)
     → within_of x.least (map (hop_of n x) (way ++ p ∷ [])) ≡ within_of x.least (map (hop_of n x) way) + taken_at x.least (hop_of n x p)
@@ -57,27 +57,6 @@ hops-more n x way p =
     let t : Hop → ℕ = λ h. taken_at x.least h in
     ap (λ (hs : List Hop). sum_by t hs) (map-append (hop_of n x) way (p ∷ []))
     ∙ omega (arith, sum_by-append t hops (hop_of n x p ∷ []), sum_by-cons t (hop_of n x p) [])
-
-pub spent-within : (s : Setting) → HasPortLaws s.tree → (traffic : Traffic) (streams : List ClassStream) (n : Numbers) → KeepRules s traffic streams n
-    → (x : ClassStream) → HasNode s.tree x.talker.0 → (p : EgressPort) → HasPort s.tree p → IsWithin s n x p
-spent-within s laws traffic streams n rules x node p port =
-    along s.tree laws (λ q. IsWithin s n x q)
-    (λ q there before aside.
-    let W : List EgressPort → ℕ = λ w. within_of x.least (map (hop_of n x) w) in
-    elim (laws.some_port q.node.0 x.talker.0 there.0 node) [
-      | inl own ↦ (
-          let way = ap W (way-first s laws x node q there aside (sym own)) in
-          omega (arith, way, hops-more n x [] q, rules.spent_first q x there (sym own)))
-      | inr (r, at, same, behind) ↦ elim (cases_Bool (is_port r q)) [
-        | inl itself ↦ absurd (false≢true (sym aside ∙ subst (λ (t : EgressPort). is_behind s.tree.links t x.talker.0 ≡ true) (same-port r q itself) behind))
-        | inr other ↦ (
-            let is_before : IsBefore s q r = record { port = at; node = same; other = other } in
-            let old = before r at same other (aside-before s laws x.talker.0 node r at behind) in
-            let way = ap W (way-on s laws x node q r there aside is_before) in
-            omega (arith, way, old, hops-more n x (way_to s x (peer_of s.tree.links r)) q, rules.spent_on q r x there is_before behind))
-      ]
-    ])
-    p port
 
 -- ---- where a stream is fed
 
@@ -114,6 +93,63 @@ fed-on s laws p r x port other node booked fed =
     (ap (λ (w : List EgressPort). list_all test w) (way-on s laws x node p r port aside other)
     ∙ list_all-append test (way_to s x q) (p ∷ [])
     ∙ and_from (list_all test (way_to s x q)) (test p && true) parts.1 (and_from (test p) true booked refl))
+
+-- where it is fed, and at each port of its way before
+pub aside-fed : (s : Setting) (p : EgressPort) (x : ClassStream) → is_fed s p x ≡ true → is_behind s.tree.links p x.talker.0 ≡ false
+aside-fed s p x fed = held_from (is_behind s.tree.links p x.talker.0)
+    (and_parts (not (is_behind s.tree.links p x.talker.0)) (list_all (λ q. is_booked s q x.id) (way_to s x p)) fed).0
+
+pub fed-back : (s : Setting) → HasPortLaws s.tree → (p r : EgressPort) (x : ClassStream) → HasPort s.tree p → IsBefore s p r → HasNode s.tree x.talker.0
+    → is_behind s.tree.links r x.talker.0 ≡ true → is_fed s p x ≡ true → is_fed s (peer_of s.tree.links r) x ≡ true
+fed-back s laws p r x port other node behind fed =
+    let links = s.tree.links in
+    let q = peer_of links r in
+    let y = x.talker.0 in
+    let test : EgressPort → Bool = λ t. is_booked s t x.id in
+    let parts = and_parts (not (is_behind links p y)) (list_all test (way_to s x p)) fed in
+    let aside = aside-fed s p x fed in
+    let both : (list_all test (way_to s x q) && (test p && true)) ≡ true =
+    sym (ap (λ (w : List EgressPort). list_all test w) (way-on s laws x node p r port aside other) ∙ list_all-append test (way_to s x q) (p ∷ [])) ∙ parts.1 in
+    and_from (not (is_behind links q y)) (list_all test (way_to s x q)) (ap (λ (b : Bool). not b) (aside-before s laws y node r other.port behind))
+    (and_parts (list_all test (way_to s x q)) (test p && true) both).0
+
+pub booked-fed : (s : Setting) → HasPortLaws s.tree → (p : EgressPort) (x : ClassStream) → HasPort s.tree p → HasNode s.tree x.talker.0 → is_fed s p x ≡ true → is_booked s p x.id ≡ true
+booked-fed s laws p x port node fed =
+    let links = s.tree.links in
+    let y = x.talker.0 in
+    let test : EgressPort → Bool = λ t. is_booked s t x.id in
+    let parts = and_parts (not (is_behind links p y)) (list_all test (way_to s x p)) fed in
+    let before = path_between links y p.node.0 in
+    let both : (list_all test before && (test p && true)) ≡ true =
+    sym (ap (λ (w : List EgressPort). list_all test w) (way-last s laws x node p port (aside-fed s p x fed)) ∙ list_all-append test before (p ∷ [])) ∙ parts.1 in
+    (and_parts (test p) true (and_parts (list_all test before) (test p && true) both).1).0
+
+-- ---- what is spent on a frame
+
+pub spent-within : (s : Setting) → HasPortLaws s.tree → (traffic : Traffic) (streams : List ClassStream) (n : Numbers) → KeepRules s traffic streams n
+    → ((q : EgressPort) (y : ClassStream) → HasPort s.tree q → Contains streams y → is_fed s q y ≡ true → n.fed q y ≡ true)
+    → (x : ClassStream) → Contains streams x → HasNode s.tree x.talker.0 → (p : EgressPort) → HasPort s.tree p → IsWithin s n x p
+spent-within s laws traffic streams n rules feeds x has node p port =
+    along s.tree laws (λ q. IsWithin s n x q)
+    (λ q there before fed.
+    let W : List EgressPort → ℕ = λ w. within_of x.least (map (hop_of n x) w) in
+    let at = rules.at q there in
+    let here = feeds q x there has fed in
+    let aside = aside-fed s q x fed in
+    elim (laws.some_port q.node.0 x.talker.0 there.0 node) [
+      | inl own ↦ (
+          let way = ap W (way-first s laws x node q there aside (sym own)) in
+          omega (arith, way, hops-more n x [] q, at.spent_first x has here (sym own)))
+      | inr (r, port_r, same, behind) ↦ elim (cases_Bool (is_port r q)) [
+        | inl itself ↦ absurd (false≢true (sym aside ∙ subst (λ (t : EgressPort). is_behind s.tree.links t x.talker.0 ≡ true) (same-port r q itself) behind))
+        | inr other ↦ (
+            let is_before : IsBefore s q r = record { port = port_r; node = same; other = other } in
+            let old = before r port_r same other (fed-back s laws q r x there is_before node behind fed) in
+            let way = ap W (way-on s laws x node q r there aside is_before) in
+            omega (arith, way, old, hops-more n x (way_to s x (peer_of s.tree.links r)) q, at.spent_on r x is_before has here behind))
+      ]
+    ])
+    p port
 
 -- ---- what conforms
 

@@ -7,7 +7,8 @@ use Rattle.frame_flow.specs.declared.{frame.FrameCopy.FrameCopy, result.PortFlow
 use Rattle.frame_flow.specs.declared.result.Fate.TheVariants.{Departed, Left}
 use Rattle.frame_flow.specs.{Moments.moment_of, Flow.Setting}
 use Rattle.delay_bound.specs.{Bounds.second, Windows.IsBoundBy}
-use Rattle.delay_flow.specs.{Streams.ClassStream, Streams.is_frame_of, Places.flow_there, Places.sendable_at, Places.there_at, Rules.Numbers}
+use Rattle.delay_bound.specs.declared.stream.ClassStream.{ClassStream}
+use Rattle.delay_flow.specs.{Streams.is_frame_of, Places.flow_there, Places.sendable_at, Places.there_at, Rules.Numbers}
 
 -- a copy of a stream's frame starts at most the stream's wait after its arrival, and a longer frame
 -- earlier by what it is longer than the stream's least; and it has taken no more ps from its moment

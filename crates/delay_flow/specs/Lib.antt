@@ -8,3 +8,4 @@ pub use Places.*
 pub use Rules.*
 pub use Delays.*
 pub use Ways.*
+pub use Rattle.delay_bound.specs.declared.stream.ClassStream.{ClassStream}

@@ -13,7 +13,8 @@ use Rattle.tree_topology.specs.{Topology.HasPort, Ports.peer_of, Walk.is_behind}
 use Rattle.frame_flow.specs.{Force.is_port, Force.first_slopes, Copies.all_places, Copies.ports_at, Flow.Setting}
 use Rattle.delay_bound.specs.declared.bound.{Bound.Bound, Group.Group}
 use Rattle.delay_bound.specs.{Bounds.second, Bounds.IsPeak, Waits.wait_of, Waits.late_behind}
-use Rattle.delay_flow.specs.{Streams.ClassStream, Places.class_slope, Places.is_booked, Places.last_force}
+use Rattle.delay_bound.specs.declared.stream.ClassStream.{ClassStream}
+use Rattle.delay_flow.specs.{Places.class_slope, Places.is_booked, Places.last_force}
 
 -- for each port its rate, which streams are fed there, by how many ps two of a stream's frames may
 -- have moved towards each other up to there, how many bit times a stream's frame waits there at
@@ -95,43 +96,43 @@ pub record IsFurther (s : Setting) (traffic : Traffic) (streams : List ClassStre
       (idle_of (bits_of (n.rate (peer_of s.tree.links r)))
       (first_slopes (last_force s (peer_of s.tree.links r))).slope_a traffic) most)
 
--- the numbers of a class keep the rules, for its streams
-pub record KeepRules (s : Setting) (traffic : Traffic) (streams : List ClassStream) (n : Numbers) : Type 0 where
-  pub rates : All (λ x. x.rate ≡ n.rate x.at) (all_places s.tree.links s.rates)
+-- the numbers of a class keep the rules at a port, for its streams
+pub record KeepRulesAt (s : Setting) (traffic : Traffic) (streams : List ClassStream) (n : Numbers) (p : EgressPort) : Type 0 where
   -- a stream is fed where it is booked and the station is its Talker's, or it is fed at a port that
   -- sends into the node
-  pub fed_first : (p : EgressPort) (x : ClassStream) → HasPort s.tree p → Contains streams x
-      → is_booked s p x.id ≡ true → x.talker.0 ≡ p.node.0 → n.fed p x ≡ true
-  pub fed_on : (p r : EgressPort) (x : ClassStream) → HasPort s.tree p → IsBefore s p r → Contains streams x
+  pub fed_first : (x : ClassStream) → Contains streams x → is_booked s p x.id ≡ true → x.talker.0 ≡ p.node.0
+      → n.fed p x ≡ true
+  pub fed_on : (r : EgressPort) (x : ClassStream) → IsBefore s p r → Contains streams x
       → is_booked s p x.id ≡ true → n.fed (peer_of s.tree.links r) x ≡ true → n.fed p x ≡ true
-  -- two frames move towards each other by a bit time of the first port, and further on by the wait
-  -- and a bit time of each
-  pub late_first : (p : EgressPort) (x : ClassStream) → HasPort s.tree p → x.talker.0 ≡ p.node.0
+  -- two frames of a stream that is fed there move towards each other by a bit time of the first
+  -- port, and further on by the wait and a bit time of each
+  pub late_first : (x : ClassStream) → Contains streams x → n.fed p x ≡ true → x.talker.0 ≡ p.node.0
       → n.late p x ≡ bit_ps_of (n.rate p)
-  pub late_on : (p r : EgressPort) (x : ClassStream) → HasPort s.tree p → IsBefore s p r
+  pub late_on : (r : EgressPort) (x : ClassStream) → IsBefore s p r → Contains streams x → n.fed p x ≡ true
       → is_behind s.tree.links r x.talker.0 ≡ true
       → n.late p x ≡ late_behind (n.late (peer_of s.tree.links r) x) (n.wait (peer_of s.tree.links r) x)
       (n.rate (peer_of s.tree.links r)) (n.rate p)
   -- what comes by another port has further bounds, or none
-  pub more : (p r : EgressPort) → HasPort s.tree p → IsBefore s p r
-      → All (IsFurther s traffic streams n p r) (n.more p r)
+  pub more : (r : EgressPort) → IsBefore s p r → All (IsFurther s traffic streams n p r) (n.more p r)
   -- where a stream is fed the class has a slope, and what comes has a peak, by which it waits
-  pub slope : (p : EgressPort) (x : ClassStream) → HasPort s.tree p → Contains streams x
-      → n.fed p x ≡ true → 0 < class_slope traffic (last_force s p)
-  pub peak : (p : EgressPort) (x : ClassStream) → HasPort s.tree p → Contains streams x
-      → n.fed p x ≡ true
+  pub slope : (x : ClassStream) → Contains streams x → n.fed p x ≡ true → 0 < class_slope traffic (last_force s p)
+  pub peak : (x : ClassStream) → Contains streams x → n.fed p x ≡ true
       → IsPeak (groups_at s n streams p) (class_slope traffic (last_force s p)) (n.peak p)
-  pub wait : (p : EgressPort) (x : ClassStream) → HasPort s.tree p → Contains streams x
-      → n.fed p x ≡ true
+  pub wait : (x : ClassStream) → Contains streams x → n.fed p x ≡ true
       → n.wait p x
       ≡ wait_of (bits_of (n.rate p)) (class_slope traffic (last_force s p))
       (idle_of (bits_of (n.rate p)) (first_slopes (last_force s p)).slope_a traffic)
       (n.peak p) x.least
   -- a frame takes to the next bit time, its wait and its bits at each port
-  pub spent_first : (p : EgressPort) (x : ClassStream) → HasPort s.tree p → x.talker.0 ≡ p.node.0
+  pub spent_first : (x : ClassStream) → Contains streams x → n.fed p x ≡ true → x.talker.0 ≡ p.node.0
       → n.spent p x ≡ bit_ps_of (n.rate p) + (n.wait p x + x.least) * bit_ps_of (n.rate p)
-  pub spent_on : (p r : EgressPort) (x : ClassStream) → HasPort s.tree p → IsBefore s p r
+  pub spent_on : (r : EgressPort) (x : ClassStream) → IsBefore s p r → Contains streams x → n.fed p x ≡ true
       → is_behind s.tree.links r x.talker.0 ≡ true
       → n.spent p x
       ≡ n.spent (peer_of s.tree.links r) x
       + (bit_ps_of (n.rate p) + (n.wait p x + x.least) * bit_ps_of (n.rate p))
+
+-- they have the ports' rates, and keep the rules at each port
+pub record KeepRules (s : Setting) (traffic : Traffic) (streams : List ClassStream) (n : Numbers) : Type 0 where
+  pub rates : All (λ x. x.rate ≡ n.rate x.at) (all_places s.tree.links s.rates)
+  pub at : (p : EgressPort) → HasPort s.tree p → KeepRulesAt s traffic streams n p

@@ -1,22 +1,14 @@
 -- The streams of a class in a flow, and what their Talkers send.
 use Rattle.std.specs.Prelude.{◌≡◌, ℕ, ◌*◌, ◌≤◌, Bool, true, false, ◌==◌, ◌&&◌, List, filter, All, Some}
 use Rattle.std.specs.List.{Contains}
-use Rattle.srp_base.specs.declared.numbers.{NodeNo.NodeNo, StreamId.StreamId}
+use Rattle.srp_base.specs.declared.numbers.StreamId.{StreamId}
 use Rattle.credit_shaper.specs.declared.shaper.Traffic.{Traffic}
 use Rattle.credit_shaper.specs.Credit.{traffic_number}
 use Rattle.tree_topology.specs.Topology.{HasNode}
 use Rattle.frame_flow.specs.declared.{frame.Frame.Frame, frame.Route.Route, frame.Route.TheVariants.Stream, frame.Route.TheVariants.To}
 use Rattle.frame_flow.specs.Flow.{Setting, traffic_of}
-use Rattle.delay_bound.specs.declared.stream.StreamLimits.{StreamLimits}
+use Rattle.delay_bound.specs.declared.stream.ClassStream.{ClassStream}
 use Rattle.delay_bound.specs.{Bounds.second, Windows.IsBoundBy}
-
--- a stream of a class: its StreamID, its Talker's station, what that may send, and the bits of the
--- least of its frames
-pub record ClassStream : Type 0 where
-  pub id : StreamId
-  pub talker : NodeNo
-  pub limits : StreamLimits
-  pub least : ℕ
 
 -- whether a frame is of a class
 abbrev pub is_in_class : Traffic → Frame → Bool

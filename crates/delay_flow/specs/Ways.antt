@@ -1,14 +1,15 @@
 -- The numbers of a stream along its way, and a stream's frames as its Talker's limits see them.
-use Rattle.std.specs.Prelude.{Bool, not, ◌&&◌, List, filter, map}
-use Rattle.std.specs.List.{list_all, Sorted.IsPermutation}
+use Rattle.std.specs.Prelude.{◌≡◌, Bool, true, not, ◌&&◌, List, filter, map}
+use Rattle.std.specs.List.{Contains, list_all, Sorted.IsPermutation}
 use Rattle.srp_base.specs.declared.numbers.EgressPort.{EgressPort}
 use Rattle.credit_shaper.specs.declared.shaper.Traffic.{Traffic}
-use Rattle.tree_topology.specs.{Ports.far_node, Walk.is_behind, Walk.path_between}
+use Rattle.tree_topology.specs.{Topology.HasPort, Ports.far_node, Walk.is_behind, Walk.path_between}
 use Rattle.frame_flow.specs.declared.frame.Frame.{Frame}
 use Rattle.frame_flow.specs.Flow.{Setting}
 use Rattle.delay_bound.specs.declared.{stream.SentFrame.SentFrame, way.Hop.Hop}
 use Rattle.delay_bound.specs.Frames.{DoConform}
-use Rattle.delay_flow.specs.{Streams.ClassStream, Streams.is_frame_of, Places.is_booked, Rules.Numbers}
+use Rattle.delay_bound.specs.declared.stream.ClassStream.{ClassStream}
+use Rattle.delay_flow.specs.{Streams.is_frame_of, Places.is_booked, Rules.Numbers}
 
 -- the ports of a stream's way from its Talker through a port
 abbrev pub way_to : Setting → ClassStream → EgressPort → List EgressPort
@@ -23,6 +24,11 @@ hop_of n x q = record { rate = n.rate q; wait = n.wait q x }
 abbrev pub is_fed : Setting → EgressPort → ClassStream → Bool
 is_fed s p x =
     not (is_behind s.tree.links p x.talker.0) && list_all (λ q. is_booked s q x.id) (way_to s x p)
+
+-- where streams are fed by their ways they are
+abbrev pub IsFedByWay : Setting → List ClassStream → Numbers → Type 0
+IsFedByWay s streams n =
+    (p : EgressPort) (x : ClassStream) → HasPort s.tree p → Contains streams x → is_fed s p x ≡ true → n.fed p x ≡ true
 
 -- a frame as it is sent
 abbrev pub sent_frame : Frame → SentFrame

@@ -1,20 +1,21 @@
 //! How long frames of a class wait and take, over the flow of a network. Each is a function that
 //! does nothing; calling it brings the law to a proof.
 
-ghost use Rattle.std.specs.Prelude.{◌≡◌, ℕ, ◌*◌, ◌<◌, ◌≤◌, true, false, Some, List, map, filter, All};
+ghost use Rattle.std.specs.Prelude.{◌≡◌, ℕ, ◌*◌, ◌<◌, ◌≤◌, true, Some, List, map, filter, All, Contains};
 ghost use Rattle.srp_base.specs.declared.numbers.EgressPort.{EgressPort};
 ghost use Rattle.credit_shaper.specs.declared.{shaper.Traffic.Traffic, port.Arrival.Arrival, port.PortInput.PortInput};
 ghost use Rattle.class_service.specs.Class.{IsClass};
-ghost use Rattle.tree_topology.specs.{Topology.HasNode, Topology.HasPort, Topology.IsSound, Ports.peer_of, Walk.is_behind};
+ghost use Rattle.tree_topology.specs.{Topology.HasNode, Topology.HasPort, Topology.IsSound, Ports.peer_of};
 ghost use Rattle.frame_flow.specs.declared.result.PortFlow.{PortFlow};
 ghost use Rattle.frame_flow.specs.{Flow.Setting, Flow.IsFlow, Given.IsSetting};
 ghost use Rattle.delay_bound.specs.declared.stream.SentFrame.{SentFrame};
 ghost use Rattle.delay_bound.specs.{Bounds.second, Waits.within_of, Windows.IsBoundBy};
-ghost use Rattle.delay_flow.specs.Streams.{ClassStream, AreStreams, is_in_class, is_frame_of};
+ghost use Rattle.delay_bound.specs.declared.stream.ClassStream.{ClassStream};
+ghost use Rattle.delay_flow.specs.Streams.{AreStreams, is_in_class, is_frame_of};
 ghost use Rattle.delay_flow.specs.Places.{is_booked, IsSteady, ChangesNothing};
 ghost use Rattle.delay_flow.specs.Rules.{Numbers, IsBefore, KeepRules};
 ghost use Rattle.delay_flow.specs.Delays.{HoldsAt};
-ghost use Rattle.delay_flow.specs.Ways.{way_to, hop_of, is_fed, ConformInOrder};
+ghost use Rattle.delay_flow.specs.Ways.{way_to, hop_of, is_fed, IsFedByWay, ConformInOrder};
 
 use class_service::laws::{
     a_class_is_served_by_its_frames_and_slopes, a_class_without_frames_is_fresh,
@@ -46,13 +47,14 @@ pub fn each_frame_goes_in_time()
     each_frame_of_a_class_starts_in_time();
 }
 
-/// What is spent on a stream's frames up to a port is what they take at most on their way there: at
-/// each port of the way a bit time, the wait and the bits.
+/// What is spent on the frames of a stream up to a port where it is fed is what they take at most on
+/// their way there: at each port of the way a bit time, the wait and the bits.
 pub fn what_is_spent_is_within()
     ensures { (s : Setting) (traffic : Traffic) (streams : List ClassStream) (n : Numbers)
         (x : ClassStream) (p : EgressPort)
-        → IsSound s.tree → KeepRules s traffic streams n → HasNode s.tree x.talker.0
-        → HasPort s.tree p → is_behind s.tree.links p x.talker.0 ≡ false
+        → IsSound s.tree → KeepRules s traffic streams n → IsFedByWay s streams n
+        → Contains streams x → HasNode s.tree x.talker.0 → HasPort s.tree p
+        → is_fed s p x ≡ true
         → n.spent p x ≡ within_of x.least (map (hop_of n x) (way_to s x p)) }
 {
     ports();
