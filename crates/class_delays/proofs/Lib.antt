@@ -1,0 +1,10 @@
+pub mod Finds
+pub mod Rates
+pub mod Entries
+pub mod Comings
+pub mod Orders
+pub mod Frames
+pub mod Handing
+pub mod Rules
+pub mod Faults
+pub mod Sums

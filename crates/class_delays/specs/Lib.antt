@@ -1,0 +1,10 @@
+pub mod Given
+pub mod Table
+pub mod Reckoned
+pub mod Causes
+pub mod Order
+pub use Given.*
+pub use Table.*
+pub use Reckoned.*
+pub use Causes.*
+pub use Order.*
