@@ -1,0 +1,7 @@
+pub mod AnswerLemmas
+pub mod FactLemmas
+pub mod LeastLemmas
+pub mod MomentLemmas
+pub mod SteadyLemmas
+pub mod StreamLemmas
+pub mod TimeLemmas

@@ -1,0 +1,10 @@
+pub mod Steady
+pub mod Streams
+pub mod Conform
+pub mod Answers
+pub mod Facts
+pub use Steady.*
+pub use Streams.*
+pub use Conform.*
+pub use Answers.*
+pub use Facts.*
