@@ -1,0 +1,4 @@
+pub mod ListenerLemmas
+pub mod NumberLemmas
+pub mod SeenLemmas
+pub mod TextLemmas
