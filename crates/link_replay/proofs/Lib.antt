@@ -1,0 +1,5 @@
+pub mod Standings
+pub mod Watching
+pub mod MomentLemmas
+pub mod RowLines
+pub mod Ways

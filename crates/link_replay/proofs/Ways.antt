@@ -1,0 +1,69 @@
+-- A way holds what an observer of it would that saw the same.
+use Rattle.std.proofs.Common.{◌≡◌, ◌∙◌, suc, Bool, true, false, not, if◌then◌else◌, List, [], ◌∷◌, length, filter, refl, ap, sym, arith}
+use Rattle.std.specs.Prelude.{Option, Some, None, Contains, ◌&&◌}
+use Rattle.std.specs.declared.cmp.Ordering.{Ordering}
+use Rattle.srp_base.specs.declared.{numbers.Cs.Cs, mrp.MrpEvent.MrpEvent}
+use Rattle.mrp_participant.specs.declared.row.Row.{Row}
+use Rattle.registrar.specs.declared.Registrar.{Registrar}
+use Rattle.registrar.specs.declared.Registrar.TheVariants.{Held, Leaving, Empty}
+use Rattle.registrar.specs.Table.{is_in}
+use Rattle.mrp_participant.specs.{Lookup.find, Row.registrar_of, State.State, State.Messages, State.received_state}
+use Rattle.link_replay.specs.Standing.{held_by, standing, is_standing, agrees}
+use Rattle.link_replay.specs.{Observer.Sight.Comes, Observer.Sight.Goes, seen_state, WayState, all_hearing_way, hearing_way, leave_all_way, is_broken, broken_count, begun_way, said_way}
+
+unbroken_by : (a b : Bool) → a ≡ true → (not a && b) ≡ false
+unbroken_by true b h = refl
+unbroken_by false b h = cc
+
+module _ {K C : Type 0} (cmp : K → K → Ordering) where
+  -- event by event
+  heard-all : (at : Cs) (events : List (MrpEvent × K × C)) (way : WayState K C)
+      → (all_hearing_way cmp at way events).observer ≡ received_state cmp at false events way.observer
+  heard-all at [] way = refl
+  heard-all at (e ∷ events) way = heard-all at events (hearing_way cmp at way e)
+
+  said : (leave_all : Bool) (at : Cs) (events : List (MrpEvent × K × C)) (way : WayState K C)
+      → (all_hearing_way cmp at (begun_way cmp at leave_all way) events).observer ≡ received_state cmp at leave_all events way.observer
+  said true at events way = heard-all at events (leave_all_way cmp at way)
+  said false at events way = heard-all at events way
+
+  pub comes : (way : WayState K C) (at : Cs) (m : Messages K C) → (said_way cmp at m way).observer ≡ seen_state cmp way.observer (Comes at m)
+  comes way at m = said m.leave_all at m.events way
+
+  goes-by : (b : Bool) (at : Cs) (m : Messages K C) (way : WayState K C) → m.leave_all ≡ b
+      → (begun_way cmp at b way).observer ≡ (if b then received_state cmp at true [] way.observer else way.observer)
+  goes-by true at m way e = refl
+  goes-by false at m way e = refl
+
+  pub goes : (way : WayState K C) (at : Cs) (m : Messages K C) → (begun_way cmp at m.leave_all way).observer ≡ seen_state cmp way.observer (Goes at m)
+  goes way at m = goes-by m.leave_all at m way refl
+
+  -- ---- no word is broken
+
+  in-by : (g : Registrar) (c : C) (until : Cs) → is_standing (held_by g c until) ≡ is_in g
+  in-by Held c until = refl
+  in-by Leaving c until = refl
+  in-by Empty c until = refl
+
+  stands : (r : Option (Row K C)) → is_standing (standing r) ≡ is_in (registrar_of r)
+  stands None = refl
+  stands (Some r) = in-by r.registrar r.heard r.leave
+
+  unbroken : (way : WayState K C) (e : MrpEvent × K × C) → agrees e.0 (is_standing (standing (find cmp e.1 way.observer.rows))) ≡ true
+      → is_broken cmp way e ≡ false
+  unbroken way e h = unbroken_by _ _ (ap (agrees e.0) (let same = stands (find cmp e.1 way.observer.rows) in sym same) ∙ h)
+
+none : {X : Type 0} (test : X → Bool) (xs : List X) → ((x : X) → Contains xs x → test x ≡ false) → length (filter test xs) ≡ 0
+none test [] h = refl
+none test (x ∷ xs) h =
+    let here : test x ≡ false = h x (0, omega arith, refl) in
+    let rest : length (filter test xs) ≡ 0 = none test xs (λ y c. h y (suc c.0, (let low = c.1 in omega (arith, low)), c.2)) in
+    rw here rest
+
+module _ {K C : Type 0} (cmp : K → K → Ordering) where
+  pub none-broken : (way : WayState K C) (s : State K C) (events : List (MrpEvent × K × C)) → way.observer ≡ s
+      → ((e : MrpEvent × K × C) → Contains events e → agrees e.0 (is_standing (standing (find cmp e.1 s.rows))) ≡ true)
+      → broken_count cmp way events ≡ 0
+  none-broken way s events is agree =
+      none (is_broken cmp way) events (λ e c. unbroken cmp way e
+      (ap (λ (t : State K C). agrees e.0 (is_standing (standing (find cmp e.1 t.rows)))) is ∙ agree e c))

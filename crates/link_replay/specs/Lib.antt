@@ -1,0 +1,14 @@
+pub mod Standing
+pub mod Observer
+pub mod Watch
+pub mod Moments
+pub mod Lines
+pub mod Way
+pub mod LinkWatch
+pub use Standing.*
+pub use Observer.*
+pub use Watch.*
+unfoldable pub use Moments.*
+pub use Lines.*
+pub use Way.*
+pub use LinkWatch.*

@@ -1,0 +1,354 @@
+//! One way over a link: what one end declares, and how it stands at the other.
+
+ghost use Rattle.std.specs.Prelude.{◌≡◌, ◌<◌, ◌^◌, ◌++◌, [], flat_map, length, filter, slice_get, IfOk, OnOk, string_bytes, not, if◌then◌else◌};
+ghost use Rattle.std.specs.Option.{option_map_or};
+ghost use Rattle.mrp_participant.specs.Lookup.{find};
+ghost use Rattle.mrp_participant.specs.State.{IsTime};
+ghost use Rattle.attribute_propagation.specs.Dirty.{is_awaiting};
+ghost use Rattle.link_replay.specs.Way.{new_way, stands_as, withdrawn_by, gone_text, passing_text, let_go_count, passing_way, owed_text, leaving_of, leaving_text, leave_all_text, leave_all_way, joining_text, withdrawing_text, heard_text, hearing_way, all_heard_text, all_hearing_way, is_held, is_broken, word_text, words_text, broken_count};
+
+use crate::app::WatchedApp;
+use crate::lines::{
+    End, write_gone, write_leaves, write_let_go, write_owes, write_stands, write_word,
+};
+use crate::observer::Observer;
+use attribute_propagation::Dirty;
+use mrp_participant::Msgs;
+use registrar::Registrar;
+use srp_base::{Cs, MrpEvent, NoMemory, Seq};
+use std::alloc::Global;
+use std::marker::Model;
+
+/// One way over a link: the observer of the end that hears what the other, the speaker, declares.
+/// Contracts see a `WayState`. Each call puts what it has to say at the end of a text. After want
+/// of memory the text may have a part of it, and the way may have taken a part of what was seen.
+#[derive(Drop)]
+pub struct Way<A: WatchedApp> {
+    speaker: End,
+    observer: Observer<A>,
+    leave_time: Cs,
+    withdrawn: Dirty<A::Key>,
+    known: bool,
+    alloc: Global,
+}
+
+impl<A: WatchedApp> Model for Way<A> {
+    ghost use Rattle.mrp_participant.specs.State.{IsTime};
+    ghost use Rattle.link_replay.specs.Way.{WayState};
+
+    ghost Value = { WayState A.Key A.Content };
+
+    ghost view = { λ w. record {
+      speaker = w.speaker;
+      observer = w.observer;
+      leave_time = w.leave_time;
+      withdrawn = w.withdrawn.keys;
+      known = w.known;
+    } };
+
+    ghost invariant = { λ w. IsTime w.leave_time };
+}
+
+impl<A: WatchedApp> Way<A> {
+    /// A way of which nothing was seen yet; leave timers last `leave_time`, 1 to 10,000 cs.
+    pub fn new(alloc: Global, speaker: End, leave_time: Cs) -> Way<A>
+        requires { IsTime leave_time }
+        ensures { result ≡ new_way speaker leave_time }
+    {
+        Way {
+            speaker,
+            observer: Observer::new(alloc, leave_time),
+            leave_time,
+            withdrawn: Dirty::new(alloc),
+            known: false,
+            alloc,
+        }
+    }
+
+    /// Fires the leave timers that are due at a moment, in cs and below 2^62. Says which attributes
+    /// stand no more, and which of them the speaker let go. Answers how many it let go.
+    pub fn passes(&mut self, out: &mut String, at: Cs) -> Result<u64, NoMemory>
+        requires { at.0 < 2 ^ 62 }
+        ensures way { OnOk result (self.new ≡ passing_way at self.old) }
+        ensures text { OnOk result (string_bytes out.new
+            ≡ string_bytes out.old ++ passing_text A.Key.cmp A.key_text at self.old) }
+        ensures count { IfOk result (λ n. n ≡ let_go_count A.Key.cmp at self.old) }
+    {
+        let keys = self.observer.passes(at)?;
+        self.write_all_gone(out, at, keys.as_slice())
+    }
+
+    // Says that some attributes stand no more. Answers how many of them the speaker let go.
+    fn write_all_gone(&self, out: &mut String, at: Cs, keys: &[A::Key]) -> Result<u64, NoMemory>
+        ensures text { OnOk result (string_bytes out.new
+            ≡ string_bytes out.old
+            ++ flat_map (gone_text A.Key.cmp A.key_text at self.now) keys.now) }
+        ensures count { IfOk result (λ n. n
+            ≡ length (filter (λ k. not (is_awaiting A.Key.cmp k self.now.withdrawn)) keys.now)) }
+    {
+        let mut count: u64 = 0;
+        for key in keys {
+            count += self.write_one_gone(out, at, *key)?;
+        }
+        Ok(count)
+    }
+
+    // Says that an attribute stands no more. Answers 1 where the speaker let it go, else 0.
+    fn write_one_gone(&self, out: &mut String, at: Cs, key: A::Key) -> Result<u64, NoMemory>
+        ensures text { OnOk result (string_bytes out.new
+            ≡ string_bytes out.old ++ gone_text A.Key.cmp A.key_text at self.now key) }
+        ensures count { IfOk result (λ n. n
+            ≡ (if not (is_awaiting A.Key.cmp key self.now.withdrawn) then 1 else 0)) }
+    {
+        write_gone::<A>(out, at, self.speaker, key)?;
+        if self.withdrawn.awaits(key) {
+            return Ok(0);
+        }
+        write_let_go::<A>(out, at, self.speaker, key)?;
+        Ok(1)
+    }
+
+    /// Takes a LeaveAll of either end at a moment, in cs and below 2^62. Says which attributes the
+    /// speaker has to say anew, and until when.
+    pub fn leave_all(&mut self, out: &mut String, at: Cs) -> Result<(), NoMemory>
+        requires { at.0 < 2 ^ 62 }
+        ensures way { OnOk result (self.new ≡ leave_all_way A.Key.cmp at self.old) }
+        ensures text { OnOk result (string_bytes out.new
+            ≡ string_bytes out.old ++ leave_all_text A.key_text at self.old) }
+    {
+        self.write_all_leaving(out, at)?;
+        self.observer.goes(at)?;
+        self.known = true;
+        Ok(())
+    }
+
+    // Says which attributes the speaker has to say anew.
+    fn write_all_leaving(&self, out: &mut String, at: Cs) -> Result<(), NoMemory>
+        requires { at.0 < 2 ^ 62 }
+        ensures { OnOk result (string_bytes out.new
+            ≡ string_bytes out.old ++ leave_all_text A.key_text at self.now) }
+    {
+        for i in 0..self.observer.rows() {
+            self.write_leaving(out, at, i)?;
+        }
+        Ok(())
+    }
+
+    // The same of the row at a place.
+    #[tactic(auto, using(crate::proofs::RowLines::by_parts))]
+    fn write_leaving(&self, out: &mut String, at: Cs, i: usize) -> Result<(), NoMemory>
+        requires { at.0 < 2 ^ 62 }
+        ensures { OnOk result (string_bytes out.new ≡ string_bytes out.old
+            ++ option_map_or (leaving_text A.key_text at self.now)
+            (slice_get self.now.observer.rows i) []) }
+    {
+        match self.observer.row_at(i) {
+            Some((key, registrar)) => self.write_left(out, at, key, registrar),
+            None => Ok(()),
+        }
+    }
+
+    // The same of a key with its Registrar.
+    fn write_left(
+        &self,
+        out: &mut String,
+        at: Cs,
+        key: A::Key,
+        registrar: Registrar,
+    ) -> Result<(), NoMemory>
+        requires { at.0 < 2 ^ 62 }
+        ensures { OnOk result (string_bytes out.new
+            ≡ string_bytes out.old ++ leaving_of A.key_text at self.now key registrar) }
+    {
+        match registrar {
+            Registrar::Held => self.write_owed(out, at, key),
+            Registrar::Leaving | Registrar::Empty => Ok(()),
+        }
+    }
+
+    // Says that a key has to be said anew.
+    fn write_owed(&self, out: &mut String, at: Cs, key: A::Key) -> Result<(), NoMemory>
+        requires { at.0 < 2 ^ 62 }
+        ensures { OnOk result (string_bytes out.new
+            ≡ string_bytes out.old ++ owed_text A.key_text at self.now key) }
+    {
+        let until = Cs(at.0 + self.leave_time.0);
+        write_leaves::<A>(out, at, self.speaker, key, until)?;
+        Ok(write_owes::<A>(out, at, self.speaker, key, until)?)
+    }
+
+    /// Takes the events of what the speaker sent at a moment, in cs and below 2^62, in order, where
+    /// `leave_all` was told of its LeaveAll. Says what changes.
+    pub fn hears(
+        &mut self,
+        out: &mut String,
+        at: Cs,
+        events: &[(MrpEvent, A::Key, A::Content)],
+    ) -> Result<(), NoMemory>
+        requires { at.0 < 2 ^ 62 }
+        ensures way { OnOk result (self.new ≡ all_hearing_way A.Key.cmp at self.old events.now) }
+        ensures text { OnOk result (string_bytes out.new ≡ string_bytes out.old
+            ++ all_heard_text A.Key.cmp A.Content.eq A.key_text A.content_text at self.old
+            events.now) }
+    {
+        for event in events {
+            self.hear(out, at, *event)?;
+        }
+        Ok(())
+    }
+
+    // Takes an event of the speaker.
+    fn hear(
+        &mut self,
+        out: &mut String,
+        at: Cs,
+        event: (MrpEvent, A::Key, A::Content),
+    ) -> Result<(), NoMemory>
+        requires { at.0 < 2 ^ 62 }
+        ensures way { OnOk result (self.new ≡ hearing_way A.Key.cmp at self.old event) }
+        ensures text { OnOk result (string_bytes out.new ≡ string_bytes out.old
+            ++ heard_text A.Key.cmp A.Content.eq A.key_text A.content_text at self.old
+            event.0 event.1 event.2) }
+    {
+        self.write_heard(out, at, event)?;
+        let mut events = Vec::new(self.alloc);
+        events.push(event)?;
+        let msgs = Msgs {
+            leave_all: false,
+            events: Seq::from_vec(events),
+        };
+        self.observer.comes(at, &msgs)?;
+        self.withdraw(event)
+    }
+
+    // Keeps of which keys Lv was said last.
+    fn withdraw(&mut self, event: (MrpEvent, A::Key, A::Content)) -> Result<(), NoMemory>
+        ensures { OnOk result (self.new ≡ record self.old {
+          withdrawn = withdrawn_by A.Key.cmp event.0 event.1 self.old.withdrawn;
+        }) }
+    {
+        match event.0 {
+            MrpEvent::New | MrpEvent::JoinIn | MrpEvent::JoinMt => {
+                self.withdrawn.clear(event.1);
+                Ok(())
+            }
+            MrpEvent::OnlyIn | MrpEvent::OnlyMt => Ok(()),
+            MrpEvent::Lv => self.withdrawn.mark(event.1),
+        }
+    }
+
+    // Says what an event changes.
+    fn write_heard(
+        &self,
+        out: &mut String,
+        at: Cs,
+        event: (MrpEvent, A::Key, A::Content),
+    ) -> Result<(), NoMemory>
+        requires { at.0 < 2 ^ 62 }
+        ensures { OnOk result (string_bytes out.new ≡ string_bytes out.old
+            ++ heard_text A.Key.cmp A.Content.eq A.key_text A.content_text at self.now
+            event.0 event.1 event.2) }
+    {
+        match event.0 {
+            MrpEvent::New | MrpEvent::JoinIn | MrpEvent::JoinMt => {
+                self.write_joining(out, at, event.1, event.2)
+            }
+            MrpEvent::OnlyIn | MrpEvent::OnlyMt => Ok(()),
+            MrpEvent::Lv => self.write_withdrawing(out, at, event.1),
+        }
+    }
+
+    // Says that a key stands with a content, where it didn't.
+    fn write_joining(
+        &self,
+        out: &mut String,
+        at: Cs,
+        key: A::Key,
+        content: A::Content,
+    ) -> Result<(), NoMemory>
+        ensures { OnOk result (string_bytes out.new ≡ string_bytes out.old
+            ++ joining_text A.Key.cmp A.Content.eq A.key_text A.content_text at self.now
+            key content) }
+    {
+        if self.stands_as(key, content) {
+            return Ok(());
+        }
+        Ok(write_stands::<A>(out, at, self.speaker, key, content)?)
+    }
+
+    // Whether a key stands with a content.
+    fn stands_as(&self, key: A::Key, content: A::Content) -> bool
+        ensures { result
+            ≡ stands_as A.Content.eq content (find A.Key.cmp key self.now.observer.rows) }
+    {
+        self.is_held(key) && self.observer.registered(key) == Some(content)
+    }
+
+    // Whether a key stands.
+    fn is_held(&self, key: A::Key) -> bool
+        ensures { result ≡ is_held A.Key.cmp self.now key }
+    {
+        self.observer.registrar(key) == Registrar::Held
+    }
+
+    // Says that a key that stands is withdrawn.
+    fn write_withdrawing(&self, out: &mut String, at: Cs, key: A::Key) -> Result<(), NoMemory>
+        requires { at.0 < 2 ^ 62 }
+        ensures { OnOk result (string_bytes out.new
+            ≡ string_bytes out.old ++ withdrawing_text A.Key.cmp A.key_text at self.now key) }
+    {
+        if !self.is_held(key) {
+            return Ok(());
+        }
+        let until = Cs(at.0 + self.leave_time.0);
+        Ok(write_leaves::<A>(out, at, self.speaker, key, until)?)
+    }
+
+    /// Judges what the other end sent at a moment, by what it says of its registrars of the
+    /// speaker's attributes, where `leave_all` was told of its LeaveAll. Says which words are
+    /// broken, and answers how many.
+    pub fn judges(
+        &self,
+        out: &mut String,
+        at: Cs,
+        events: &[(MrpEvent, A::Key, A::Content)],
+    ) -> Result<u64, NoMemory>
+        ensures text { OnOk result (string_bytes out.new
+            ≡ string_bytes out.old ++ words_text A.Key.cmp A.key_text at self.now events.now) }
+        ensures count { IfOk result (λ n. n ≡ broken_count A.Key.cmp self.now events.now) }
+    {
+        let mut count: u64 = 0;
+        for event in events {
+            count += self.judge(out, at, *event)?;
+        }
+        Ok(count)
+    }
+
+    // Judges an event. Answers 1 where it is broken, else 0.
+    fn judge(
+        &self,
+        out: &mut String,
+        at: Cs,
+        event: (MrpEvent, A::Key, A::Content),
+    ) -> Result<u64, NoMemory>
+        ensures text { OnOk result (string_bytes out.new
+            ≡ string_bytes out.old ++ word_text A.Key.cmp A.key_text at self.now event) }
+        ensures count { IfOk result (λ n. n
+            ≡ (if is_broken A.Key.cmp self.now event then 1 else 0)) }
+    {
+        if !self.is_broken(event) {
+            return Ok(0);
+        }
+        let held = self.is_held(event.1);
+        write_word::<A>(out, at, self.speaker.other(), event.0, event.1, held)?;
+        Ok(1)
+    }
+
+    // Whether what is said isn't what the observer holds.
+    fn is_broken(&self, event: (MrpEvent, A::Key, A::Content)) -> bool
+        ensures { result ≡ is_broken A.Key.cmp self.now event }
+    {
+        let held = self.is_held(event.1);
+        !self.observer.agrees(event.0, event.1) && (self.known || held)
+    }
+}
