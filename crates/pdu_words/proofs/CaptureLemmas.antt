@@ -3,7 +3,8 @@ use Rattle.std.proofs.Common.{◌≡◌, ℕ, zero, suc, ◌+◌, ◌<◌, ◌�
 use Rattle.std.specs.Prelude.{slice_index, ◌-◌}
 use Rattle.std.proofs.lemmas.List.{take_all, length-drop}
 use Rattle.std.proofs.lemmas.Bool.{false_from_ne_true as not-true}
-use Rattle.pdu_words.specs.{onto, lines_of}
+use Rattle.std.specs.List.{list_all}
+use Rattle.pdu_words.specs.{onto, lines_of, is_between, digits_of}
 
 -- no line feed stands before a place
 abbrev pub NoneBelow : List ℕ → ℕ → Type 0
@@ -42,3 +43,8 @@ one_line (c ∷ d ∷ ds) lt none =
     let other : (c == 10) ≡ false = not-true (c == 10) (none 0 (omega arith) (omega arith)) in
     let rest : lines_of (d ∷ ds) ≡ (d ∷ ds) ∷ [] = one_line (d ∷ ds) (omega arith) (later c (d ∷ ds) (length (d ∷ ds)) none) in
     rw other (ap (onto c) rest)
+
+-- a line has no digits exactly where all of it may stand between octets
+pub no_digits : (line : List ℕ) → (length (digits_of line) == 0) ≡ list_all is_between line
+no_digits [] = refl
+no_digits (c ∷ cs) = let rest : (length (digits_of cs) == 0) ≡ list_all is_between cs = no_digits cs in grind (arith, rest)

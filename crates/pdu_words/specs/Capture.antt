@@ -1,5 +1,7 @@
 -- What a capture gives: lines of hexadecimal digits, the octets of a PDU in a line.
-use Rattle.std.specs.Prelude.{ℕ, Bool, not, ◌==◌, ◌||◌, if◌then◌else◌, List, [], ◌∷◌, filter, length, slice_index}
+use Rattle.std.specs.Prelude.{ℕ, ◌/◌, Bool, true, not, ◌==◌, ◌&&◌, ◌||◌, if◌then◌else◌, nat_lt, List, [], ◌∷◌, filter, length, slice_index, Option, None, is_some}
+use Rattle.std.specs.{List.list_any, Result.result_ok}
+use Rattle.hex.specs.Hex.{decode_sized}
 
 -- a character in front of the first of some lines
 abbrev pub onto : ℕ → List (List ℕ) → List (List ℕ)
@@ -11,13 +13,28 @@ abbrev pub lines_of : List ℕ → List (List ℕ)
 lines_of [] = []
 lines_of (c ∷ cs) = if c == 10 then [] ∷ lines_of cs else onto c (lines_of cs)
 
--- what may stand between octets: a blank, a tab, a colon, and a carriage return at the end
+-- what may stand between octets: a blank, a tab, a colon, a hyphen, and a carriage return at the
+-- end
 abbrev pub is_between : ℕ → Bool
-is_between c = c == 32 || c == 9 || c == 58 || c == 13
+is_between c = c == 32 || c == 9 || c == 58 || c == 45 || c == 13
 
 -- the line without it
 abbrev pub digits_of : List ℕ → List ℕ
 digits_of line = filter (λ c. not (is_between c)) line
+
+-- whether the two digits of each octet stand side by side
+abbrev pub is_paired : List ℕ → Bool
+is_paired [] = true
+is_paired (c ∷ []) = is_between c
+is_paired (c ∷ d ∷ cs) = if is_between c then is_paired (d ∷ cs) else not (is_between d) && is_paired cs
+
+-- the octets that hexadecimal digits of either case spell, two digits an octet
+abbrev pub octets_of : List ℕ → Option (List ℕ)
+octets_of digits = result_ok (decode_sized digits (length digits / 2))
+
+-- the octets of a line, if it has nothing but octets
+abbrev pub octets_in : List ℕ → Option (List ℕ)
+octets_in line = if is_paired line then octets_of (digits_of line) else None
 
 -- a line that begins with `#` is a remark
 abbrev pub is_remark : List ℕ → Bool
@@ -26,3 +43,20 @@ is_remark line = slice_index line 0 == 35
 -- a line that has no PDU: it is empty, or a remark
 abbrev pub is_passed_over : List ℕ → Bool
 is_passed_over line = is_remark line || length (digits_of line) == 0
+
+-- whether a line has a PDU's octets
+abbrev pub has_octets : List ℕ → Bool
+has_octets line = not (is_passed_over line) && is_some (octets_in line)
+
+-- whether a character stands in no text: a control character that is no tab, line feed or carriage
+-- return
+abbrev pub is_control : ℕ → Bool
+is_control c = nat_lt c 32 && not (c == 9 || c == 10 || c == 13)
+
+-- whether some lines have something, and none of them octets
+abbrev pub are_without_octets : List (List ℕ) → Bool
+are_without_octets lines = list_any (λ line. not (is_passed_over line)) lines && not (list_any has_octets lines)
+
+-- whether a file is no text of octets: it isn't text, or none of its lines has octets
+abbrev pub is_no_text : List ℕ → Bool
+is_no_text file = list_any is_control file || are_without_octets (lines_of file)

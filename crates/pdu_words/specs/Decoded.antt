@@ -1,8 +1,6 @@
 -- A capture of PDUs, line by line, to what each says, by the reading of its application's codec.
-use Rattle.std.specs.Prelude.{ℕ, ◌+◌, ◌/◌, length, if◌then◌else◌, List, [], ◌∷◌, ◌++◌, codes, Result, Ok, Err}
+use Rattle.std.specs.Prelude.{ℕ, ◌+◌, if◌then◌else◌, List, [], ◌∷◌, ◌++◌, codes, Option, Some, None, Result, Ok, Err}
 use Rattle.std.specs.Fmt.{decimal}
-use Rattle.hex.specs.Hex.{decode_sized}
-use Rattle.hex.specs.declared.error.FromHexError.{FromHexError}
 use Rattle.srp_base.specs.Text.{whole_of}
 use Rattle.mmrp_codec.specs.Meaning.{mmrp_reading}
 use Rattle.mmrp_codec.specs.declared.pdu.GroupPdu.{GroupPdu}
@@ -12,7 +10,7 @@ use Rattle.msrp_codec.specs.Meaning.{msrp_reading}
 use Rattle.msrp_codec.specs.declared.pdu.MsrpPdu.{MsrpPdu}
 use Rattle.mvrp_codec.specs.Meaning.{mvrp_reading}
 use Rattle.mvrp_codec.specs.declared.pdu.MvrpPdu.{MvrpPdu}
-use Rattle.pdu_words.specs.{Capture.lines_of, Capture.digits_of, Capture.is_passed_over, Events.vlan_lines, Events.stream_lines, Events.group_lines, Events.malformed_text, Events.no_octets_text}
+use Rattle.pdu_words.specs.{Capture.lines_of, Capture.octets_in, Capture.is_passed_over, Capture.is_no_text, Events.vlan_lines, Events.stream_lines, Events.group_lines, Events.malformed_text, Events.no_octets_text, Events.no_text_line}
 
 -- what octets say of VIDs, or where they break
 abbrev pub vlans_said : Result MvrpPdu ℕ → List ℕ
@@ -39,24 +37,20 @@ octets_said Mmrp octets = groups_said (mmrp_reading octets)
 abbrev pub line_front : ℕ → List ℕ
 line_front n = whole_of (codes "line " ∷ decimal n ∷ [])
 
--- what the octets of some digits say, if they are two hexadecimal digits an octet
-abbrev pub digits_said : AppForm → ℕ → Result (List ℕ) FromHexError → List ℕ
-digits_said form n (Ok octets) = line_front n ++ octets_said form octets
-digits_said form n (Err e) = line_front n ++ no_octets_text
-
--- the octets that hexadecimal digits of either case spell, two digits an octet
-abbrev pub octets_of : List ℕ → Result (List ℕ) FromHexError
-octets_of digits = decode_sized digits (length digits / 2)
+-- what the octets of a line say, if it has octets
+abbrev pub octets_at : AppForm → ℕ → Option (List ℕ) → List ℕ
+octets_at form n (Some octets) = line_front n ++ octets_said form octets
+octets_at form n None = line_front n ++ no_octets_text
 
 -- what the PDU in a line of this number says; an empty line and a remark say nothing
 abbrev pub line_said : AppForm → ℕ → List ℕ → List ℕ
-line_said form n line = if is_passed_over line then [] else digits_said form n (octets_of (digits_of line))
+line_said form n line = if is_passed_over line then [] else octets_at form n (octets_in line)
 
 -- the same of some lines, of which the first has number n
 abbrev pub lines_said : AppForm → ℕ → List (List ℕ) → List ℕ
 lines_said form n [] = []
 lines_said form n (line ∷ lines) = line_said form n line ++ lines_said form (n + 1) lines
 
--- what a capture of PDUs of an application says
+-- what a capture of PDUs of an application says; a file that is no text of octets has one line
 abbrev pub decoded_text : AppForm → List ℕ → List ℕ
-decoded_text form capture = lines_said form 1 (lines_of capture)
+decoded_text form capture = if is_no_text capture then no_text_line else lines_said form 1 (lines_of capture)

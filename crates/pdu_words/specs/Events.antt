@@ -110,6 +110,10 @@ malformed_text place = whole_of (codes " malformed " ∷ decimal place ∷ codes
 abbrev pub no_octets_text : List ℕ
 no_octets_text = codes " no octets\n"
 
+-- the one line of a file that is no text of octets
+abbrev pub no_text_line : List ℕ
+no_text_line = codes "no text of octets\n"
+
 -- what a PDU of MVRP says
 abbrev pub vlan_lines : MvrpPdu → List ℕ
 vlan_lines pdu = leaveall_text pdu.leave_all ++ flat_map vid_line pdu.events

@@ -1,7 +1,8 @@
 //! The lines of a capture, and the digits in them.
 
-ghost use Rattle.std.specs.Prelude.{◌≡◌, ◌<◌, ◌≤◌, [], ◌∷◌, length, IfOk};
-ghost use Rattle.pdu_words.specs.Capture.{lines_of, is_between as is_between_spec, digits_of as digits_of_spec, is_remark as is_remark_spec};
+ghost use Rattle.std.specs.Prelude.{◌≡◌, ◌<◌, ◌≤◌, ◌==◌, [], ◌∷◌, length, option_map, IfOk, IfSome};
+ghost use Rattle.std.specs.List.{list_all, list_any};
+ghost use Rattle.pdu_words.specs.Capture.{lines_of, is_between as is_between_spec, digits_of as digits_of_spec, is_paired as is_paired_spec, octets_of as octets_of_spec, octets_in as octets_in_spec, is_remark as is_remark_spec, is_passed_over as is_passed_over_spec, has_octets as has_octets_spec, is_control as is_control_spec, are_without_octets as are_without_octets_spec, is_no_text as is_no_text_spec};
 
 use memchr::memchr;
 use std::alloc::{AllocError, Global};
@@ -23,11 +24,11 @@ pub(crate) fn first_line(text: &[u8]) -> (&[u8], &[u8])
 fn is_between(c: u8) -> bool
     ensures { result ≡ is_between_spec c }
 {
-    c == b' ' || c == b'\t' || c == b':' || c == b'\r'
+    c == b' ' || c == b'\t' || c == b':' || c == b'-' || c == b'\r'
 }
 
-/// A line without what stands between its octets.
-pub(crate) fn digits_of(alloc: Global, line: &[u8]) -> Result<Vec<u8>, AllocError>
+// A line without what stands between its octets.
+fn digits_of(alloc: Global, line: &[u8]) -> Result<Vec<u8>, AllocError>
     ensures digits { IfOk result (λ digits. digits.items ≡ digits_of_spec line.now) }
     ensures few { IfOk result (λ digits. length digits.items ≤ length line.now) }
 {
@@ -37,12 +38,132 @@ pub(crate) fn digits_of(alloc: Global, line: &[u8]) -> Result<Vec<u8>, AllocErro
         .collect(alloc)
 }
 
-/// Whether a line is a remark.
-pub(crate) fn is_remark(line: &[u8]) -> bool
+// Whether the two digits of each octet stand side by side.
+fn is_paired(line: &[u8]) -> bool
+    ensures { result ≡ is_paired_spec line.now }
+{
+    let mut rest = line;
+    while let [c, d, ..] = rest {
+        if is_between(*c) {
+            rest = &rest[1..];
+        } else if is_between(*d) {
+            return false;
+        } else {
+            rest = &rest[2..];
+        }
+    }
+    match rest {
+        [c, ..] => is_between(*c),
+        [] => true,
+    }
+}
+
+// The octets that hexadecimal digits spell, two digits an octet.
+fn octets_of(alloc: Global, digits: &[u8]) -> Result<Option<Vec<u8>>, AllocError>
+    ensures octets { IfOk result (λ o. option_map (λ v. v.items) o
+        ≡ octets_of_spec digits.now) }
+    ensures few { IfOk result (λ o. IfSome o (λ v. length v.items ≤ length digits.now)) }
+{
+    let mut octets = vec![in alloc; 0; digits.len() / 2]?;
+    match hex::decode_to_slice(digits, &mut octets) {
+        Ok(()) => Ok(Some(octets)),
+        Err(_) => Ok(None),
+    }
+}
+
+/// The octets of a line, if it has nothing but octets.
+pub(crate) fn octets_in(alloc: Global, line: &[u8]) -> Result<Option<Vec<u8>>, AllocError>
+    ensures octets { IfOk result (λ o. option_map (λ v. v.items) o
+        ≡ octets_in_spec line.now) }
+    ensures few { IfOk result (λ o. IfSome o (λ v. length v.items ≤ length line.now)) }
+{
+    if !is_paired(line) {
+        return Ok(None);
+    }
+    let digits = digits_of(alloc, line)?;
+    octets_of(alloc, digits.as_slice())
+}
+
+// Whether a line is a remark.
+fn is_remark(line: &[u8]) -> bool
     ensures { result ≡ is_remark_spec line.now }
 {
     match line {
         [first, ..] => *first == b'#',
         [] => false,
     }
+}
+
+// Whether all of a line may stand between octets.
+fn are_all_between(line: &[u8]) -> bool
+    ensures { result ≡ list_all is_between_spec line.now }
+{
+    line.iter().all(|c| is_between(*c))
+}
+
+// Whether a line has no digits.
+#[tactic(auto, using(crate::proofs::CaptureLemmas::no_digits))]
+fn has_no_digits(line: &[u8]) -> bool
+    ensures { result ≡ (length (digits_of_spec line.now) == 0) }
+{
+    are_all_between(line)
+}
+
+/// Whether a line has no PDU: it is empty, or a remark.
+pub(crate) fn is_passed_over(line: &[u8]) -> bool
+    ensures { result ≡ is_passed_over_spec line.now }
+{
+    let none = has_no_digits(line);
+    is_remark(line) || none
+}
+
+// Whether a line has a PDU's octets.
+fn has_octets(alloc: Global, line: &[u8]) -> Result<bool, AllocError>
+    ensures { IfOk result (λ has. has ≡ has_octets_spec line.now) }
+{
+    if is_passed_over(line) {
+        return Ok(false);
+    }
+    Ok(octets_in(alloc, line)?.is_some())
+}
+
+// Whether the lines of a text have something, and none of them octets.
+fn are_without_octets(alloc: Global, text: &[u8]) -> Result<bool, AllocError>
+    ensures { IfOk result (λ without. without ≡ are_without_octets_spec (lines_of text.now)) }
+{
+    let mut rest = text;
+    let mut some = false;
+    while !rest.is_empty() {
+        let (line, behind) = first_line(rest);
+        if has_octets(alloc, line)? {
+            return Ok(false);
+        }
+        some = some || !is_passed_over(line);
+        rest = behind;
+    }
+    Ok(some)
+}
+
+// Whether a character stands in no text.
+fn is_control(c: u8) -> bool
+    ensures { result ≡ is_control_spec c }
+{
+    c < 32 && !(c == b'\t' || c == b'\n' || c == b'\r')
+}
+
+// Whether any character of a file stands in no text.
+fn has_control(file: &[u8]) -> bool
+    ensures { result ≡ list_any is_control_spec file.now }
+{
+    file.iter().any(|c| is_control(*c))
+}
+
+/// Whether a file is no text of octets: it isn't text, or none of its lines has octets.
+pub(crate) fn is_no_text(alloc: Global, file: &[u8]) -> Result<bool, AllocError>
+    ensures { IfOk result (λ none. none ≡ is_no_text_spec file.now) }
+{
+    if has_control(file) {
+        return Ok(true);
+    }
+    are_without_octets(alloc, file)
 }

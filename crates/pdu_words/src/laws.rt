@@ -1,12 +1,12 @@
 //! Laws of what is printed. A crate above that needs one calls it, and its proof has the clauses.
 
-ghost use Rattle.std.specs.Prelude.{◌≡◌, ◌≤◌, ◌++◌, ℕ, List, length, Some, Ok, false};
+ghost use Rattle.std.specs.Prelude.{◌≡◌, ◌≤◌, ◌++◌, ℕ, List, length, Some, false};
 ghost use Rattle.capture_file.specs.Packets.{Packet};
 ghost use Rattle.mrpdu_codec.specs.declared.form.AppForm.{AppForm};
 ghost use Rattle.mrp_frames.specs.Frames.{Seen, frame_in};
-ghost use Rattle.pdu_words.specs.Capture.{is_passed_over, digits_of};
+ghost use Rattle.pdu_words.specs.Capture.{is_passed_over, octets_in};
 ghost use Rattle.pdu_words.specs.Captured.{frame_front, frame_said};
-ghost use Rattle.pdu_words.specs.Decoded.{line_front, line_said, octets_of, octets_said};
+ghost use Rattle.pdu_words.specs.Decoded.{line_front, line_said, octets_said};
 
 /// What `captured_text` has of a whole frame of MRP, behind its front, is what `decoded_text` has
 /// of a line with the digits of its PDU, behind the line's.
@@ -16,6 +16,6 @@ pub fn a_frame_says_what_its_line_says()
         → frame_said n p (frame_in p)
         ≡ frame_front n p.at_ns seen ++ octets_said seen.app seen.pdu }
     ensures line { (n : ℕ) (app : AppForm) (line octets : List ℕ)
-        → is_passed_over line ≡ false → octets_of (digits_of line) ≡ Ok octets
+        → is_passed_over line ≡ false → octets_in line ≡ Some octets
         → line_said app n line ≡ line_front n ++ octets_said app octets }
 {}

@@ -13,8 +13,9 @@
 //!                                                                frames 2 other 0
 //! ```
 //!
-//! Blanks, tabs, colons and a carriage return may stand between the digits (`specs/Capture`). What
-//! octets say is the reading of mvrp_codec, msrp_codec or mmrp_codec and nothing else
+//! Blanks, tabs, colons, hyphens and a carriage return may stand between octets, but not within one
+//! (`specs/Capture`); a file that is no text of octets has one line that says so. What octets say
+//! is the reading of mvrp_codec, msrp_codec or mmrp_codec and nothing else
 //! (`specs/Decoded`): the laws of those crates join it with the grammar. `specs/Events` has each
 //! printed line once. `decoded_text` has what is said of a whole text as its contract, and
 //! `captured_text` that of a whole capture file, by the readings of capture_file and mrp_frames

@@ -1,9 +1,10 @@
 //! What a capture says, line by line.
 
 ghost use Rattle.std.specs.Prelude.{◌≡◌, ◌<◌, ◌^◌, ◌++◌, length, IfOk, OnOk, string_bytes};
-ghost use Rattle.pdu_words.specs.Decoded.{decoded_text as decoded_text_spec, line_said, digits_said, octets_of, octets_said};
+ghost use Rattle.pdu_words.specs.Capture.{lines_of};
+ghost use Rattle.pdu_words.specs.Decoded.{decoded_text as decoded_text_spec, line_said, lines_said, octets_said};
 
-use crate::capture::{digits_of, first_line, is_remark};
+use crate::capture::{first_line, is_no_text, is_passed_over, octets_in};
 use crate::words::write_no_octets;
 use crate::{groups, streams, vlans};
 use mrpdu_codec::AppForm;
@@ -14,21 +15,36 @@ use std::fmt::Write;
 /// What a capture of PDUs of an application says: of each line, in order, whether its PDU has a
 /// LeaveAll and then its events in the order of the octets, a line each; or the offset in octets,
 /// from 0, of the first field that breaks its rule (IEEE Std 802.1Q-2018, 10.8, 11.2.3.1, 35.2.2);
-/// or that it has no octets. An empty line and a line that begins with `#` say nothing.
+/// or that it has no octets. An empty line and a line that begins with `#` say nothing. Of a file
+/// that is no text, or that has no line of octets, one line says so.
 pub fn decoded_text(alloc: Global, form: AppForm, capture: &[u8]) -> Result<String, NoMemory>
     requires { length capture.now < 2 ^ 32 }
     ensures { IfOk result (λ text. string_bytes text ≡ decoded_text_spec form capture.now) }
 {
     let mut out = String::new(alloc);
-    let mut rest = capture;
+    if is_no_text(alloc, capture)? {
+        out.push_str("no text of octets\n")?;
+        return Ok(out);
+    }
+    write_lines(alloc, &mut out, form, capture)?;
+    Ok(out)
+}
+
+// What the lines of a text say.
+fn write_lines(alloc: Global, out: &mut String, form: AppForm, text: &[u8]) -> Result<(), NoMemory>
+    requires { length text.now < 2 ^ 32 }
+    ensures { OnOk result (string_bytes out.new
+        ≡ string_bytes out.old ++ lines_said form 1 (lines_of text.now)) }
+{
+    let mut rest = text;
     let mut number: u64 = 1;
     while !rest.is_empty() {
         let (line, behind) = first_line(rest);
-        write_line(alloc, &mut out, form, number, line)?;
+        write_line(alloc, out, form, number, line)?;
         rest = behind;
         number += 1;
     }
-    Ok(out)
+    Ok(())
 }
 
 // What a line says.
@@ -43,30 +59,13 @@ fn write_line(
     ensures { OnOk result (string_bytes out.new
         ≡ string_bytes out.old ++ line_said form number line.now) }
 {
-    let digits = digits_of(alloc, line)?;
-    if is_remark(line) || digits.is_empty() {
+    if is_passed_over(line) {
         return Ok(());
     }
-    write_digits(alloc, out, form, number, digits.as_slice())
-}
-
-// What the octets of these digits say.
-fn write_digits(
-    alloc: Global,
-    out: &mut String,
-    form: AppForm,
-    number: u64,
-    digits: &[u8],
-) -> Result<(), NoMemory>
-    requires { length digits.now < 2 ^ 32 }
-    ensures { OnOk result (string_bytes out.new
-        ≡ string_bytes out.old ++ digits_said form number (octets_of digits.now)) }
-{
     write!(out, "line {number}")?;
-    let mut octets = vec![in alloc; 0; digits.len() / 2]?;
-    match hex::decode_to_slice(digits, &mut octets) {
-        Ok(()) => write_octets(alloc, out, form, octets.as_slice()),
-        Err(_) => Ok(write_no_octets(out)?),
+    match octets_in(alloc, line)? {
+        Some(octets) => write_octets(alloc, out, form, octets.as_slice()),
+        None => Ok(write_no_octets(out)?),
     }
 }
 

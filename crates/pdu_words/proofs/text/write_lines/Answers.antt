@@ -1,5 +1,5 @@
 use Rattle.std.proofs.Common.{arith}
-use Rattle.pdu_words.proofs.text.decoded_text.Goals as goal
+use Rattle.pdu_words.proofs.text.write_lines.Goals as goal
 
 pub write_line-requires : goal.write_line-requires
 write_line-requires c =
