@@ -1,8 +1,9 @@
 -- What may follow at each place of a legal run, from place to place.
 use Rattle.std.proofs.Common.{◌≡◌, ◌≢◌, ℕ, zero, suc, ◌<◌, ◌≤◌, ◌^◌, List, [], ◌∷◌, ◌++◌, length, map, take, refl, sym, ap, subst, ◌∙◌, append_assoc, arith}
-use Rattle.std.specs.Prelude.{slice_get, slice_set, Some}
+use Rattle.std.specs.Prelude.{slice_get, slice_set, Option, Some}
 use Rattle.std.specs.List.{AllByRecursion}
 use Rattle.std.proofs.lemmas.Option.{slice_get_within}
+use Rattle.srp_base.proofs.Lists.{length_set}
 use Rattle.srp_base.specs.declared.{numbers.NodeNo.NodeNo, numbers.PortNo.PortNo, numbers.EgressPort.EgressPort}
 use Rattle.tree_topology.specs.{Topology.HasNode, Topology.HasPort, Topology.link_ports, Ports.neighbours}
 use Rattle.attribute_propagation.specs.Ports.{place_of}
@@ -13,7 +14,8 @@ use Rattle.world_core.specs.declared.events.WorldEvent.TheVariants.{Port, Carry,
 use Rattle.world_core.specs.{World.WorldState, World.world_step, World.world_after, World.replies_to, Apart.events_of, Ticks.script_at, Ticks.after_script, Ticks.step_events, Ticks.closing_events, Ticks.tick_events, Ticks.IsLegalTick, Ticks.LeadTo, During.IsDuring, OneByOne.node_jobs, OneByOne.IsNextJob, OneByOne.MakeLeft, OneByOne.steps_before, OneByOne.MakeAll, OneByOne.IsOneByOne}
 use Rattle.report_words.specs.Names.{port_name}
 use Rattle.journal_lines.specs.Lines.{place_text, made_text, line_at}
-use Rattle.journal_audit.specs.{lines_of, IsStuck, answer_line, answer_lines, made_lines, steps_lines, ticks_lines, FollowTicks, FollowNodes, FollowJobs, FollowAnswers, nodes_from, ReplayLaws}
+use Rattle.world_core.proofs.{Timelines.after_both, OneByOne.before_after}
+use Rattle.journal_audit.specs.{lines_of, asking_for, IsStuck, answer_line, answer_lines, made_lines, steps_lines, ticks_lines, FollowTicks, FollowNodes, FollowJobs, FollowAnswers, nodes_from, ReplayLaws}
 use Rattle.journal_audit.specs.Reading.{Reading}
 use Rattle.journal_audit.proofs.ReadingLemmas.{Lines, stuck_here}
 
@@ -21,10 +23,6 @@ abbrev pub node : ℕ → NodeNo
 node x = record { 0 = x }
 
 -- ---- lists
-
-pub after_append : (es fs : List WorldEvent) (w : WorldState) → world_after (es ++ fs) w ≡ world_after fs (world_after es w)
-after_append [] fs w = refl
-after_append (e ∷ es) fs w = after_append es fs (world_step e w).0
 
 -- answers with their numbers are determined by both
 pub pairs_same : (a b : List (ℕ × WorldReply)) → map (λ x. x.0) a ≡ map (λ x. x.0) b → map (λ x. x.1) a ≡ map (λ x. x.1) b → a ≡ b
@@ -53,11 +51,6 @@ pub before_lines : (plan : Plan) (t : ℕ) (n : NodeNo) (made : List NodeStep) (
 before_lines plan t n [] later = refl
 before_lines plan t n (st ∷ made) later = refl
 
-before_after : (n : NodeNo) (made : List NodeStep) (later : List NodeSteps) (w : WorldState)
-    → world_after (step_events (steps_before n made later)) w ≡ world_after (step_events later) (world_after (events_of n made) w)
-before_after n [] later w = refl
-before_after n (st ∷ made) later w = after_append (events_of n (st ∷ made)) (step_events later) w
-
 -- ticks don't fall
 pub upto : (plan : Plan) (t : ℕ) (w : WorldState) (ticks : List Tick) (u : ℕ) (end : WorldState) → LeadTo (IsLegalTick plan) plan t w ticks u end → t ≤ u
 upto plan t w [] u end lead = let e = lead.0 in omega (arith, e)
@@ -68,8 +61,8 @@ pub tick_closes : (plan : Plan) (t : ℕ) (tick : Tick) (w : WorldState)
     → world_after (tick_events plan t tick) w ≡ world_after (closing_events plan.tree) (world_after (step_events tick.steps) (after_script plan t w))
 tick_closes plan t tick w =
     let script : List WorldEvent = map (λ (e : ℕ × WorldEvent). e.1) (script_at plan t) in
-    after_append (script ++ step_events tick.steps) (closing_events plan.tree) w
-    ∙ ap (λ (u : WorldState). world_after (closing_events plan.tree) u) (after_append script (step_events tick.steps) w)
+    after_both (script ++ step_events tick.steps) (closing_events plan.tree) w
+    ∙ ap (λ (u : WorldState). world_after (closing_events plan.tree) u) (after_both script (step_events tick.steps) w)
 
 take_one : (line : List ℕ) (ls : Lines) → line ∷ [] ≡ take 1 ls → (rest : Lines) × (ls ≡ line ∷ rest)
 take_one line [] e = cc
@@ -82,7 +75,7 @@ module _ (plan : Plan) (laws : ReplayLaws plan) where
   pub closing_stays : (t : ℕ) (w : WorldState) → t < plan.ticks → IsDuring plan.tree t w → IsDuring plan.tree (suc t) (world_after (closing_events plan.tree) w)
   closing_stays t w within run =
       let carried = laws.stay t (map Carry (link_ports plan.tree)) w laws.carried run in
-      subst (IsDuring plan.tree (suc t)) (sym (after_append (map Carry (link_ports plan.tree)) (Clock ∷ []) w))
+      subst (IsDuring plan.tree (suc t)) (sym (after_both (map Carry (link_ports plan.tree)) (Clock ∷ []) w))
       (laws.next t (world_after (map Carry (link_ports plan.tree)) w) (below t within) carried)
 
   -- ---- from the beginning of a tick to its steps
@@ -136,25 +129,6 @@ module _ (plan : Plan) (laws : ReplayLaws plan) where
         }
 
   -- ---- an event's line
-
-  pub answer_onto : (t : ℕ) (e : ℕ × WorldReply) (answers : List (ℕ × WorldReply)) (w : WorldState) (lines : Lines)
-      → FollowAnswers plan t answers w lines → FollowAnswers plan t (e ∷ answers) w (answer_line t e ∷ lines)
-  answer_onto t e answers w lines h = record { rest = h.rest; then = h.then; are = ap (λ (ls : Lines). answer_line t e ∷ ls) h.are }
-
-  pub answer_back : (t : ℕ) (e : ℕ × WorldReply) (answers : List (ℕ × WorldReply)) (w : WorldState) (lines : Lines)
-      → FollowAnswers plan t (e ∷ answers) w (answer_line t e ∷ lines) → FollowAnswers plan t answers w lines
-  answer_back t e answers w lines h =
-      let whole : answer_line t e ∷ lines ≡ answer_line t e ∷ (answer_lines t answers ++ h.rest) = h.are in
-      record { rest = h.rest; then = h.then; are = tails (answer_line t e) lines (answer_lines t answers ++ h.rest) whole }
-    where
-      tails : (x : List ℕ) (a b : Lines) → x ∷ a ≡ x ∷ b → a ≡ b
-      tails x a b e = cc
-
-  pub answers_none_out : (t : ℕ) (w : WorldState) (lines : Lines) → FollowAnswers plan t [] w lines → FollowNodes plan t 1 w lines
-  answers_none_out t w lines h = subst (FollowNodes plan t 1 w) (sym h.are) h.then
-
-  pub answers_none_in : (t : ℕ) (w : WorldState) (lines : Lines) → FollowNodes plan t 1 w lines → FollowAnswers plan t [] w lines
-  answers_none_in t w lines h = record { rest = lines; then = h; are = refl }
 
   -- ---- from a node's turn to its jobs
 
@@ -318,6 +292,17 @@ module _ (plan : Plan) (laws : ReplayLaws plan) where
       let nodes = some_nodes t (suc x) (world_after (events_of (node x) made.0) w) within made.2 (omega arith) (omega (arith, last)) in
       (made_lines plan t (node x) made.0 ++ nodes.0, record { made = made.0; rest = nodes.0; jobs = made.1; then = nodes.1; are = refl })
 
+  -- and first the line of any next job
+  jobs_with : (t x : ℕ) (left : List (List PortStep)) (w : WorldState) → t < plan.ticks → IsDuring plan.tree t w → HasNode plan.tree x
+      → length left ≡ length (neighbours plan.tree.links x) → (next : NodeStep) (behind : List PortStep) → IsNextJob (node x) left w next behind
+      → (lines : Lines) × FollowJobs plan t x left w (line_at plan t (node x) next ∷ lines)
+  jobs_with t x left w within run known long next behind job =
+      let there = laws.stay t (Port (node x) next.port next.step ∷ []) w (has_port x left w next behind known long job, tt) run in
+      let later =
+      some_jobs t x (slice_set left (place_of next.port) behind) (world_step (Port (node x) next.port next.step) w).0 within there known (length_set left (place_of next.port) behind ∙ long)
+      in
+      (later.0, step_onto t x left w known long next behind later.0 job later.1)
+
   pub some_answers : (t : ℕ) (answers : List (ℕ × WorldReply)) (w : WorldState) → t < plan.ticks → IsDuring plan.tree t w → (lines : Lines) × FollowAnswers plan t answers w lines
   some_answers t answers w within run =
       let nodes = some_nodes t 1 w within run (omega arith) (omega arith) in
@@ -326,22 +311,23 @@ module _ (plan : Plan) (laws : ReplayLaws plan) where
   -- ---- where it stops
 
   pub answers_stuck : (t : ℕ) (e : ℕ × WorldReply) (answers : List (ℕ × WorldReply)) (w : WorldState) (from : Reading) → t < plan.ticks → IsDuring plan.tree t w
-      → ((lines : Lines) → lines_of from.rest ≢ answer_line t e ∷ lines) → IsStuck (FollowAnswers plan t (e ∷ answers) w) from from.read
-  answers_stuck t e answers w from within run none =
+      → from.wanted ≡ Some (answer_line t e) → ((lines : Lines) → lines_of from.rest ≢ answer_line t e ∷ lines) → IsStuck (FollowAnswers plan t (e ∷ answers) w) from from
+  answers_stuck t e answers w from within run wanted none =
       let some = some_answers t (e ∷ answers) w within run in
-      stuck_here (FollowAnswers plan t (e ∷ answers) w) from some.0 some.1
-      (λ other may same. let there = take_one (answer_line t e) (lines_of from.rest) (sym (ap (take 1) may.are) ∙ same) in none there.0 there.1)
+      subst (λ (o : Option (List ℕ)). IsStuck (FollowAnswers plan t (e ∷ answers) w) from (asking_for o from)) (ap (λ (ls : Lines). slice_get ls 0) some.1.are ∙ sym wanted)
+      (stuck_here (FollowAnswers plan t (e ∷ answers) w) from some.0 some.1
+      (λ other may same. let there = take_one (answer_line t e) (lines_of from.rest) (sym (ap (take 1) may.are) ∙ same) in none there.0 there.1))
 
   pub jobs_stuck : (t x : ℕ) (left : List (List PortStep)) (w : WorldState) (from : Reading) → t < plan.ticks → IsDuring plan.tree t w → HasNode plan.tree x
-      → length left ≡ length (neighbours plan.tree.links x) → (AllByRecursion (λ jobs. jobs ≡ []) left → ⊥)
+      → length left ≡ length (neighbours plan.tree.links x) → (next : NodeStep) (behind : List PortStep) → IsNextJob (node x) left w next behind
       → ((st : NodeStep) (rest : List PortStep) (lines : Lines) → IsNextJob (node x) left w st rest → lines_of from.rest ≢ line_at plan t (node x) st ∷ lines)
-      → IsStuck (FollowJobs plan t x left w) from from.read
-  jobs_stuck t x left w from within run known long some none =
-      let one = some_jobs t x left w within run known long in
-      stuck_here (FollowJobs plan t x left w) from one.0 one.1 (λ other may same. by other may.made may.rest may.jobs may.are same)
+      → IsStuck (FollowJobs plan t x left w) from (asking_for (Some (line_at plan t (node x) next)) from)
+  jobs_stuck t x left w from within run known long next behind job none =
+      let one = jobs_with t x left w within run known long next behind job in
+      stuck_here (FollowJobs plan t x left w) from (line_at plan t (node x) next ∷ one.0) one.1 (λ other may same. by other may.made may.rest may.jobs may.are same)
     where
       by : (other : Lines) (made : List NodeStep) (rest : Lines) → MakeLeft (node x) left w made → other ≡ made_lines plan t (node x) made ++ rest → take 1 other ≡ take 1 (lines_of from.rest) → ⊥
-      by other [] rest jobs are same = some jobs
+      by other [] rest jobs are same = none_at left (place_of next.port) next.step behind jobs job.job
       by other (st ∷ made) rest jobs are same =
           let there = take_one (line_at plan t (node x) st) (lines_of from.rest) (sym (ap (take 1) are) ∙ same) in
           none st jobs.0 there.0 jobs.1 there.1

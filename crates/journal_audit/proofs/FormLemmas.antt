@@ -58,9 +58,6 @@ pub record IsFormedTo (known : Known) (text rest : List ℕ) (tick line : ℕ) :
   pub onto : (more : List (List ℕ)) → AreFormed known tick more → AreFormed known 0 (done ++ more)
   pub back : (more : List (List ℕ)) → AreFormed known 0 (done ++ more) → AreFormed known tick more
 
-pub formed_none : (known : Known) (text : List ℕ) → IsFormedTo known text text 0 1
-formed_none known text = record { done = []; is = refl; count = refl; room = omega arith; onto = λ more h. h; back = λ more h. h }
-
 module _ (known : Known) (text rest : List ℕ) (tick line : ℕ) (first behind : List ℕ) (to : IsFormedTo known text rest tick line)
     (lines : lines_of rest ≡ first ∷ lines_of behind) where
   pub formed_more : (s : ℕ) → length behind < length rest → tick ≤ s → s < known.ticks → IsFormed known s first
@@ -96,6 +93,3 @@ module _ (known : Known) (text rest : List ℕ) (tick line : ℕ) (first behind 
         before = subst (AreFormed known 0) (append-nil to.done ∙ sym upto) (to.onto [] tt);
         here = λ h. let one = to.back (first ∷ []) (subst (AreFormed known 0) with_it h) in none one.0 one.1 one.2 one.3;
       }
-
-pub formed_all : (known : Known) (text : List ℕ) (tick line : ℕ) → IsFormedTo known text [] tick line → AreFormed known 0 (lines_of text)
-formed_all known text tick line to = subst (AreFormed known 0) (sym to.is) (to.onto [] tt)

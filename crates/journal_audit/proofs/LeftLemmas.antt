@@ -1,6 +1,7 @@
 -- All jobs of a node's ports at its turn.
-use Rattle.std.proofs.Common.{◌≡◌, ℕ, zero, suc, ◌+◌, ◌≤◌, List, [], ◌∷◌, length, map, refl, sym, ap, subst, ◌∙◌, arith}
-use Rattle.std.specs.Prelude.{slice_get, Option, Some}
+use Rattle.std.proofs.Common.{◌≡◌, ℕ, zero, suc, ◌+◌, ◌≤◌, Bool, true, false, List, [], ◌∷◌, length, map, refl, sym, ap, subst, ◌∙◌, arith}
+use Rattle.std.specs.Prelude.{slice_get, Option, Some, ◌||◌, nat_lt}
+use Rattle.std.proofs.lemmas.Bool.Decides.{nat_tests}
 use Rattle.std.specs.{Option.option_map_or, List.range_with_len}
 use Rattle.srp_base.specs.declared.numbers.NodeNo.{NodeNo}
 use Rattle.tree_topology.specs.Topology.{HasNode}
@@ -8,7 +9,7 @@ use Rattle.topology_file.specs.Plan.{Plan}
 use Rattle.node_core.specs.declared.types.PortStep.{PortStep}
 use Rattle.node_core.specs.State.{NodeState, ports_of, job_list}
 use Rattle.world_core.specs.{World.WorldState, World.node_at, During.IsDuring, OneByOne.node_jobs}
-use Rattle.journal_audit.specs.{LeftState, jobs_left, left_at, left_of, place_at, ArePortsLeft, ReplayLaws}
+use Rattle.journal_audit.specs.{LeftState, is_any_left, jobs_left, left_at, left_of, place_at, ArePortsLeft, ReplayLaws}
 use Rattle.journal_audit.proofs.FollowLemmas.{node}
 
 jobs_of_all : (plan : Plan) (t : ℕ) (n : NodeNo) (s : NodeState) (places : List ℕ) → jobs_left (map (left_at plan t n s) places) ≡ map (λ at. job_list at s) places
@@ -39,3 +40,14 @@ ports_all plan laws t x w s ports run known is are few =
   where
     by : (at : ℕ) (p : LeftState) → p.place ≡ place_at plan t (node x) (0 + at) → p.place ≡ place_at plan t (node x) at
     by at p e = let number : 0 + at ≡ at = omega arith in e ∙ ap (place_at plan t (node x)) number
+
+-- where a job is left, it is at some port
+pub some_left : (ports : List LeftState) → is_any_left ports ≡ true → (at : ℕ) × (p : LeftState) × (slice_get ports at ≡ Some p) × (1 ≤ length p.jobs)
+some_left [] h = cc
+some_left (p ∷ ports) h = by (nat_lt 0 (length p.jobs)) refl h (some_left ports)
+  where
+    by : (b : Bool) → nat_lt 0 (length p.jobs) ≡ b → (b || is_any_left ports) ≡ true
+        → (is_any_left ports ≡ true → (at : ℕ) × (q : LeftState) × (slice_get ports at ≡ Some q) × (1 ≤ length q.jobs))
+        → (at : ℕ) × (q : LeftState) × (slice_get (p ∷ ports) at ≡ Some q) × (1 ≤ length q.jobs)
+    by true e is later = (0, p, refl, grind (arith, nat_tests, e))
+    by false e is later = let found = later is in (suc found.0, found.1, found.2, found.3)

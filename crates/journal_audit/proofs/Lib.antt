@@ -2,7 +2,6 @@ pub mod TextLemmas
 pub mod FormLemmas
 pub mod ListLemmas
 pub mod OptionLemmas
-pub mod TotalLemmas
 pub mod ReadingLemmas
 pub mod FollowLemmas
 pub mod PartLemmas

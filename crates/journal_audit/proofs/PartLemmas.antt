@@ -15,9 +15,10 @@ use Rattle.node_core.specs.State.{NodeState, ports_of, box_at, works, job_list, 
 use Rattle.world_core.specs.declared.{events.WorldEvent.WorldEvent, events.WorldEvent.TheVariants.Port, events.WorldReply.WorldReply, journal.NodeSteps.NodeSteps, journal.Tick.Tick}
 use Rattle.world_core.specs.{World.WorldState, World.node_at, World.world_step, World.world_after, World.replies_to, Apart.events_of, Ticks.script_at, Ticks.after_script, Ticks.step_events, Ticks.closing_events, During.IsDuring, OneByOne.node_jobs, OneByOne.MakeLeft, OneByOne.steps_before, OneByOne.MakeAll, OneByOne.IsOneByOne}
 use Rattle.journal_lines.specs.Lines.{line_at}
+use Rattle.world_core.proofs.Timelines.{after_both}
 use Rattle.journal_audit.specs.{LeftState, jobs_left, is_any_left, IsStuck, AreTaken, HasRead, answer_line, answer_lines, made_lines, steps_lines, tick_lines, FollowTicks, FollowNodes, FollowJobs, FollowAnswers, nodes_from, ReplayLaws, IsOtherAnswer, IsStepRead, IsPartRead, IsNodeRead, AreNodesRead, with_steps, IsTickRead}
 use Rattle.journal_audit.specs.Reading.{Reading}
-use Rattle.journal_audit.proofs.{ReadingLemmas.Lines, ReadingLemmas.read_none, ReadingLemmas.read_same, ReadingLemmas.same_read, ReadingLemmas.read_then, ReadingLemmas.read_one, ReadingLemmas.stuck_then, ReadingLemmas.stuck_as, ReadingLemmas.same_behind, FollowLemmas.node, FollowLemmas.after_append, FollowLemmas.answers_out, FollowLemmas.answers_in, FollowLemmas.answers_stuck, FollowLemmas.one_less, FollowLemmas.none_behind, FollowLemmas.jobs_out, FollowLemmas.jobs_in, FollowLemmas.nodes_none_out, FollowLemmas.nodes_none_in, FollowLemmas.left_none_out, FollowLemmas.left_none_in, FollowLemmas.has_port, FollowLemmas.step_onto, FollowLemmas.step_back}
+use Rattle.journal_audit.proofs.{ReadingLemmas.Lines, ReadingLemmas.read_none, ReadingLemmas.read_same, ReadingLemmas.same_read, ReadingLemmas.read_then, ReadingLemmas.read_one, ReadingLemmas.stuck_then, ReadingLemmas.stuck_as, ReadingLemmas.same_behind, FollowLemmas.node, FollowLemmas.answers_out, FollowLemmas.answers_in, FollowLemmas.answers_stuck, FollowLemmas.one_less, FollowLemmas.none_behind, FollowLemmas.jobs_out, FollowLemmas.jobs_in, FollowLemmas.nodes_none_out, FollowLemmas.nodes_none_in, FollowLemmas.left_none_out, FollowLemmas.left_none_in, FollowLemmas.has_port, FollowLemmas.step_onto, FollowLemmas.step_back}
 
 -- ---- lists
 
@@ -68,11 +69,6 @@ idle n w s is rests =
 module _ (plan : Plan) (laws : ReplayLaws plan) where
   -- ---- the steps of a node
 
-  pub part_none : (t x : ℕ) (left : List (List PortStep)) (w : WorldState) (from : Reading) → IsDuring plan.tree t w → length left ≡ length (neighbours plan.tree.links x)
-      → IsPartRead plan t x left w from [] left w from
-  part_none t x left w from run long =
-      record { goes_on = λ later h. h; reached = refl; during = run; long = long; read = read_none (FollowJobs plan t x left w) from }
-
   pub step_stays : (t x : ℕ) (left left2 : List (List PortStep)) (w w2 : WorldState) (st : NodeStep) (from to : Reading) → IsDuring plan.tree t w → HasNode plan.tree x
       → length left ≡ length (neighbours plan.tree.links x) → IsStepRead plan t x left left2 w w2 st from to → IsDuring plan.tree t w2
   step_stays t x left left2 w w2 st from to run known long step =
@@ -101,7 +97,7 @@ module _ (plan : Plan) (laws : ReplayLaws plan) where
         goes_on = on;
         reached = step.reached
             ∙ (ap (λ (v : WorldState). (world_step (Port (node x) st.port st.step) v).0) part.reached
-            ∙ (sym (after_append (events_of (node x) made) (events_of (node x) (st ∷ [])) w)
+            ∙ (sym (after_both (events_of (node x) made) (events_of (node x) (st ∷ [])) w)
             ∙ ap (λ (es : List WorldEvent). world_after es w) (sym (map_append (λ (s : NodeStep). Port (node x) s.port s.step) made (st ∷ [])))));
         during = step_stays t x left1 left2 w1 w2 st via to part.during known part.long step;
         long = ap (λ (l : List (List PortStep)). length l) step.left_is ∙ (length_set left1 (place_of st.port) step.rest ∙ part.long);
@@ -119,10 +115,10 @@ module _ (plan : Plan) (laws : ReplayLaws plan) where
           in
           subst (MakeLeft (node x) left w) (sym (append_assoc made (st ∷ []) later)) (part.goes_on (st ∷ later) (step.rest, step.next, here))
 
-  pub part_stuck : (t x : ℕ) (left left1 : List (List PortStep)) (w w1 : WorldState) (from via : Reading) (made : List NodeStep) (read : ℕ)
-      → IsPartRead plan t x left w from made left1 w1 via → IsStuck (FollowJobs plan t x left1 w1) via read → IsStuck (FollowJobs plan t x left w) from read
-  part_stuck t x left left1 w w1 from via made read part stuck =
-      stuck_then (FollowJobs plan t x left w) (FollowJobs plan t x left1 w1) from via (made_lines plan t (node x) made) read part.read stuck
+  pub part_stuck : (t x : ℕ) (left left1 : List (List PortStep)) (w w1 : WorldState) (from via : Reading) (made : List NodeStep) (to : Reading)
+      → IsPartRead plan t x left w from made left1 w1 via → IsStuck (FollowJobs plan t x left1 w1) via to → IsStuck (FollowJobs plan t x left w) from to
+  part_stuck t x left left1 w w1 from via made to part stuck =
+      stuck_then (FollowJobs plan t x left w) (FollowJobs plan t x left1 w1) from via (made_lines plan t (node x) made) to part.read stuck
 
   pub part_all : (t x : ℕ) (left left1 : List (List PortStep)) (w w1 : WorldState) (from to : Reading) (made : List NodeStep)
       → IsPartRead plan t x left w from made left1 w1 to → AllByRecursion (λ jobs. jobs ≡ []) left1 → IsNodeRead plan t x left w from made w1 to
@@ -149,9 +145,6 @@ module _ (plan : Plan) (laws : ReplayLaws plan) where
 
   -- ---- all nodes
 
-  pub nodes_none : (t : ℕ) (w : WorldState) (from : Reading) → IsDuring plan.tree t w → AreNodesRead plan t 1 w from [] w from
-  nodes_none t w from run = record { goes_on = λ later h. h; reached = refl; during = run; read = read_none (FollowNodes plan t 1 w) from }
-
   with_before : (n : NodeNo) (made : List NodeStep) (steps later : List NodeSteps) → steps ++ steps_before n made later ≡ with_steps n made steps ++ later
   with_before n [] steps later = refl
   with_before n (st ∷ made) steps later = sym (append_assoc steps (record { node = n; steps = st ∷ made } ∷ []) later)
@@ -162,7 +155,7 @@ module _ (plan : Plan) (laws : ReplayLaws plan) where
   with_after n (st ∷ made) steps w =
       let last : NodeSteps = record { node = n; steps = st ∷ made } in
       ap (λ (es : List WorldEvent). world_after es w) (flat_append (λ (ns : NodeSteps). map (λ (s : NodeStep). Port ns.node s.port s.step) ns.steps) steps (last ∷ []))
-      ∙ (after_append (step_events steps) (step_events (last ∷ [])) w
+      ∙ (after_both (step_events steps) (step_events (last ∷ [])) w
       ∙ ap (λ (es : List WorldEvent). world_after es (world_after (step_events steps) w)) (append-nil (events_of n (st ∷ made))))
 
   with_lines : (t : ℕ) (n : NodeNo) (made : List NodeStep) (steps : List NodeSteps) → steps_lines plan t (with_steps n made steps) ≡ steps_lines plan t steps ++ made_lines plan t n made
@@ -190,11 +183,11 @@ module _ (plan : Plan) (laws : ReplayLaws plan) where
           let all = subst (λ (k : ℕ). MakeAll x k w1 (steps_before (node x) made later)) (sym (one_less plan laws x known.1)) (made, (later, refl, one.jobs, here)) in
           subst (MakeAll 1 (nodes_from plan 1) w) (with_before (node x) made steps later) (nodes.goes_on (steps_before (node x) made later) all)
 
-  pub nodes_stuck : (t x : ℕ) (w w1 : WorldState) (from via : Reading) (steps : List NodeSteps) (read : ℕ) → HasNode plan.tree x
-      → AreNodesRead plan t x w from steps w1 via → IsStuck (FollowJobs plan t x (node_jobs (node x) w1) w1) via read → IsStuck (FollowNodes plan t 1 w) from read
-  nodes_stuck t x w w1 from via steps read known nodes stuck =
-      stuck_then (FollowNodes plan t 1 w) (FollowNodes plan t x w1) from via (steps_lines plan t steps) read nodes.read
-      (stuck_as (FollowJobs plan t x (node_jobs (node x) w1) w1) (FollowNodes plan t x w1) via read
+  pub nodes_stuck : (t x : ℕ) (w w1 : WorldState) (from via : Reading) (steps : List NodeSteps) (to : Reading) → HasNode plan.tree x
+      → AreNodesRead plan t x w from steps w1 via → IsStuck (FollowJobs plan t x (node_jobs (node x) w1) w1) via to → IsStuck (FollowNodes plan t 1 w) from to
+  nodes_stuck t x w w1 from via steps to known nodes stuck =
+      stuck_then (FollowNodes plan t 1 w) (FollowNodes plan t x w1) from via (steps_lines plan t steps) to nodes.read
+      (stuck_as (FollowJobs plan t x (node_jobs (node x) w1) w1) (FollowNodes plan t x w1) via to
       (λ lines h. jobs_in plan laws t x w1 lines known.1 h) (λ lines h. jobs_out plan laws t x w1 lines known.1 h) stuck)
 
   -- ---- a tick
@@ -228,11 +221,11 @@ module _ (plan : Plan) (laws : ReplayLaws plan) where
               };
         }
 
-    pub other_stuck : (from to : Reading) → IsOtherAnswer t answers from to → IsStuck (FollowTicks plan t w) from to.read
+    pub other_stuck : (from to : Reading) → IsOtherAnswer t answers from to → IsStuck (FollowTicks plan t w) from to
     other_stuck from to h =
-        stuck_then (FollowTicks plan t w) (FollowAnswers plan t (h.next ∷ h.behind) (after_script plan t w)) from to (answer_lines t h.front) to.read
+        stuck_then (FollowTicks plan t w) (FollowAnswers plan t (h.next ∷ h.behind) (after_script plan t w)) from to (answer_lines t h.front) to
         (answers_read h.front (h.next ∷ h.behind) from to h.are h.taken)
-        (answers_stuck plan laws t h.next h.behind (after_script plan t w) to within scripted_stays h.other)
+        (answers_stuck plan laws t h.next h.behind (after_script plan t w) to within scripted_stays h.wanted h.other)
 
     all_read : (from to : Reading) → AreTaken (answer_lines t answers) from to → HasRead (FollowTicks plan t w) from (answer_lines t answers) (FollowNodes plan t 1 (after_script plan t w)) to
     all_read from to taken =
@@ -240,11 +233,11 @@ module _ (plan : Plan) (laws : ReplayLaws plan) where
         (λ lines h. record { rest = lines; then = h; are = refl }) (λ lines h. subst (FollowNodes plan t 1 (after_script plan t w)) (sym h.are) h.then)
         (answers_read answers [] from to (sym (append-nil answers)) taken)
 
-    pub steps_stuck : (w1 : WorldState) (from via : Reading) (read : ℕ) → w1 ≡ after_script plan t w → AreTaken (answer_lines t answers) from via
-        → IsStuck (FollowNodes plan t 1 w1) via read → IsStuck (FollowTicks plan t w) from read
-    steps_stuck w1 from via read is taken stuck =
-        stuck_then (FollowTicks plan t w) (FollowNodes plan t 1 (after_script plan t w)) from via (answer_lines t answers) read (all_read from via taken)
-        (subst (λ (v : WorldState). IsStuck (FollowNodes plan t 1 v) via read) is stuck)
+    pub steps_stuck : (w1 : WorldState) (from via to : Reading) → w1 ≡ after_script plan t w → AreTaken (answer_lines t answers) from via
+        → IsStuck (FollowNodes plan t 1 w1) via to → IsStuck (FollowTicks plan t w) from to
+    steps_stuck w1 from via to is taken stuck =
+        stuck_then (FollowTicks plan t w) (FollowNodes plan t 1 (after_script plan t w)) from via (answer_lines t answers) to (all_read from via taken)
+        (subst (λ (v : WorldState). IsStuck (FollowNodes plan t 1 v) via to) is stuck)
 
     pub tick_read : (w1 w2 : WorldState) (from via to : Reading) (steps : List NodeSteps) (tick : Tick) → w1 ≡ after_script plan t w → tick.events ≡ answers → tick.steps ≡ steps
         → AreTaken (answer_lines t answers) from via → AreNodesRead plan t (suc (length plan.tree.kinds)) w1 via steps w2 to → IsTickRead plan t w from tick w2 to

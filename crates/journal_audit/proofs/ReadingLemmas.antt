@@ -1,7 +1,7 @@
 -- Reading on, and where it stops.
-use Rattle.std.proofs.Common.{◌≡◌, ℕ, zero, suc, ◌+◌, List, [], ◌∷◌, ◌++◌, length, take, refl, sym, ap, subst, ◌∙◌, append_assoc, arith}
+use Rattle.std.proofs.Common.{◌≡◌, ℕ, zero, suc, ◌+◌, List, [], ◌∷◌, ◌++◌, length, take, slice_get, refl, sym, ap, subst, ◌∙◌, append_assoc, arith}
 use Rattle.std.proofs.lemmas.List.{append-nil, length-append}
-use Rattle.journal_audit.specs.{lines_of, IsTaken, Agrees, IsStuck, HasRead}
+use Rattle.journal_audit.specs.{lines_of, asking_for, IsTaken, Agrees, IsStuck, HasRead}
 use Rattle.journal_audit.specs.Reading.{Reading}
 
 abbrev pub Lines : Type 0
@@ -22,6 +22,12 @@ take_behind [] ys k = let e : 0 + k ≡ k = omega arith in ap (λ n. take n ys) 
 take_behind (x ∷ xs) ys k =
     let e : length (x ∷ xs) + k ≡ suc (length xs + k) = omega arith in
     ap (λ n. take n (x ∷ xs ++ ys)) e ∙ ap (λ zs. x ∷ zs) (take_behind xs ys k)
+
+get_behind : {A : Type 0} (xs ys : List A) (k : ℕ) → slice_get (xs ++ ys) (length xs + k) ≡ slice_get ys k
+get_behind [] ys k = let e : 0 + k ≡ k = omega arith in ap (λ n. slice_get ys n) e
+get_behind (x ∷ xs) ys k =
+    let e : length (x ∷ xs) + k ≡ suc (length xs + k) = omega arith in
+    ap (λ n. slice_get (x ∷ xs ++ ys) n) e ∙ get_behind xs ys k
 
 pub same_behind : {A : Type 0} (xs ys zs : List A) → xs ++ ys ≡ xs ++ zs → ys ≡ zs
 same_behind [] ys zs e = e
@@ -79,8 +85,8 @@ read_one F G from to line taken onto back = record { lines = taken.lines; read =
 
 -- ---- where it stops
 
-pub stuck_then : (F G : Lines → Type 0) (from via : Reading) (front : Lines) (read : ℕ) → HasRead F from front G via → IsStuck G via read → IsStuck F from read
-stuck_then F G from via front read one stuck =
+pub stuck_then : (F G : Lines → Type 0) (from via : Reading) (front : Lines) (to : Reading) → HasRead F from front G via → IsStuck G via to → IsStuck F from to
+stuck_then F G from via front to one stuck =
     let first = one.read in
     let second = stuck.reached in
     let follow : Lines = stuck.before.0 in
@@ -92,6 +98,7 @@ stuck_then F G from via front read one stuck =
         one.onto follow stuck.before.1,
         take_behind front follow stuck.count ∙ (ap (λ (ls : Lines). front ++ ls) stuck.before.2
             ∙ (sym (take_behind front (lines_of via.rest) stuck.count) ∙ ap (take (length front + stuck.count)) (sym one.lines))),
+        get_behind front follow stuck.count ∙ stuck.before.3,
       );
       here = λ more. stuck.here (next more);
     }
@@ -116,17 +123,18 @@ stuck_then F G from via front read one stuck =
               ∙ (ap (take (length front + suc stuck.count)) (sym split.1) ∙ (upto ∙ take_behind front (lines_of via.rest) (suc stuck.count)))),
         )
 
--- at once, where something may follow, but nothing with the next line
+-- at once, where something may follow, whose first line was asked for, but nothing with the next
+-- line
 pub stuck_here : (F : Lines → Type 0) (from : Reading) (follow : Lines) → F follow
-    → ((other : Lines) → F other → take 1 other ≡ take 1 (lines_of from.rest) → ⊥) → IsStuck F from from.read
+    → ((other : Lines) → F other → take 1 other ≡ take 1 (lines_of from.rest) → ⊥) → IsStuck F from (asking_for (slice_get follow 0) from)
 stuck_here F from follow may none =
-    record { count = 0; reached = omega arith; before = (follow, may, refl); here = λ more. none more.0 more.1 more.2 }
+    record { count = 0; reached = omega arith; before = (follow, may, refl, refl); here = λ more. none more.0 more.1 more.2 }
 
-pub stuck_as : (F H : Lines → Type 0) (from : Reading) (read : ℕ) → ((follow : Lines) → F follow → H follow) → ((follow : Lines) → H follow → F follow) → IsStuck F from read → IsStuck H from read
-stuck_as F H from read into out h =
+pub stuck_as : (F H : Lines → Type 0) (from to : Reading) → ((follow : Lines) → F follow → H follow) → ((follow : Lines) → H follow → F follow) → IsStuck F from to → IsStuck H from to
+stuck_as F H from to into out h =
     record {
       count = h.count;
       reached = h.reached;
-      before = (h.before.0, into h.before.0 h.before.1, h.before.2);
+      before = (h.before.0, into h.before.0 h.before.1, h.before.2, h.before.3);
       here = λ more. h.here (more.0, out more.0 more.1, more.2);
     }

@@ -1,6 +1,6 @@
 -- The replay of a whole run, and what an audit answers by it.
-use Rattle.std.proofs.Common.{◌≡◌, ℕ, suc, ◌+◌, ◌<◌, List, [], ◌∷◌, ◌++◌, length, map, take, refl, sym, ap, subst, ◌∙◌, append_assoc, arith}
-use Rattle.std.specs.List.{AllByRecursion}
+use Rattle.std.proofs.Common.{◌≡◌, ℕ, suc, ◌+◌, ◌<◌, List, [], ◌∷◌, ◌++◌, length, map, take, slice_get, refl, sym, ap, subst, ◌∙◌, append_assoc, arith}
+use Rattle.std.specs.{List.AllByRecursion, Prelude.None}
 use Rattle.std.proofs.lemmas.List.{append-nil}
 use Rattle.srp_base.proofs.Lists.{each_append}
 use Rattle.srp_base.specs.Text.{whole_of}
@@ -11,9 +11,10 @@ use Rattle.node_core.specs.declared.types.NodeStep.{NodeStep}
 use Rattle.world_core.specs.declared.{events.WorldReply.WorldReply, events.WorldEvent.TheVariants.Carry, events.WorldEvent.TheVariants.Clock, journal.NodeSteps.NodeSteps, journal.Tick.Tick, journal.Run.Run}
 use Rattle.world_core.specs.{World.WorldState, World.CanHappen, World.world_step, World.world_after, Start.world_of, Ticks.closing_events, Ticks.after_steps, Ticks.tick_events, Ticks.IsLegalTick, Ticks.LeadTo, During.IsDuring, Carrying.NothingWaits, History.HistoryState, History.acts_noted, NotedRuns.IsNotedRun, Missed.is_missed}
 use Rattle.journal_lines.specs.Lines.{IsLine}
-use Rattle.journal_audit.specs.{lines_of, IsStuck, HasRead, answer_lines, made_lines, steps_lines, tick_lines, ticks_lines, FollowTicks, ReplayLaws, IsTickRead, AreTicksRead, IsRunRead, IsJournalOf, IsFirstIllegal}
+use Rattle.world_core.proofs.Timelines.{after_both}
+use Rattle.journal_audit.specs.{lines_of, asking_for, IsStuck, HasRead, answer_lines, made_lines, steps_lines, tick_lines, ticks_lines, FollowTicks, ReplayLaws, IsTickRead, AreTicksRead, IsRunRead, IsJournalOf, IsFirstIllegal, GoesOnWith}
 use Rattle.journal_audit.specs.Reading.{Reading}
-use Rattle.journal_audit.proofs.{TextLemmas.line_first, TextLemmas.lines_join, ReadingLemmas.Lines, ReadingLemmas.read_none, ReadingLemmas.read_then, ReadingLemmas.stuck_here, ReadingLemmas.stuck_then, FollowLemmas.after_append, FollowLemmas.tick_closes, FollowLemmas.nothing_follows}
+use Rattle.journal_audit.proofs.{TextLemmas.line_first, TextLemmas.lines_join, ReadingLemmas.Lines, ReadingLemmas.read_then, ReadingLemmas.stuck_here, ReadingLemmas.stuck_then, FollowLemmas.tick_closes, FollowLemmas.nothing_follows}
 
 -- one tick more
 ticks_push : (plan : Plan) (s : ℕ) (ticks : List Tick) (tick : Tick) → ticks_lines plan s (ticks ++ tick ∷ []) ≡ ticks_lines plan s ticks ++ tick_lines plan (s + length ticks) tick
@@ -47,19 +48,9 @@ module _ (plan : Plan) (laws : ReplayLaws plan) where
   closes t w v u run is clock =
       clock
       ∙ (ap (λ (x : WorldState). (world_step Clock x).0) (is ∙ ap (λ r. world_after (map Carry (link_ports r)) w) run.tree_is)
-      ∙ sym (after_append (map Carry (link_ports plan.tree)) (Clock ∷ []) w))
+      ∙ sym (after_both (map Carry (link_ports plan.tree)) (Clock ∷ []) w))
 
   -- ---- from tick to tick
-
-  pub ticks_none : (from : Reading) (w : WorldState) (history : HistoryState) → IsNotedRun plan 0 [] (world_of plan) [] → NothingWaits (world_of plan)
-      → w ≡ world_of plan → history.tree ≡ w.tree → history.changes ≡ [] → AreTicksRead plan 0 from [] w history from
-  ticks_none from w history noted waits is tree none =
-      subst (λ (v : WorldState). AreTicksRead plan 0 from [] v history from) (sym is) (record {
-        noted = subst (λ (cs : List PortChange). IsNotedRun plan 0 [] (world_of plan) cs) (sym none) noted;
-        tree = tree ∙ (ap (λ (v : WorldState). v.tree) is ∙ noted.during.tree_is);
-        waits = waits;
-        read = read_none (FollowTicks plan 0 (world_of plan)) from;
-      })
 
   pub ticks_more : (t : ℕ) (from via to : Reading) (ticks : List Tick) (tick : Tick) (w w1 w2 : WorldState) (history after : HistoryState)
       → (IsNotedRun plan t ticks w history.changes → IsLegalTick plan t w tick
@@ -96,16 +87,16 @@ module _ (plan : Plan) (laws : ReplayLaws plan) where
             (subst (λ (v : WorldState). HasRead (FollowTicks plan 0 (world_of plan)) from (ticks_lines plan 0 ticks ++ tick_lines plan t tick) (FollowTicks plan (suc t) v) to) (sym closed) read);
       })
 
-  pub ticks_stuck : (t : ℕ) (from via : Reading) (ticks : List Tick) (w : WorldState) (history : HistoryState) (read : ℕ) → AreTicksRead plan t from ticks w history via
-      → IsStuck (FollowTicks plan t w) via read → IsStuck (FollowTicks plan 0 (world_of plan)) from read
-  ticks_stuck t from via ticks w history read before stuck =
-      stuck_then (FollowTicks plan 0 (world_of plan)) (FollowTicks plan t w) from via (ticks_lines plan 0 ticks) read before.read stuck
+  pub ticks_stuck : (t : ℕ) (from via : Reading) (ticks : List Tick) (w : WorldState) (history : HistoryState) (to : Reading) → AreTicksRead plan t from ticks w history via
+      → IsStuck (FollowTicks plan t w) via to → IsStuck (FollowTicks plan 0 (world_of plan)) from to
+  ticks_stuck t from via ticks w history to before stuck =
+      stuck_then (FollowTicks plan 0 (world_of plan)) (FollowTicks plan t w) from via (ticks_lines plan 0 ticks) to before.read stuck
 
   -- something is left behind the last tick
   pub end_stuck : (from to : Reading) (ticks : List Tick) (w : WorldState) (history : HistoryState) → AreTicksRead plan plan.ticks from ticks w history to → (to.rest ≡ [] → ⊥)
-      → IsStuck (FollowTicks plan 0 (world_of plan)) from to.read
+      → IsStuck (FollowTicks plan 0 (world_of plan)) from (asking_for None to)
   end_stuck from to ticks w history before some =
-      ticks_stuck plan.ticks from to ticks w history to.read before
+      ticks_stuck plan.ticks from to ticks w history (asking_for None to) before
       (stuck_here (FollowTicks plan plan.ticks w) to [] (record { ticks = []; end = w; lead = (refl, refl); are = refl })
       (λ other may same. by other (lines_of to.rest) (nothing_follows plan laws plan.ticks w other refl may) same (λ none. some (no_line to.rest none))))
     where
@@ -155,15 +146,28 @@ module _ (plan : Plan) (laws : ReplayLaws plan) where
 
   -- ---- what is answered
 
-  pub legal_is : (text : List ℕ) (to : Reading) (run : Run) → IsRunRead plan (record { rest = text; read = 0 }) run to → IsJournalOf plan text run.journal.ticks run.world
+  pub legal_is : (text : List ℕ) (to : Reading) (run : Run) → IsRunRead plan (record { rest = text; read = 0; wanted = None }) run to → IsJournalOf plan text run.journal.ticks run.world
   legal_is text to run h = record { legal = h.noted.leads; text_is = sym (lines_join text) ∙ ap whole_of h.lines }
 
-  pub first_is : (text : List ℕ) (read : ℕ) → IsStuck (FollowTicks plan 0 (world_of plan)) (record { rest = text; read = 0 }) read → IsFirstIllegal plan text read
-  first_is text read stuck =
+  pub first_is : (text : List ℕ) (to : Reading) → IsStuck (FollowTicks plan 0 (world_of plan)) (record { rest = text; read = 0; wanted = None }) to → IsFirstIllegal plan text to.read
+  first_is text to stuck =
       let reached = stuck.reached in
-      let same : stuck.count ≡ read = omega (arith, reached) in
+      let same : stuck.count ≡ to.read = omega (arith, reached) in
       let follow = stuck.before.1 in
       subst (IsFirstIllegal plan text) same (record {
         before = (follow.ticks, follow.end, follow.lead, ap (take stuck.count) (sym follow.are) ∙ stuck.before.2);
         here = λ agrees. stuck.here (ticks_lines plan 0 agrees.0, record { ticks = agrees.0; end = agrees.1; lead = agrees.2; are = refl }, agrees.3);
+      })
+
+  pub goes_on : (text : List ℕ) (to : Reading) → IsStuck (FollowTicks plan 0 (world_of plan)) (record { rest = text; read = 0; wanted = None }) to → GoesOnWith plan text to.read to.wanted
+  goes_on text to stuck =
+      let reached = stuck.reached in
+      let same : stuck.count ≡ to.read = omega (arith, reached) in
+      let follow = stuck.before.1 in
+      subst (λ (count : ℕ). GoesOnWith plan text count to.wanted) same (record {
+        ticks = follow.ticks;
+        end = follow.end;
+        run = follow.lead;
+        agree = ap (take stuck.count) (sym follow.are) ∙ stuck.before.2;
+        next = ap (λ (ls : Lines). slice_get ls stuck.count) (sym follow.are) ∙ stuck.before.3;
       })

@@ -1,5 +1,5 @@
 -- One step of the replay: which port makes it, and where no port can.
-use Rattle.std.proofs.Common.{◌≡◌, ◌≢◌, ◌⊎◌, inl, inr, ℕ, zero, suc, ◌+◌, ◌<◌, true, false, List, [], ◌∷◌, ◌++◌, length, refl, sym, ap, subst, ◌∙◌, append_assoc, arith}
+use Rattle.std.proofs.Common.{◌≡◌, ◌≢◌, ◌⊎◌, inl, inr, ℕ, zero, suc, ◌+◌, ◌<◌, ◌≤◌, true, false, List, [], ◌∷◌, ◌++◌, length, refl, sym, ap, subst, ◌∙◌, append_assoc, arith}
 use Rattle.std.specs.Prelude.{slice_get, slice_index_or, slice_set, Some}
 use Rattle.std.proofs.lemmas.{List.length-append, Option.slice_get_within}
 use Rattle.srp_base.proofs.Lists.{length_set}
@@ -13,16 +13,24 @@ use Rattle.world_core.specs.declared.{events.WorldEvent.TheVariants.Port, events
 use Rattle.world_core.specs.{World.WorldState, World.Happened, World.world_step, During.IsDuring, OneByOne.IsNextJob}
 use Rattle.report_words.specs.Names.{port_name}
 use Rattle.journal_lines.specs.Lines.{place_text, made_text, line_at}
-use Rattle.journal_audit.specs.{lines_of, LeftState, jobs_left, place_at, ArePortsLeft, MayBeNext, is_any_left, IsTaken, IsStuck, TakesOrStays, AreTaken, answer_line, answer_lines, FollowJobs, ReplayLaws, IsOtherAnswer, IsStepRead}
+use Rattle.journal_audit.specs.{lines_of, LeftState, jobs_left, place_at, ArePortsLeft, MayBeNext, IsOfNone, IsNextPort, asking_for, IsTaken, IsStuck, TakesOrStays, AreTaken, answer_line, answer_lines, FollowJobs, ReplayLaws, IsOtherAnswer, IsStepRead}
 use Rattle.journal_audit.specs.Reading.{Reading}
-use Rattle.journal_audit.proofs.{TextLemmas.first_begins, FollowLemmas.node, FollowLemmas.jobs_stuck, FollowLemmas.ports_same, FollowLemmas.next_same, PartLemmas.any_some}
+use Rattle.journal_audit.proofs.{TextLemmas.first_begins, FollowLemmas.node, FollowLemmas.jobs_stuck, FollowLemmas.ports_same, FollowLemmas.next_same}
 
 -- ---- answers
 
 pub other_answer : (t : ℕ) (answers front behind : List (ℕ × WorldReply)) (e : ℕ × WorldReply) (from via to : Reading) → answers ≡ front ++ e ∷ behind → AreTaken (answer_lines t front) from via
     → TakesOrStays (answer_line t e) via to false → IsOtherAnswer t answers from to
 other_answer t answers front behind e from via to are taken stays =
-    subst (IsOtherAnswer t answers from) (sym (stays.stays refl)) (record { front = front; next = e; behind = behind; are = are; taken = taken; other = stays.other refl })
+    subst (IsOtherAnswer t answers from) (sym (stays.stays refl)) (record {
+      front = front;
+      next = e;
+      behind = behind;
+      are = are;
+      taken = record { lines_are = taken.lines_are; read = taken.read };
+      wanted = refl;
+      other = stays.other refl;
+    })
 
 pub answers_more : (t : ℕ) (front more : List (ℕ × WorldReply)) (e : ℕ × WorldReply) (from via to : Reading) → more ≡ front ++ e ∷ [] → AreTaken (answer_lines t front) from via
     → TakesOrStays (answer_line t e) via to true → AreTaken (answer_lines t more) from to
@@ -81,16 +89,17 @@ read_is (x ∷ ports) zero b h e = ap Some (sym e)
 read_is (x ∷ ports) (suc i) b h e = read_is ports i b (omega (arith, h)) e
 
 -- the port that was found
-pub found_within : (ports slice : List LeftState) (at : ℕ) (from : Reading) → slice ≡ ports → (p : LeftState) × (slice_get slice at ≡ Some p) × MayBeNext from p → at < length ports
-found_within ports slice at from is found = subst (λ (ps : List LeftState). at < length ps) is (slice_get_within slice at found.0 found.1)
+pub found_within : (ports slice : List LeftState) (at : ℕ) (from : Reading) → slice ≡ ports → IsNextPort from slice at → at < length ports
+found_within ports slice at from is found = subst (λ (ps : List LeftState). at < length ps) is (slice_get_within slice at found.port found.is)
 
-pub found_port : (ports slice : List LeftState) (at : ℕ) (from : Reading) (e : LeftState) → slice ≡ ports → (p : LeftState) × (slice_get slice at ≡ Some p) × MayBeNext from p
-    → e ≡ slice_index_or ports at e → (slice_get ports at ≡ Some e) × MayBeNext from e
+pub found_port : (ports slice : List LeftState) (at : ℕ) (from : Reading) (e : LeftState) → slice ≡ ports → IsNextPort from slice at
+    → e ≡ slice_index_or ports at e → (slice_get ports at ≡ Some e) × (1 ≤ length e.jobs) × (MayBeNext from e ⊎ IsOfNone from ports)
 found_port ports slice at from e is found value =
-    let get : slice_get ports at ≡ Some found.0 = subst (λ (ps : List LeftState). slice_get ps at ≡ Some found.0) is found.1 in
+    let next = subst (λ (ps : List LeftState). IsNextPort from ps at) is found in
+    let get : slice_get ports at ≡ Some next.port = next.is in
     let here = read_is ports at e (found_within ports slice at from is found) value in
-    let same : found.0 ≡ e = cc in
-    (here, subst (MayBeNext from) same found.2)
+    let same : next.port ≡ e = cc in
+    (here, subst (λ (p : LeftState). 1 ≤ length p.jobs) same next.some, subst (λ (p : LeftState). MayBeNext from p ⊎ IsOfNone from ports) same next.named)
 
 -- a port has taken its next job
 pub ports_set : (plan : Plan) (t : ℕ) (n : NodeNo) (ports next : List LeftState) (at : ℕ) (p q : LeftState) → slice_get ports at ≡ Some p → next ≡ slice_set ports at q → q.place ≡ p.place
@@ -150,10 +159,10 @@ module _ (plan : Plan) (laws : ReplayLaws plan) (t x : ℕ) (ports : List LeftSt
       ∙ append_assoc (place_text t (port_name plan.nodes plan.tree.links (record { node = node x; port = st.port }))) (made_text st) (whole_of lines)
 
   -- the next line is of a step of no port
-  pub none_stuck : (from : Reading) → t < plan.ticks → IsDuring plan.tree t w → is_any_left ports ≡ true → ((at : ℕ) (p : LeftState) → slice_get ports at ≡ Some p → MayBeNext from p → ⊥)
-      → IsStuck (FollowJobs plan t x (jobs_left ports) w) from from.read
-  none_stuck from within run some none =
-      jobs_stuck plan laws t x (jobs_left ports) w from within run known are.long (any_some ports some)
+  none_stuck : (from : Reading) (made : NodeStep) (behind : List PortStep) → t < plan.ticks → IsDuring plan.tree t w → IsNextJob (node x) (jobs_left ports) w made behind → IsOfNone from ports
+      → IsStuck (FollowJobs plan t x (jobs_left ports) w) from (asking_for (Some (line_at plan t (node x) made)) from)
+  none_stuck from made behind within run job none =
+      jobs_stuck plan laws t x (jobs_left ports) w from within run known are.long made behind job
       (λ st rest lines next e. by st rest lines next e (jobs_from ports (place_of st.port) (st.step ∷ rest) next.job))
     where
       by : (st : NodeStep) (rest : List PortStep) (lines : List (List ℕ)) → IsNextJob (node x) (jobs_left ports) w st rest → lines_of from.rest ≡ line_at plan t (node x) st ∷ lines
@@ -172,15 +181,15 @@ module _ (plan : Plan) (laws : ReplayLaws plan) (t x : ℕ) (ports : List LeftSt
           })
 
   -- the next line begins like one of this port's, but is another
-  pub other_stuck : (at : ℕ) (p q : LeftState) (step : PortStep) (st : NodeStep) (w2 : WorldState) (from : Reading) → t < plan.ticks → IsDuring plan.tree t w → is_any_left ports ≡ true
-      → slice_get ports at ≡ Some p → MayBeNext from p → p.jobs ≡ step ∷ q.jobs → st.port ≡ record { 0 = at + 1 } → st.step ≡ step → world_step (Port (node x) st.port st.step) w ≡ (w2, Step st.reply)
-      → ((lines : List (List ℕ)) → lines_of from.rest ≢ line_at plan t (node x) st ∷ lines) → IsStuck (FollowJobs plan t x (jobs_left ports) w) from from.read
-  other_stuck at p q step st w2 from within run some get may jobs port is made none =
-      jobs_stuck plan laws t x (jobs_left ports) w from within run known are.long (any_some ports some) by
+  other_stuck : (at : ℕ) (p q : LeftState) (st : NodeStep) (from : Reading) → t < plan.ticks → IsDuring plan.tree t w
+      → slice_get ports at ≡ Some p → MayBeNext from p → st.port ≡ record { 0 = at + 1 } → IsNextJob (node x) (jobs_left ports) w st q.jobs
+      → ((lines : List (List ℕ)) → lines_of from.rest ≢ line_at plan t (node x) st ∷ lines)
+      → IsStuck (FollowJobs plan t x (jobs_left ports) w) from (asking_for (Some (line_at plan t (node x) st)) from)
+  other_stuck at p q st from within run get may port one none =
+      jobs_stuck plan laws t x (jobs_left ports) w from within run known are.long st q.jobs one by
     where
       by : (other : NodeStep) (rest : List PortStep) (lines : List (List ℕ)) → IsNextJob (node x) (jobs_left ports) w other rest → lines_of from.rest ≢ line_at plan t (node x) other ∷ lines
       by other rest lines next e =
-          let one = next_job at p q step st w2 get jobs port is made in
           let own : p.place ≡ place_text t (port_name plan.nodes plan.tree.links (record { node = node x; port = st.port })) =
           are.places at p get ∙ ap (λ (k : PortNo). place_text t (port_name plan.nodes plan.tree.links (record { node = node x; port = k }))) (sym port)
           in
@@ -191,3 +200,14 @@ module _ (plan : Plan) (laws : ReplayLaws plan) (t x : ℕ) (ports : List LeftSt
           let same_port = ports_same plan laws t x (jobs_left ports) w known are.long st other q.jobs rest may.rest (made_text other ++ whole_of lines) one next begins in
           let same = next_same plan laws t x (jobs_left ports) w known are.long st other q.jobs rest one next same_port in
           none lines (e ∙ ap (λ (s : NodeStep). line_at plan t (node x) s ∷ lines) (sym same.0))
+
+  -- the port that was found has made its next job, whose line isn't the next
+  pub made_stuck : (at : ℕ) (p q : LeftState) (step : PortStep) (st : NodeStep) (w2 : WorldState) (from to : Reading) → t < plan.ticks → IsDuring plan.tree t w
+      → slice_get ports at ≡ Some p → MayBeNext from p ⊎ IsOfNone from ports → p.jobs ≡ step ∷ q.jobs → st.port ≡ record { 0 = at + 1 } → st.step ≡ step
+      → world_step (Port (node x) st.port st.step) w ≡ (w2, Step st.reply) → TakesOrStays (line_at plan t (node x) st) from to false → IsStuck (FollowJobs plan t x (jobs_left ports) w) from to
+  made_stuck at p q step st w2 from to within run get named jobs port is made stays =
+      let one = next_job at p q step st w2 get jobs port is made in
+      subst (IsStuck (FollowJobs plan t x (jobs_left ports) w) from) (sym (stays.stays refl)) (elim named [
+        | inl may ↦ other_stuck at p q st from within run get may port one (stays.other refl)
+        | inr none ↦ none_stuck from st q.jobs within run one none
+      ])

@@ -120,9 +120,6 @@ found_line text i e =
     let more : suc i ≡ i + 1 = omega arith in
     subst (λ (k : ℕ). lines_of text ≡ take k text ∷ lines_of (drop k text)) more (first_is text i at.0 at.1)
 
-pub found_less : (text : List ℕ) (i : ℕ) → position is_feed text ≡ Some i → i < length text
-found_less text i e = (found_at text i e).1
-
 pub last_line : (text : List ℕ) → position is_feed text ≡ None → 1 ≤ length text → lines_of text ≡ text ∷ []
 last_line text e some = last_is text (not_found text e) some
 

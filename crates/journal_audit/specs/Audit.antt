@@ -1,5 +1,5 @@
 -- What an audit answers.
-use Rattle.std.specs.Prelude.{◌≡◌, ◌≤◌, ◌-◌, ◌⊎◌, ℕ, suc, List, length, map, take, flat_map}
+use Rattle.std.specs.Prelude.{◌≡◌, ◌≤◌, ◌-◌, ◌⊎◌, ℕ, suc, List, length, map, take, slice_get, flat_map, Option}
 use Rattle.std.specs.List.{range_with_len}
 use Rattle.tree_topology.specs.Ports.{neighbours}
 use Rattle.frame_flow.specs.Copies.{port_of}
@@ -8,6 +8,7 @@ use Rattle.world_core.specs.declared.journal.Tick.{Tick}
 use Rattle.world_core.specs.{World.WorldState, Ticks.AreLegalTicks, Timeline.IsTimelineOf}
 use Rattle.report_words.specs.Names.{port_name}
 use Rattle.journal_audit.specs.declared.{form.Known.Known, verdict.Verdict.Verdict, verdict.Verdict.TheVariants.Legal, verdict.Verdict.TheVariants.No}
+use Rattle.journal_audit.specs.declared.{verdict.Finding.Finding, verdict.Finding.TheVariants.Replayed, verdict.Finding.TheVariants.Unformed, verdict.Finding.TheVariants.Parted}
 use Rattle.journal_audit.specs.{Texts.lines_of, Form.AreFormed, Form.IsFirstUnformed, Journal.ticks_lines, Journal.journal_text}
 
 -- the names of a node's ports
@@ -58,3 +59,26 @@ IsVerdict plan text (No line why) = IsRefusal plan text line why × ((ticks : Li
 -- a verdict refuses the line behind so many, with this why
 abbrev pub RefusesBehind : ℕ → Verdict → ℕ → Type 0
 RefusesBehind why verdict count = verdict ≡ No (suc count) why
+
+-- ---- what a legal run has where a text parts from all
+
+-- some legal ticks have the first so many lines of a text, and behind them this line, or they end
+-- there
+pub record GoesOnWith (plan : Plan) (text : List ℕ) (count : ℕ) (legal : Option (List ℕ)) : Type 0 where
+  pub ticks : List Tick
+  pub end : WorldState
+  pub run : AreLegalTicks plan ticks end
+  pub agree : take count (ticks_lines plan 0 ticks) ≡ take count (lines_of text)
+  pub next : slice_get (ticks_lines plan 0 ticks) count ≡ legal
+
+-- the verdict that a finding comes to
+abbrev pub verdict_of : Finding → Verdict
+verdict_of (Replayed run) = Legal run
+verdict_of (Unformed line) = No line 2
+verdict_of (Parted line legal) = No line 3
+
+-- the line that a finding tells is one that a legal run has there
+abbrev pub TellsLegal : Plan → List ℕ → Finding → Type 0
+TellsLegal plan text (Replayed run) = Unit {0}
+TellsLegal plan text (Unformed line) = Unit {0}
+TellsLegal plan text (Parted line legal) = GoesOnWith plan text (line - 1) legal

@@ -1,6 +1,6 @@
 -- What the ports of a node have left of their jobs in a tick, each with the words by which the
 -- lines of its steps begin.
-use Rattle.std.specs.Prelude.{◌≡◌, ◌≤◌, ◌+◌, ℕ, Bool, nat_lt, List, ◌++◌, length, map, Some, slice_get}
+use Rattle.std.specs.Prelude.{◌≡◌, ◌≤◌, ◌⊎◌, ◌+◌, ℕ, Bool, nat_lt, List, ◌++◌, length, map, Some, slice_get}
 use Rattle.std.specs.List.{range_with_len, list_any}
 use Rattle.srp_base.specs.declared.numbers.NodeNo.{NodeNo}
 use Rattle.tree_topology.specs.Ports.{neighbours}
@@ -47,6 +47,17 @@ pub record MayBeNext (r : Reading) (p : LeftState) : Type 0 where
   pub some : 1 ≤ length p.jobs
   pub rest : List ℕ
   pub begins : r.rest ≡ p.place ++ rest
+
+-- the next line may be of a step of no port
+abbrev pub IsOfNone : Reading → List LeftState → Type 0
+IsOfNone r ports = (at : ℕ) (p : LeftState) → slice_get ports at ≡ Some p → MayBeNext r p → ⊥
+
+-- the port at this place has a job left, and the next line may be of it, or of none
+pub record IsNextPort (r : Reading) (ports : List LeftState) (at : ℕ) : Type 0 where
+  pub port : LeftState
+  pub is : slice_get ports at ≡ Some port
+  pub some : 1 ≤ length port.jobs
+  pub named : MayBeNext r port ⊎ IsOfNone r ports
 
 -- whether a job is left at some port
 abbrev pub is_any_left : List LeftState → Bool

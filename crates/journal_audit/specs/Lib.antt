@@ -17,3 +17,5 @@ pub use Audit.*
 pub use Rattle.journal_audit.specs.declared.form.Known.{Known}
 pub use Rattle.journal_audit.specs.declared.verdict.Verdict.{Verdict}
 pub use Rattle.journal_audit.specs.declared.verdict.Verdict.TheVariants.{Legal, No}
+pub use Rattle.journal_audit.specs.declared.verdict.Finding.{Finding}
+pub use Rattle.journal_audit.specs.declared.verdict.Finding.TheVariants.{Replayed, Unformed, Parted}

@@ -1,5 +1,5 @@
 -- The replay of a journal, part by part: what has been read, and where it is stuck.
-use Rattle.std.specs.Prelude.{◌≡◌, ◌≢◌, ◌<◌, ◌≤◌, ◌^◌, ℕ, suc, ◌+◌, Bool, List, [], ◌∷◌, ◌++◌, length, map, slice_set}
+use Rattle.std.specs.Prelude.{◌≡◌, ◌≢◌, ◌<◌, ◌≤◌, ◌^◌, ℕ, suc, ◌+◌, Bool, List, [], ◌∷◌, ◌++◌, length, map, slice_set, Some}
 use Rattle.std.specs.List.{AllByRecursion}
 use Rattle.srp_base.specs.declared.{numbers.NodeNo.NodeNo, numbers.EgressPort.EgressPort}
 use Rattle.tree_topology.specs.{Topology.HasNode, Topology.HasPort, Topology.link_ports, Ports.neighbours}
@@ -41,13 +41,14 @@ pub record ReplayLaws (plan : Plan) : Type 0 where
 -- ---- what has been made, and read
 
 -- some of the answers of scripted events have been read, and the next line isn't that of the next
--- one
+-- one, which was asked for
 pub record IsOtherAnswer (t : ℕ) (answers : List (ℕ × WorldReply)) (from to : Reading) : Type 0 where
   pub front : List (ℕ × WorldReply)
   pub next : ℕ × WorldReply
   pub behind : List (ℕ × WorldReply)
   pub are : answers ≡ front ++ next ∷ behind
   pub taken : AreTaken (answer_lines t front) from to
+  pub wanted : to.wanted ≡ Some (answer_line t next)
   pub other : (lines : List (List ℕ)) → lines_of to.rest ≢ answer_line t next ∷ lines
 
 -- a port of node x has made its next job, and its line has been read

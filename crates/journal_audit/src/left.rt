@@ -1,11 +1,11 @@
 //! What the ports of a node have left of their jobs in a tick, each with the words by which the
 //! lines of its steps begin.
 
-ghost use Rattle.std.specs.Prelude.{◌≡◌, ◌≤◌, ◌+◌, ◌∷◌, ◌↔◌, ℕ, [], Some, length, slice_get, IfOk, IfSome, IfNone, IsTrue, nat_lt};
+ghost use Rattle.std.specs.Prelude.{◌≡◌, ◌≤◌, ◌+◌, ◌∷◌, ◌↔◌, ℕ, [], Some, true, length, slice_get, IfOk, IfSome, IfNone, IsTrue, nat_lt};
 ghost use Rattle.std.specs.List.{AllByRecursion};
 ghost use Rattle.attribute_propagation.specs.Ports.{IsLinkPort};
 ghost use Rattle.node_core.specs.State.{ports_of};
-ghost use Rattle.journal_audit.specs.Left.{LeftState, MayBeNext, is_any_left, left_at, left_of};
+ghost use Rattle.journal_audit.specs.Left.{LeftState, IsNextPort, MayBeNext, is_any_left, left_at, left_of};
 
 use crate::reading::Reader;
 use journal_lines::put_place;
@@ -113,8 +113,38 @@ pub(crate) fn is_any_left(ports: &[PortLeft]) -> bool
     ports.iter().any(|port| port.has_job())
 }
 
-/// The place of the first port of whose steps the next line may be.
-pub(crate) fn next_port(ports: &[PortLeft], lines: &Reader<'_>) -> Option<usize>
+/// The place of the first port of whose steps the next line may be, or of the first that has a job
+/// left, where the next line may be of none.
+pub(crate) fn next_port(ports: &[PortLeft], lines: &Reader<'_>) -> usize
+    requires { is_any_left ports.now ≡ true }
+    ensures { IsNextPort lines.now ports.now result }
+{
+    match named_port(ports, lines) {
+        Some(at) => at,
+        None => match first_left(ports) {
+            Some(at) => at,
+            None => unreachable!(),
+        },
+    }
+}
+
+// The place of the first port that has a job left.
+fn first_left(ports: &[PortLeft]) -> Option<usize>
+    ensures some { IfSome result (λ at. (p : LeftState) × (slice_get ports.now at ≡ Some p)
+        × (1 ≤ length p.jobs)) }
+    ensures none { IfNone result ((at : ℕ) (p : LeftState) → slice_get ports.now at ≡ Some p
+        → 1 ≤ length p.jobs → ⊥) }
+{
+    for at in 0..ports.len() {
+        if ports[at].has_job() {
+            return Some(at);
+        }
+    }
+    None
+}
+
+// The place of the first port of whose steps the next line may be.
+fn named_port(ports: &[PortLeft], lines: &Reader<'_>) -> Option<usize>
     ensures some { IfSome result (λ at. (p : LeftState) × (slice_get ports.now at ≡ Some p)
         × MayBeNext lines.now p) }
     ensures none { IfNone result ((at : ℕ) (p : LeftState) → slice_get ports.now at ≡ Some p

@@ -19,6 +19,11 @@
 //! may follow, the reading is stuck (`IsStuck`). No number is read for this: the ports of a node
 //! whose turn it is begin their lines differently, and the network tells the rest of the line.
 //!
+//! Where the reading is stuck it has asked for a line that may follow there and isn't the next, or
+//! nothing may follow (`wanted` of `specs/Reading.antt`). So `examine` tells, beside the verdict,
+//! what a legal run has at the line with which no legal journal agrees (`TellsLegal` of
+//! `specs/Audit.antt`); `audit` is its verdict alone.
+//!
 //! The contract of `audit` is `IsVerdict` of `specs/Audit.antt`. A run that is answered is legal by
 //! world_core's words alone, its journal is the text, and its timeline is that of its ticks; and a
 //! text that is the journal of legal ticks is never refused. A journal agrees with a text for so
@@ -46,4 +51,4 @@ mod texts;
 mod verdict;
 
 pub use texts::{before, first_line};
-pub use verdict::{Verdict, audit};
+pub use verdict::{Finding, Verdict, audit, examine};

@@ -34,7 +34,7 @@ fn read_tick(
     ensures cursor { IfOk result (λ o. IfSome o (λ _. IsCursor scenario.now.events (suc t)
         cursor.new)) }
     ensures stuck { IfOk result (λ o. IfNone o (IsStuck (FollowTicks scenario.now t world.old)
-        lines.old lines.new.read)) }
+        lines.old lines.new)) }
 {
     laws_of_replay(scenario);
     let events = make_events(alloc, scenario, t, world, cursor)?;
@@ -75,7 +75,7 @@ pub(crate) fn replay(
     ensures read { IfOk result (λ o. IfSome o (λ run. IsRunRead scenario.now lines.old run
         lines.new)) }
     ensures stuck { IfOk result (λ o. IfNone o (IsStuck
-        (FollowTicks scenario.now 0 (world_of scenario.now)) lines.old lines.new.read)) }
+        (FollowTicks scenario.now 0 (world_of scenario.now)) lines.old lines.new)) }
 {
     laws_of_replay(scenario);
     a_tick_carries_what_it_has_sent();
@@ -93,6 +93,7 @@ pub(crate) fn replay(
         ticks.push(tick)?;
     }
     if !lines.is_at_end() {
+        lines.want_nothing();
         return Ok(None);
     }
     Ok(Some(run_of(world, ticks, history)?))

@@ -58,7 +58,7 @@ fn read_answer(
     let missed = matches!(reply, WorldReply::Missed);
     let mut line = Vec::new(alloc);
     put_event(&mut line, t, entry, missed)?;
-    Ok(lines.take(line.as_slice()))
+    Ok(lines.take(line))
 }
 
 // ---- the steps of a node
@@ -80,7 +80,7 @@ fn read_line(
     scenario.keeps_rules();
     let mut line = Vec::new(alloc);
     put_step(&mut line, scenario, t, number, made)?;
-    Ok(lines.take(line.as_slice()))
+    Ok(lines.take(line))
 }
 
 // Lets a port make a step, and answers it.
@@ -138,13 +138,11 @@ fn read_step(
         left.new.items)) }
     ensures stuck { IfOk result (λ o. IfNone o (IsStuck
         (FollowJobs scenario.now t number.0 (jobs_left left.old.items) world.old)
-        lines.old lines.new.read)) }
+        lines.old lines.new)) }
 {
     laws_of_replay(scenario);
     let _ = no_key();
-    let Some(place) = next_port(left.as_slice(), lines) else {
-        return Ok(None);
-    };
+    let place = next_port(left.as_slice(), lines);
     let step = left[place].take_job();
     let made = make_step(world, number, &(PortNo(place as u8 + 1), step))?;
     let taken = read_line(alloc, scenario, t, number, &made, lines)?;
@@ -170,7 +168,7 @@ fn read_jobs(
         (jobs_left left.old.items) world.old lines.old made.items world.new lines.new)) }
     ensures stuck { IfOk result (λ o. IfNone o (IsStuck
         (FollowJobs scenario.now t number.0 (jobs_left left.old.items) world.old)
-        lines.old lines.new.read)) }
+        lines.old lines.new)) }
 {
     laws_of_replay(scenario);
     let _ = no_key();
@@ -207,7 +205,7 @@ fn read_node(
         (node_jobs number world.old) world.old lines.old made.items world.new lines.new)) }
     ensures stuck { IfOk result (λ o. IfNone o (IsStuck
         (FollowJobs scenario.now t number.0 (node_jobs number world.old) world.old)
-        lines.old lines.new.read)) }
+        lines.old lines.new)) }
 {
     laws_of_replay(scenario);
     world.keeps();
@@ -237,7 +235,7 @@ pub(crate) fn read_nodes(
         (suc (length scenario.now.tree.kinds)) world.old lines.old steps.items world.new
         lines.new)) }
     ensures stuck { IfOk result (λ o. IfNone o (IsStuck (FollowNodes scenario.now t 1 world.old)
-        lines.old lines.new.read)) }
+        lines.old lines.new)) }
 {
     laws_of_replay(scenario);
     let mut steps = Vec::new(alloc);

@@ -4,7 +4,7 @@ ghost use Rattle.std.specs.Prelude.{◌≡◌, ◌<◌, ◌^◌, ◌++◌, List,
 ghost use Rattle.tree_topology.specs.Topology.{HasNode};
 ghost use Rattle.world_core.specs.declared.journal.Tick.{Tick};
 ghost use Rattle.world_core.specs.World.{WorldState};
-ghost use Rattle.journal_audit.specs.Audit.{known_of, names_at, IsFirstIllegal, IsJournalOf, IsVerdict};
+ghost use Rattle.journal_audit.specs.Audit.{known_of, names_at, verdict_of, GoesOnWith, IsFirstIllegal, IsJournalOf, IsVerdict, TellsLegal};
 
 use crate::form::{Known, first_unformed};
 use crate::laws::laws_of_replay;
@@ -29,35 +29,83 @@ pub enum Verdict {
     No { line: u64, why: u8 },
 }
 
+/// What an audit finds: its verdict, and where no legal journal agrees with a line, what a legal run
+/// has there.
+#[derive(Drop)]
+pub enum Finding {
+    /// The text is the journal of this run, each of whose ticks is legal.
+    Replayed(Run),
+    /// This line isn't of the form of a journal's lines: why 2.
+    Unformed { line: u64 },
+    /// No legal journal agrees with this line: why 3. A legal run that has all lines before it has
+    /// this one there; None where it ends there.
+    Parted { line: u64, legal: Option<Seq<u8>> },
+}
+
+impl Finding {
+    /// The verdict that it comes to.
+    pub fn into_verdict(self) -> Verdict
+        ensures { result ≡ verdict_of self }
+    {
+        match self {
+            Finding::Replayed(run) => Verdict::Legal(run),
+            Finding::Unformed { line } => Verdict::No { line, why: 2 },
+            Finding::Parted { line, .. } => Verdict::No { line, why: 3 },
+        }
+    }
+}
+
 /// Reads a text, which stood behind the line `journal`, as the journal of a scenario, and replays
 /// it step by step: nothing that its maker said is trusted. A run's steps may be in any order in
 /// which each port makes its jobs one after the other, and nodes ascend in a tick.
 pub fn audit(alloc: Global, scenario: &Scenario, text: &[u8]) -> Result<Verdict, NoMemory>
     ensures { IfOk result (λ verdict. IsVerdict scenario.now text.now verdict) }
 {
+    let finding = examine(alloc, scenario, text)?;
+    Ok(finding.into_verdict())
+}
+
+/// Does the same, and tells what a legal run has at the line with which no legal journal agrees.
+pub fn examine(alloc: Global, scenario: &Scenario, text: &[u8]) -> Result<Finding, NoMemory>
+    ensures verdict { IfOk result (λ finding. IsVerdict scenario.now text.now
+        (verdict_of finding)) }
+    ensures legal { IfOk result (λ finding. TellsLegal scenario.now text.now finding) }
+{
     laws_of_replay(scenario);
     let mut lines = Reader::of(text);
     match replay(alloc, scenario, &mut lines)? {
-        Some(run) => Ok(Verdict::Legal(run)),
-        None => refusal(alloc, scenario, text, lines.read()),
+        Some(run) => Ok(Finding::Replayed(run)),
+        None => {
+            let read = lines.read();
+            refusal(alloc, scenario, text, read, lines.into_wanted())
+        }
     }
 }
 
 // What is wrong with a text whose first so many lines are those of a legal journal, and not one
-// more.
-fn refusal(alloc: Global, scenario: &Scenario, text: &[u8], read: u64) -> Result<Verdict, NoMemory>
+// more, where such a journal goes on with this line.
+fn refusal(
+    alloc: Global,
+    scenario: &Scenario,
+    text: &[u8],
+    read: u64,
+    legal: Option<Seq<u8>>,
+) -> Result<Finding, NoMemory>
     requires first { IsFirstIllegal scenario.now text.now read }
     requires none { (ticks : List Tick) (end : WorldState)
         → IsJournalOf scenario.now text.now ticks end → ⊥ }
+    requires goes_on { GoesOnWith scenario.now text.now read legal }
     requires room { read < 2 ^ 63 }
-    ensures { IfOk result (λ verdict. IsVerdict scenario.now text.now verdict) }
+    ensures verdict { IfOk result (λ finding. IsVerdict scenario.now text.now
+        (verdict_of finding)) }
+    ensures legal { IfOk result (λ finding. TellsLegal scenario.now text.now finding) }
 {
     let known = known_of(alloc, scenario)?;
     match first_unformed(&known, text) {
-        Some(line) => Ok(Verdict::No { line, why: 2 }),
-        None => Ok(Verdict::No {
+        Some(line) => Ok(Finding::Unformed { line }),
+        None => Ok(Finding::Parted {
             line: read + 1,
-            why: 3,
+            legal,
         }),
     }
 }

@@ -24,10 +24,10 @@ returns-in_default-clause-stuck c =
     let plan = c.args.scenario.now in
     let answers = c.in_ok-events.events.items in
     steps_stuck plan c.laws_of_replay.ensures c.args.t c.args.world.now c.requires.during c.requires.within answers c.in_ok-events.ensures.numbers c.in_ok-events.ensures.answers
-    c.make_events.new.world c.args.lines.now c.read_answers.new.lines c.read_nodes.new.lines.read c.in_ok-events.ensures.after
+    c.make_events.new.world c.args.lines.now c.read_answers.new.lines c.read_nodes.new.lines c.in_ok-events.ensures.after
     (subst (λ (es : List (ℕ × WorldReply)). AreTaken (answer_lines c.args.t es) c.args.lines.now c.read_answers.new.lines) c.as_slice.ensures.value
     (c.in_ok-read_answers.ensures.read c.if-not-branch.false))
-    (of_none (IsStuck (FollowNodes plan c.args.t 1 c.make_events.new.world) c.read_answers.new.lines c.read_nodes.new.lines.read) c.in_ok-steps.field-0 c.in_default.is c.in_ok-steps.ensures.stuck)
+    (of_none (IsStuck (FollowNodes plan c.args.t 1 c.make_events.new.world) c.read_answers.new.lines c.read_nodes.new.lines) c.in_ok-steps.field-0 c.in_default.is c.in_ok-steps.ensures.stuck)
 
 pub returns-clause-read : goal.returns-clause-read
 returns-clause-read c =

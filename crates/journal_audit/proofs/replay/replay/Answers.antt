@@ -4,7 +4,7 @@ use Rattle.srp_base.proofs.Options.{opened as of_some}
 use Rattle.tree_topology.specs.Topology.{Topology}
 use Rattle.topology_file.specs.Plan.{Plan}
 use Rattle.world_core.specs.declared.{journal.NodeSteps.NodeSteps, journal.Tick.Tick}
-use Rattle.world_core.specs.{Cursor.IsCursor, History.HasPortsOf, History.acts_noted}
+use Rattle.world_core.specs.{Start.world_of, Cursor.IsCursor, History.HasPortsOf, History.acts_noted}
 use Rattle.journal_audit.specs.{IsStuck, FollowTicks, IsTickRead, AreTicksRead}
 use Rattle.journal_audit.proofs.{ListLemmas.full, ListLemmas.void, OptionLemmas.of_none, RunLemmas.ticks_more, RunLemmas.ticks_stuck, RunLemmas.end_stuck, RunLemmas.run_read}
 use Rattle.journal_audit.proofs.replay.replay.Goals as goal
@@ -12,8 +12,8 @@ use Rattle.journal_audit.proofs.replay.replay.Goals as goal
 pub returns-in_default-clause-stuck : goal.returns-in_default-clause-stuck
 returns-in_default-clause-stuck c =
     let plan = c.args.scenario.now in
-    ticks_stuck plan c.laws_of_replay.ensures c.loop-t.t c.args.lines.now c.loop-t.lines c.loop-t.ticks.items c.loop-t.world c.loop-t.history c.read_tick.new.lines.read c.loop-t.invariant.0
-    (of_none (IsStuck (FollowTicks plan c.loop-t.t c.loop-t.world) c.loop-t.lines c.read_tick.new.lines.read) c.in_ok-tick.field-0 c.in_default.is c.in_ok-tick.ensures.stuck)
+    ticks_stuck plan c.laws_of_replay.ensures c.loop-t.t c.args.lines.now c.loop-t.lines c.loop-t.ticks.items c.loop-t.world c.loop-t.history c.read_tick.new.lines c.loop-t.invariant.0
+    (of_none (IsStuck (FollowTicks plan c.loop-t.t c.loop-t.world) c.loop-t.lines c.read_tick.new.lines) c.in_ok-tick.field-0 c.in_default.is c.in_ok-tick.ensures.stuck)
 
 pub note_steps-requires-clause-ports : goal.note_steps-requires-clause-ports
 note_steps-requires-clause-ports c =
@@ -58,8 +58,9 @@ returns-then-not-is_at_end-clause-stuck c =
     let upto = c.loop-t.auto.t-end in
     let number : c.loop-t.t ≡ plan.ticks = omega (arith, same, test, upto) in
     let before = subst (λ (k : ℕ). AreTicksRead plan k c.args.lines.now c.loop-t.ticks.items c.loop-t.world c.loop-t.history c.loop-t.lines) number c.loop-t.invariant.0 in
-    end_stuck plan c.laws_of_replay.ensures c.args.lines.now c.loop-t.lines c.loop-t.ticks.items c.loop-t.world c.loop-t.history before
-    (full c.loop-t.lines.rest (sym c.is_at_end.ensures ∙ c.if-not-is_at_end.true))
+    subst (IsStuck (FollowTicks plan 0 (world_of plan)) c.args.lines.now) (sym c.want_nothing.ensures)
+    (end_stuck plan c.laws_of_replay.ensures c.args.lines.now c.loop-t.lines c.loop-t.ticks.items c.loop-t.world c.loop-t.history before
+    (full c.loop-t.lines.rest (sym c.is_at_end.ensures ∙ c.if-not-is_at_end.true)))
 
 pub returns-clause-read : goal.returns-clause-read
 returns-clause-read c =

@@ -3,8 +3,9 @@ use Rattle.std.specs.Prelude.{slice_set}
 use Rattle.srp_base.proofs.Options.{opened as of_some}
 use Rattle.node_core.specs.declared.types.NodeStep.{NodeStep}
 use Rattle.attribute_propagation.specs.Ports.{place_of}
+use Rattle.world_core.proofs.OneByOne.{total, total_less}
 use Rattle.journal_audit.specs.{LeftState, ArePortsLeft, jobs_left, is_any_left, IsStuck, FollowJobs, IsPartRead, IsStepRead}
-use Rattle.journal_audit.proofs.{OptionLemmas.of_none, PartLemmas.part_more, PartLemmas.part_stuck, PartLemmas.part_all, PartLemmas.any_none, TotalLemmas.total, TotalLemmas.total_less}
+use Rattle.journal_audit.proofs.{OptionLemmas.of_none, PartLemmas.part_more, PartLemmas.part_stuck, PartLemmas.part_all, PartLemmas.any_none}
 use Rattle.journal_audit.proofs.steps.read_jobs.Goals as goal
 
 pub loop-alloc-preserved : goal.loop-alloc-preserved
@@ -50,6 +51,6 @@ pub returns-in_default-clause-stuck : goal.returns-in_default-clause-stuck
 returns-in_default-clause-stuck c =
     part_stuck c.args.scenario.now c.laws_of_replay.ensures c.args.t c.args.number.0 (jobs_left c.args.left.now.items) (jobs_left c.loop-alloc.left.items) c.args.world.now c.loop-alloc.world
     c.args.lines.now c.loop-alloc.lines
-    c.loop-alloc.made.items c.read_step.new.lines.read c.loop-alloc.invariant.0
-    (of_none (IsStuck (FollowJobs c.args.scenario.now c.args.t c.args.number.0 (jobs_left c.loop-alloc.left.items) c.loop-alloc.world) c.loop-alloc.lines c.read_step.new.lines.read)
+    c.loop-alloc.made.items c.read_step.new.lines c.loop-alloc.invariant.0
+    (of_none (IsStuck (FollowJobs c.args.scenario.now c.args.t c.args.number.0 (jobs_left c.loop-alloc.left.items) c.loop-alloc.world) c.loop-alloc.lines c.read_step.new.lines)
     c.in_ok-step.field-0 c.in_default.is c.in_ok-step.ensures.stuck)

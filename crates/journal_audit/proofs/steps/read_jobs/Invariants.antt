@@ -1,5 +1,5 @@
+use Rattle.world_core.proofs.OneByOne.{total}
 use Rattle.journal_audit.specs.{ArePortsLeft, jobs_left, IsPartRead}
-use Rattle.journal_audit.proofs.TotalLemmas.{total}
 use Rattle.journal_audit.proofs.steps.read_jobs.Given as goal
 
 -- the jobs so far have been made and read

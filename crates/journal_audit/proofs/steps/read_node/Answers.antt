@@ -29,5 +29,5 @@ returns-clause-read c =
 pub returns-clause-stuck : goal.returns-clause-stuck
 returns-clause-stuck c =
     subst (λ (jobs : List (List PortStep)). IfOk c.read_jobs.result (λ o. IfNone o
-    (IsStuck (FollowJobs c.args.scenario.now c.args.t c.args.number.0 jobs c.args.world.now) c.args.lines.now c.read_jobs.new.lines.read)))
+    (IsStuck (FollowJobs c.args.scenario.now c.args.t c.args.number.0 jobs c.args.world.now) c.args.lines.now c.read_jobs.new.lines)))
     (ap jobs_left c.in_ok-left.ensures.all ∙ jobs_all c.args.scenario.now c.args.t c.args.number c.args.world.now c.node-node.result.now.state c.node-node.ensures) c.read_jobs.ensures.stuck

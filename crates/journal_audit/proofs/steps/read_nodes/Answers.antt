@@ -15,9 +15,9 @@ returns-in_default-clause-stuck c =
     let test = c.loop-x-test.true in
     let same : length c.scenario.inside.tree.kinds ≡ length plan.tree.kinds = ap (λ (p : Plan). length p.tree.kinds) c.scenario.view_is in
     let known : HasNode plan.tree (c.loop-x.x + 1) = (omega arith, omega (arith, count, test, same)) in
-    nodes_stuck plan c.laws_of_replay.ensures c.args.t (c.loop-x.x + 1) c.args.world.now c.loop-x.world c.args.lines.now c.loop-x.lines c.loop-x.steps.items c.read_node.new.lines.read known
+    nodes_stuck plan c.laws_of_replay.ensures c.args.t (c.loop-x.x + 1) c.args.world.now c.loop-x.world c.args.lines.now c.loop-x.lines c.loop-x.steps.items c.read_node.new.lines known
     c.loop-x.invariant
-    (of_none (IsStuck (FollowJobs plan c.args.t (c.loop-x.x + 1) (node_jobs (node (c.loop-x.x + 1)) c.loop-x.world) c.loop-x.world) c.loop-x.lines c.read_node.new.lines.read)
+    (of_none (IsStuck (FollowJobs plan c.args.t (c.loop-x.x + 1) (node_jobs (node (c.loop-x.x + 1)) c.loop-x.world) c.loop-x.world) c.loop-x.lines c.read_node.new.lines)
     c.in_ok-made.field-0 c.in_default.is c.in_ok-made.ensures.stuck)
 
 pub loop-x-preserved : goal.loop-x-preserved
