@@ -1,0 +1,4 @@
+pub mod Lines
+pub mod Text
+unfoldable pub use Lines.*
+unfoldable pub use Text.*
