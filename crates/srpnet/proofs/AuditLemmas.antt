@@ -99,9 +99,6 @@ split_at n xs = sym (take-drop n xs)
     take-drop (suc n) [] = refl
     take-drop (suc n) (x ∷ xs) = ap (λ (l : List ℕ). x ∷ l) (take-drop n xs)
 
-pub compared_begins : (given wanted : List ℕ) → IsCompared given wanted wanted 0 0
-compared_begins given wanted = record { within = omega arith; same = refl; count = refl; few = omega arith }
-
 differ_more : (one other more : List ℕ) → DifferAtOnce one other → other ≢ [] → DifferAtOnce one (other ++ more)
 differ_more [] other more differ some = tt
 differ_more (c ∷ one) [] more differ some = absurd (some refl)
@@ -136,10 +133,6 @@ module _ (given wanted rest : List ℕ) (at lines : ℕ) (so_far : IsCompared gi
       never_both : (xs : List ℕ) → DifferAtOnce xs []
       never_both [] = tt
       never_both (x ∷ xs) = tt
-
-  -- or all is the same
-  pub all_given : rest ≡ [] → length given ≤ at → given ≡ wanted
-  all_given none le = sym (all_same none ∙ take_all at given le)
 
   -- the next piece of what is wanted has so many octets in common with what was given behind
   module _ (piece next : List ℕ) (split : rest ≡ piece ++ next) (n more : ℕ) (in_given : n ≤ length (drop at given)) (in_piece : n ≤ length piece)

@@ -1,13 +1,10 @@
 -- The network at the end of a run: it is the last of the run's moments, and on the tree of its start.
-use Rattle.std.proofs.Common.{◌≡◌, ℕ, suc, List, [], ◌∷◌, ◌++◌, length, refl, sym, ap, ◌∙◌}
+use Rattle.std.proofs.Common.{◌≡◌, ℕ, suc, List, [], ◌∷◌, length, sym, ap, ◌∙◌}
 use Rattle.std.proofs.Math.Seq.{take-length}
 use Rattle.topology_file.specs.Plan.{Plan}
 use Rattle.world_core.specs.declared.{events.WorldEvent.WorldEvent, journal.Tick.Tick}
-use Rattle.world_core.specs.{World.WorldState, World.world_after, World.world_step, Start.world_of, Ticks.LeadTo, Ticks.AreCanonicalTicks, Ticks.IsCanonicalTick, Ticks.tick_events, Moments.IsMoment, Moments.events_from}
-
-after_append : (es fs : List WorldEvent) (w : WorldState) → world_after fs (world_after es w) ≡ world_after (es ++ fs) w
-after_append [] fs w = refl
-after_append (e ∷ es) fs w = after_append es fs (world_step e w).0
+use Rattle.world_core.specs.{World.WorldState, World.world_after, Start.world_of, Ticks.LeadTo, Ticks.AreCanonicalTicks, Ticks.IsCanonicalTick, Ticks.tick_events, Moments.IsMoment, Moments.events_from}
+use Rattle.world_core.proofs.Runs.{after_append}
 
 -- ticks lead to the network after all that happens in them
 ends_after : (IsTick : ℕ → WorldState → Tick → Type 0) (plan : Plan) (t t' : ℕ) (w : WorldState) (ticks : List Tick) (end : WorldState)

@@ -5,7 +5,7 @@ use Rattle.std.specs.Prelude.{Result, IfErr}
 use Rattle.srp_base.specs.Results.{◌>>=◌}
 use Rattle.toml.specs.Data.{Members}
 use Rattle.toml_rules.specs.declared.{rules.RuleErr.RuleErr, rules.RuleErr.TheVariants.Rule, rules.RuleErr.TheVariants.NoMemory as no_memory}
-use Rattle.srpnet.specs.{Command, Ledger, Check, Explain, ExplainLedger, Run, RunJournal, RunBounds, Ports, PortsJournal, Margins, Audit, AuditLong, Groups, Decode, Capture, Generate, Help, Version, Cause, Done, BadWords, ReadFault, TooLong, NotToml, BadScenario, WriteFault, AuditNo, NoMemory, audit_parts, IsAudited, IsAuditedBy, IsAuditedOf, IsEndingOf, reads_input, document, or_not_toml, starts_threads, by_rules, ending, input_of, ledger_file, EndsAs, EndsBy, LacksOutput, scenario_input}
+use Rattle.srpnet.specs.{Command, Ledger, Check, Explain, ExplainLedger, ExplainAudit, Run, RunJournal, RunBounds, Ports, PortsJournal, Margins, Delays, Audit, AuditLong, Groups, Decode, Capture, Generate, GeneratePlan, Help, Version, Cause, Done, BadWords, ReadFault, TooLong, NotToml, BadScenario, WriteFault, AuditNo, NoMemory, audit_parts, IsAudited, IsAuditedBy, IsAuditedOf, IsEndingOf, reads_input, document, or_not_toml, starts_threads, by_rules, ending, input_of, ledger_file, EndsAs, EndsBy, LacksOutput, scenario_input}
 use Rattle.srpnet.specs.AuditParts.{AuditParts}
 use Rattle.topology_file.specs.{Plan.Plan, Scenario.scenario_of}
 use Rattle.group_file.specs.Scenario.{group_scenario_of}
@@ -61,18 +61,21 @@ command_judges Ledger octets cause is = judged_as cause _ (document_judged ledge
 command_judges Check octets cause is = judged_as cause _ (document_judged scenario_of (document octets)) is
 command_judges Explain octets cause is = judged_as cause Done tt is
 command_judges ExplainLedger octets cause is = judged_as cause Done tt is
+command_judges ExplainAudit octets cause is = judged_as cause Done tt is
 command_judges Run octets cause is = judged_as cause _ (document_judged scenario_of (document octets)) is
 command_judges RunJournal octets cause is = judged_as cause _ (document_judged scenario_of (document octets)) is
 command_judges RunBounds octets cause is = judged_as cause _ (document_judged scenario_of (document octets)) is
 command_judges Ports octets cause is = judged_as cause _ (document_judged scenario_of (document octets)) is
 command_judges PortsJournal octets cause is = judged_as cause _ (document_judged scenario_of (document octets)) is
 command_judges Margins octets cause is = judged_as cause _ (document_judged scenario_of (document octets)) is
+command_judges Delays octets cause is = judged_as cause _ (document_judged scenario_of (document octets)) is
 command_judges Audit octets cause is = audit_judged (audit_parts octets) cause is
 command_judges AuditLong octets cause is = audit_judged (audit_parts octets) cause is
 command_judges Groups octets cause is = judged_as cause _ (document_judged group_scenario_of (document octets)) is
 command_judges (Decode form) octets cause is = judged_as cause Done tt is
 command_judges Capture octets cause is = judged_as cause Done tt is
 command_judges (Generate number) octets cause is = judged_as cause Done tt is
+command_judges (GeneratePlan number) octets cause is = judged_as cause Done tt is
 command_judges Help octets cause is = judged_as cause Done tt is
 command_judges Version octets cause is = judged_as cause Done tt is
 
@@ -82,11 +85,6 @@ pub judged_err : {X : Type 0} (IsRight : Cause → Type 0) (answer : Result X Ca
 judged_err IsRight (Ok x) judged ends = tt
 judged_err IsRight (Err cause) judged (inl is) = judged cause is
 judged_err IsRight (Err cause) judged (inr is) = subst IsJudged (sym is) tt
-
--- an answer that ends as one cause ends by it
-pub ends_by : {X : Type 0} (cause : Cause) (answer : Result X Cause) → EndsAs cause answer → EndsBy (λ c. c ≡ cause) answer
-ends_by cause (Ok x) is = sym is
-ends_by cause (Err other) is = is
 
 cause_lacks : (cause : Cause) → IsJudged cause → (cause ≡ Done → ⊥) → LacksOutput cause
 cause_lacks Done judged not_done = not_done refl
@@ -115,17 +113,20 @@ threads_read Ledger threads = refl
 threads_read Check threads = refl
 threads_read Explain threads = refl
 threads_read ExplainLedger threads = refl
+threads_read ExplainAudit threads = refl
 threads_read Run threads = refl
 threads_read RunJournal threads = refl
 threads_read RunBounds threads = refl
 threads_read Ports threads = refl
 threads_read PortsJournal threads = refl
 threads_read Margins threads = refl
+threads_read Delays threads = refl
 threads_read Audit threads = refl
 threads_read AuditLong threads = refl
 threads_read Groups threads = refl
 threads_read (Decode form) threads = refl
 threads_read Capture threads = refl
 threads_read (Generate number) threads = threads
+threads_read (GeneratePlan number) threads = threads
 threads_read Help threads = threads
 threads_read Version threads = threads

@@ -8,8 +8,10 @@ pub mod Carried
 pub mod Reported
 pub mod LineLemmas
 pub mod AuditLemmas
+pub mod AccountLemmas
 pub mod Inputs
 pub mod RunLemmas
+pub mod DelayLemmas
 pub mod EndingLemmas
 pub mod WhyLemmas
 pub mod PartingLemmas

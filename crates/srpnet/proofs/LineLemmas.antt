@@ -8,24 +8,13 @@ use Rattle.std.proofs.lemmas.Bool.{false_from_ne_true as no_test}
 use Rattle.srp_base.proofs.Bools.{one-test as both_or_neither}
 use Rattle.srp_base.specs.Text.{whole_of}
 use Rattle.journal_audit.specs.Texts.{lines_of, with_octet}
+use Rattle.journal_audit.proofs.TextLemmas.{lines_join}
 use Rattle.srpnet.specs.{DifferAtOnce, line_feeds, IsFirstDifferent, is_line, parted_from, parted_at, PartedText, as_text}
-
-whole_with : (c : ℕ) (ls : List (List ℕ)) → whole_of (with_octet c ls) ≡ c ∷ whole_of ls
-whole_with c [] = refl
-whole_with c (l ∷ ls) = refl
-
--- the lines of a text, one after the other, are the text
-pub whole_lines : (text : List ℕ) → whole_of (lines_of text) ≡ text
-whole_lines [] = refl
-whole_lines (c ∷ text) = elim (cases_Bool (eqb c 10)) [
-  | inl is ↦ rw is (ap (λ (t : List ℕ). 10 ∷ t) (whole_lines text) ∙ ap (λ (d : ℕ). d ∷ text) (sym (eqb-true c 10 is)))
-  | inr differs ↦ rw differs (whole_with c (lines_of text) ∙ ap (λ (t : List ℕ). c ∷ t) (whole_lines text))
-]
 
 -- a text is its first line, and then the rest
 pub first_and_rest : (text line rest : List ℕ) → lines_of text ≡ line ∷ lines_of rest → text ≡ line ++ rest
 first_and_rest text line rest split =
-    sym (whole_lines text) ∙ ap whole_of split ∙ ap (λ (t : List ℕ). line ++ t) (whole_lines rest)
+    sym (lines_join text) ∙ ap whole_of split ∙ ap (λ (t : List ℕ). line ++ t) (lines_join rest)
 
 whole_push : (ls : List (List ℕ)) (l : List ℕ) → whole_of (ls ++ l ∷ []) ≡ whole_of ls ++ l
 whole_push [] l = append-nil l
@@ -45,9 +34,6 @@ pub record IsSearch (word text rest : List ℕ) (lines : ℕ) : Type 0 where
   pub few : lines + length rest ≤ length text
 
 module _ (word text : List ℕ) where
-  pub search_begins : IsSearch word text text 0
-  search_begins = record { done = []; whole = refl; count = refl; search = refl; few = omega arith }
-
   module _ (rest line behind : List ℕ) (lines : ℕ) (so_far : IsSearch word text rest lines) (split : lines_of rest ≡ line ∷ lines_of behind) where
     pub search_goes_on : rest ≡ line ++ behind → length behind < length rest → is_line word line ≡ false → IsSearch word text behind (lines + 1)
     search_goes_on whole less not_it =
@@ -79,14 +65,11 @@ module _ (word text : List ℕ) where
         let found : parted_from word so_far.done (line ∷ lines_of behind) ≡ Some (so_far.done, lines_of behind) = rw it refl in
         ap as_text (so_far.search ∙ ap (parted_from word so_far.done) split ∙ found)
         ∙ some_parts (whole_of so_far.done) (take (length text - length rest) text) (length so_far.done) lines (whole_of (lines_of behind)) behind
-        (sym front_is) (sym so_far.count) (whole_lines behind)
+        (sym front_is) (sym so_far.count) (lines_join behind)
       where
         some_parts : (a a' : List ℕ) (n n' : ℕ) (b b' : List ℕ) → a ≡ a' → n ≡ n' → b ≡ b'
             → ◌≡◌ {A = Option PartedText} (Some (record { before = a; lines = n; behind = b })) (Some (record { before = a'; lines = n'; behind = b' }))
         some_parts a a' n n' b b' p q r = rw (p, q, r) refl
-
-  pub search_finds_none : (rest : List ℕ) (lines : ℕ) → IsSearch word text rest lines → rest ≡ [] → parted_at word text ≡ None
-  search_finds_none rest lines so_far is = ap as_text (so_far.search ∙ ap (λ (t : List ℕ). parted_from word so_far.done (lines_of t)) is)
 
 -- ---- the first line that differs
 

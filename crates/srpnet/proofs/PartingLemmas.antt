@@ -5,9 +5,9 @@ use Rattle.std.specs.List.{AllByRecursion}
 use Rattle.std.proofs.lemmas.Bool.{cases_Bool}
 use Rattle.srp_base.specs.Text.{whole_of}
 use Rattle.journal_audit.specs.Texts.{lines_of, with_octet}
+use Rattle.journal_audit.proofs.TextLemmas.{lines_join}
 use Rattle.srpnet.specs.{is_line, parted_from, as_text, parted_at, PartedText, with_scenario, by_cut, audit_parts, EndsItsLines, LacksLine, put_together, LacksPart}
 use Rattle.srpnet.specs.AuditParts.{AuditParts}
-use Rattle.srpnet.proofs.LineLemmas.{whole_lines}
 
 -- ---- lines of texts one behind the other
 
@@ -55,7 +55,7 @@ pub parted_behind : (word text line rest : List ℕ) → lines_of (line ++ rest)
 parted_behind word text line rest one is ends lacks =
     let lines : lines_of (text ++ (line ++ rest)) ≡ lines_of text ++ line ∷ lines_of rest = lines_append text (line ++ rest) ends ∙ ap (λ (ls : List (List ℕ)). lines_of text ++ ls) one in
     ap as_text (ap (parted_from word []) lines ∙ found_behind word [] (lines_of text) line (lines_of rest) lacks is)
-    ∙ both (whole_of (lines_of text)) text (whole_of (lines_of rest)) rest (whole_lines text) (whole_lines rest)
+    ∙ both (whole_of (lines_of text)) text (whole_of (lines_of rest)) rest (lines_join text) (lines_join rest)
   where
     both : (a a' b b' : List ℕ) → a ≡ a' → b ≡ b'
         → ◌≡◌ {A = Option PartedText} (Some (record { before = a; lines = length (lines_of text); behind = b })) (Some (record { before = a'; lines = length (lines_of text); behind = b' }))
@@ -65,11 +65,12 @@ parted_behind word text line rest one is ends lacks =
 
 pub parted_again : (scenario report journal : List ℕ) → EndsItsLines scenario → EndsItsLines report → LacksLine (codes "=== output") scenario → LacksLine (codes "journal") report
     → ◌≡◌ {A = Option AuditParts} (audit_parts (put_together scenario report journal))
-    (Some (record { scenario = scenario; report = report; marked = length (lines_of report) + 1; journal = journal }))
+    (Some (record { scenario = scenario; cut = length (lines_of scenario) + 1; report = report; marked = length (lines_of report) + 1; journal = journal }))
 parted_again scenario report journal scenario_ends report_ends no_cut no_mark =
     let behind : List ℕ = report ++ (codes "journal\n" ++ journal) in
+    let cut : PartedText = record { before = scenario; lines = length (lines_of scenario); behind = behind } in
     ap by_cut (parted_behind (codes "=== output") scenario (codes "=== output\n") behind refl refl scenario_ends no_cut)
-    ∙ ap (with_scenario scenario) (parted_behind (codes "journal") report (codes "journal\n") journal refl refl report_ends no_mark)
+    ∙ ap (with_scenario cut) (parted_behind (codes "journal") report (codes "journal\n") journal refl refl report_ends no_mark)
 
 -- ---- a text without the line
 
@@ -104,15 +105,15 @@ lacks_line word text none = from_none word [] (lines_of text) (as_none (parted_f
 pub no_parts : (octets : List ℕ) → (audit_parts octets ≡ None ↔ LacksPart octets)
 no_parts octets = (out (parted_at (codes "=== output") octets) refl, back)
   where
-    no_mark : (scenario : List ℕ) (o : Option PartedText) → with_scenario scenario o ≡ None → o ≡ None
-    no_mark scenario None none = refl
-    no_mark scenario (Some parts) none = cc
+    no_mark : (cut : PartedText) (o : Option PartedText) → with_scenario cut o ≡ None → o ≡ None
+    no_mark cut None none = refl
+    no_mark cut (Some parts) none = cc
 
     out : (o : Option PartedText) → parted_at (codes "=== output") octets ≡ o → by_cut o ≡ None → LacksPart octets
     out None is none = inl (lacks_line (codes "=== output") octets is)
     out (Some cut) is none =
-        inr (record { cut = cut; is = is; none = lacks_line (codes "journal") cut.behind (no_mark cut.before (parted_at (codes "journal") cut.behind) none) })
+        inr (record { cut = cut; is = is; none = lacks_line (codes "journal") cut.behind (no_mark cut (parted_at (codes "journal") cut.behind) none) })
 
     back : LacksPart octets → audit_parts octets ≡ None
     back (inl lacks) = ap by_cut (line_lacks (codes "=== output") octets lacks)
-    back (inr lacks) = ap by_cut lacks.is ∙ ap (with_scenario lacks.cut.before) (line_lacks (codes "journal") lacks.cut.behind lacks.none)
+    back (inr lacks) = ap by_cut lacks.is ∙ ap (with_scenario lacks.cut) (line_lacks (codes "journal") lacks.cut.behind lacks.none)

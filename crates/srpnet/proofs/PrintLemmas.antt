@@ -1,5 +1,5 @@
 -- A text that goes out piece by piece.
-use Rattle.std.proofs.Common.{◌≡◌, ℕ, ◌+◌, ◌-◌, ◌<◌, ◌≤◌, List, [], ◌++◌, length, take, drop, length-append, sym, ap, subst, ◌∙◌, Option, arith}
+use Rattle.std.proofs.Common.{◌≡◌, ℕ, ◌+◌, ◌-◌, ◌<◌, ◌≤◌, List, ◌++◌, length, take, drop, length-append, sym, ap, subst, ◌∙◌, Option, arith}
 use Rattle.std.proofs.lemmas.List.{take-append-le, length-drop, drop-drop}
 use Rattle.std.proofs.Math.Seq.{take-add, take-length, drop-append_seam}
 use Rattle.std.specs.Io.KnownBytes.{Appends}
@@ -15,21 +15,6 @@ pub record IsOut (before now : Option (List ℕ)) (text rest : List ℕ) (writte
 module _ (a b : Option (List ℕ)) (text rest : List ℕ) (written : ℕ) (so_far : IsOut a b text rest written) where
   left_count : length rest ≡ length text - written
   left_count = ap length so_far.rest_is ∙ length-drop written text
-
-  -- at its end the whole text has gone out
-  pub all_out : rest ≡ [] → Appends a b text
-  all_out none =
-      let nothing : length rest ≡ 0 = ap length none in
-      let count = left_count in
-      let within = so_far.within in
-      let all : written ≡ length text = omega (arith, nothing, count, within) in
-      subst (Appends a b) (ap (λ (n : ℕ). take n text) all ∙ take-length text) so_far.appended
-
-  -- before it a front has
-  pub part_out : 0 < length rest → PartOf a b text
-  part_out some =
-      let count = left_count in
-      record { written = written; appended = so_far.appended; short = omega (arith, some, count) }
 
   -- a front of the next piece goes out
   module _ (c : Option (List ℕ)) (piece next : List ℕ) (split : rest ≡ piece ++ next) where

@@ -24,7 +24,7 @@ printed_approved keeps blocks Lead legal scenario text ticks ends no_cut output 
     let report = report_text plan r.world ticks r.flows in
     let journal = journal_text plan ticks in
     let block = blocks plan r.world ticks r.flows (scenario_keeps keeps scenario plan output.read) in
-    let parts : AuditParts = record { scenario = scenario; report = report; marked = length (lines_of report) + 1; journal = journal } in
+    let parts : AuditParts = record { scenario = scenario; cut = length (lines_of scenario) + 1; report = report; marked = length (lines_of report) + 1; journal = journal } in
     let run : IsRun AreLegalTicks plan ticks r.world r.changes r.flows =
     record { lead = legal plan ticks r.world r.run.lead; in_force = r.run.in_force; flow = r.run.flow } in
     let whole : text ≡ report ++ (codes "journal\n" ++ journal) = r.printed ∙ ap (λ (l : List ℕ). report ++ l) (journal_printed plan ticks) in

@@ -21,7 +21,7 @@ use Rattle.srpnet.specs.{IsApproved, HoldsThroughout, IsRun}
 
 -- ---- one flow
 
-ticks_from : (plan : Plan) (ticks : List Tick) (t : ℕ) (w end : WorldState) → LeadTo (IsLegalTick plan) plan t w ticks plan.ticks end → t + length ticks ≡ plan.ticks
+pub ticks_from : (plan : Plan) (ticks : List Tick) (t : ℕ) (w end : WorldState) → LeadTo (IsLegalTick plan) plan t w ticks plan.ticks end → t + length ticks ≡ plan.ticks
 ticks_from plan [] t w end h = let is = h.0 in omega (arith, is)
 ticks_from plan (tick ∷ ticks) t w end h = let rest = ticks_from plan ticks (suc t) (world_after (tick_events plan t tick) w) end h.1 in omega (arith, rest)
 

@@ -1,6 +1,6 @@
 -- The parts of what is audited: a scenario, the line `=== output`, and what was printed of a run of
 -- it, with its journal.
-use Rattle.std.specs.Prelude.{◌≡◌, ◌⊎◌, ℕ, ◌+◌, nat_eq, ◌||◌, if◌then◌else◌, Bool, false, List, [], ◌∷◌, ◌++◌, codes, length, Option, Some, None}
+use Rattle.std.specs.Prelude.{◌≡◌, ◌⊎◌, ℕ, ◌+◌, nat_eq, ◌||◌, if◌then◌else◌, Bool, false, List, [], ◌∷◌, ◌++◌, codes, length, Option, Some, None, option_map}
 use Rattle.std.specs.{List.AllByRecursion, Cmp.Lexicographic.pointwise}
 use Rattle.srp_base.specs.Text.{whole_of}
 use Rattle.journal_audit.specs.Texts.{lines_of}
@@ -30,28 +30,33 @@ as_text (Some parts) = Some (record { before = whole_of parts.0; lines = length 
 abbrev pub parted_at : List ℕ → List ℕ → Option PartedText
 parted_at word text = as_text (parted_from word [] (lines_of text))
 
--- What is audited: a scenario, and a report and a journal of a run of it. Behind the cut the line
--- `journal` has this number, counted from 1.
+-- What is audited: a scenario, and a report and a journal of a run of it. In the input the cut has
+-- this number, counted from 1, and behind it the line `journal` has this.
 pub record AuditParts : Type 0 where
   pub scenario : List ℕ
+  pub cut : ℕ
   pub report : List ℕ
   pub marked : ℕ
   pub journal : List ℕ
 
 -- the parts of what stands behind the cut, by the first line `journal` in it
-abbrev pub with_scenario : List ℕ → Option PartedText → Option AuditParts
-with_scenario scenario None = None
-with_scenario scenario (Some parts) =
-    Some (record { scenario = scenario; report = parts.before; marked = parts.lines + 1; journal = parts.behind })
+abbrev pub with_scenario : PartedText → Option PartedText → Option AuditParts
+with_scenario cut None = None
+with_scenario cut (Some parts) =
+    Some (record { scenario = cut.before; cut = cut.lines + 1; report = parts.before; marked = parts.lines + 1; journal = parts.behind })
 
 -- the parts by the cut, the first line `=== output`
 abbrev pub by_cut : Option PartedText → Option AuditParts
 by_cut None = None
-by_cut (Some parts) = with_scenario parts.before (parted_at (codes "journal") parts.behind)
+by_cut (Some parts) = with_scenario parts (parted_at (codes "journal") parts.behind)
 
 -- the parts of the octets of an input
 abbrev pub audit_parts : List ℕ → Option AuditParts
 audit_parts octets = by_cut (parted_at (codes "=== output") octets)
+
+-- what stands behind the cut, if there is one
+abbrev pub behind_cut : List ℕ → Option (List ℕ)
+behind_cut octets = option_map (λ p. p.behind) (parted_at (codes "=== output") octets)
 
 -- ---- what is put together of parts
 

@@ -5,8 +5,8 @@ use Rattle.world_core.specs.declared.journal.Tick.{Tick}
 use Rattle.world_core.specs.Ticks.{AreCanonicalTicks, AreLegalTicks}
 use Rattle.pdu_words.specs.{Captured.captured_text, Decoded.decoded_text}
 use Rattle.srpnet.specs.declared.{words.Command.Command, outcome.Cause.Cause, outcome.Cause.TheVariants.Done}
-use Rattle.srpnet.specs.declared.words.Command.TheVariants.{Ledger, Check, Explain, ExplainLedger, Run, RunJournal, RunBounds, Ports, PortsJournal, Margins, Audit, AuditLong, Groups, Decode, Capture, Generate, Help, Version}
-use Rattle.srpnet.specs.{Input.ending, ScenarioInput.scenario_input, AuditText.AuditOutput, AuditText.IsAuditEnding, CheckText.CheckOutput, ExplainText.explanation, ExplainText.table_in, GeneratedText.GeneratedOutput, GroupsText.GroupsOutput, GroupsText.group_input, LedgerInput.ledger_input, LedgerText.LedgerOutput, MarginsText.margins_alone, Pages.help_page, Pages.version_page, RunText.RunOutput, RunText.report_alone, RunText.report_and_journal, RunText.report_and_bounds}
+use Rattle.srpnet.specs.declared.words.Command.TheVariants.{Ledger, Check, Explain, ExplainLedger, ExplainAudit, Run, RunJournal, RunBounds, Ports, PortsJournal, Margins, Audit, AuditLong, Groups, Decode, Capture, Generate, GeneratePlan, Help, Version, Delays}
+use Rattle.srpnet.specs.{Account.IsAuditExplained, Input.ending, ScenarioInput.scenario_input, AuditText.AuditOutput, AuditText.IsAuditEnding, CheckText.CheckOutput, ExplainText.explanation, ExplainText.table_in, GeneratedText.GeneratedOutput, GeneratedText.IsGeneratedPlan, GroupsText.GroupsOutput, GroupsText.group_input, LedgerInput.ledger_input, LedgerText.LedgerOutput, MarginsText.margins_alone, Pages.help_page, Pages.version_page, RunText.RunOutput, RunText.report_alone, RunText.report_and_journal, RunText.report_and_bounds, DelaysText.DelaysOutput}
 
 -- whether it reads an input; the pages read none, and neither does what makes its scenario of a
 -- number
@@ -15,24 +15,29 @@ reads_input Ledger = true
 reads_input Check = true
 reads_input Explain = true
 reads_input ExplainLedger = true
+reads_input ExplainAudit = true
 reads_input Run = true
 reads_input RunJournal = true
 reads_input RunBounds = true
 reads_input Ports = true
 reads_input PortsJournal = true
 reads_input Margins = true
+reads_input Delays = true
 reads_input Audit = true
 reads_input AuditLong = true
 reads_input Groups = true
 reads_input (Decode form) = true
 reads_input Capture = true
 reads_input (Generate number) = false
+reads_input (GeneratePlan number) = false
 reads_input Help = false
 reads_input Version = false
 
--- the most octets of its input: 1 MiB, and 64 MiB where the journal of a large network is audited
+-- the most octets of its input: 1 MiB, and 64 MiB where the journal of a large network is audited or
+-- its audit explained
 abbrev pub most_octets : Command → ℕ
 most_octets AuditLong = 67108864
+most_octets ExplainAudit = 67108864
 most_octets _ = 1048576
 
 -- whether it runs a network, so that there is a journal
@@ -41,18 +46,21 @@ runs Ledger = false
 runs Check = false
 runs Explain = false
 runs ExplainLedger = false
+runs ExplainAudit = false
 runs Run = true
 runs RunJournal = true
 runs RunBounds = true
 runs Ports = true
 runs PortsJournal = true
 runs Margins = true
+runs Delays = true
 runs Audit = false
 runs AuditLong = false
 runs Groups = false
 runs (Decode form) = false
 runs Capture = false
 runs (Generate number) = true
+runs (GeneratePlan number) = false
 runs Help = false
 runs Version = false
 
@@ -66,18 +74,21 @@ Output Ledger octets ticks text = LedgerOutput octets text
 Output Check octets ticks text = CheckOutput octets text
 Output Explain octets ticks text = text ≡ explanation (ending (scenario_input octets)) (table_in octets)
 Output ExplainLedger octets ticks text = text ≡ explanation (ending (ledger_input octets)) (table_in octets)
+Output ExplainAudit octets ticks text = IsAuditExplained octets text
 Output Run octets ticks text = RunOutput AreCanonicalTicks report_alone octets ticks text
 Output RunJournal octets ticks text = RunOutput AreCanonicalTicks report_and_journal octets ticks text
 Output RunBounds octets ticks text = RunOutput AreCanonicalTicks report_and_bounds octets ticks text
 Output Ports octets ticks text = RunOutput AreLegalTicks report_alone octets ticks text
 Output PortsJournal octets ticks text = RunOutput AreLegalTicks report_and_journal octets ticks text
 Output Margins octets ticks text = RunOutput AreCanonicalTicks margins_alone octets ticks text
+Output Delays octets ticks text = DelaysOutput octets ticks text
 Output Audit octets ticks text = AuditOutput octets text
 Output AuditLong octets ticks text = AuditOutput octets text
 Output Groups octets ticks text = GroupsOutput octets text
 Output (Decode form) octets ticks text = text ≡ decoded_text form octets
 Output Capture octets ticks text = text ≡ captured_text octets
 Output (Generate number) octets ticks text = GeneratedOutput number ticks text
+Output (GeneratePlan number) octets ticks text = IsGeneratedPlan number text
 Output Help octets ticks text = text ≡ help_page
 Output Version octets ticks text = text ≡ version_page
 
@@ -87,17 +98,20 @@ IsEndingOf Ledger octets cause = cause ≡ ending (ledger_input octets)
 IsEndingOf Check octets cause = cause ≡ ending (scenario_input octets)
 IsEndingOf Explain octets cause = cause ≡ Done
 IsEndingOf ExplainLedger octets cause = cause ≡ Done
+IsEndingOf ExplainAudit octets cause = cause ≡ Done
 IsEndingOf Run octets cause = cause ≡ ending (scenario_input octets)
 IsEndingOf RunJournal octets cause = cause ≡ ending (scenario_input octets)
 IsEndingOf RunBounds octets cause = cause ≡ ending (scenario_input octets)
 IsEndingOf Ports octets cause = cause ≡ ending (scenario_input octets)
 IsEndingOf PortsJournal octets cause = cause ≡ ending (scenario_input octets)
 IsEndingOf Margins octets cause = cause ≡ ending (scenario_input octets)
+IsEndingOf Delays octets cause = cause ≡ ending (scenario_input octets)
 IsEndingOf Audit octets cause = IsAuditEnding octets cause
 IsEndingOf AuditLong octets cause = IsAuditEnding octets cause
 IsEndingOf Groups octets cause = cause ≡ ending (group_input octets)
 IsEndingOf (Decode form) octets cause = cause ≡ Done
 IsEndingOf Capture octets cause = cause ≡ Done
 IsEndingOf (Generate number) octets cause = cause ≡ Done
+IsEndingOf (GeneratePlan number) octets cause = cause ≡ Done
 IsEndingOf Help octets cause = cause ≡ Done
 IsEndingOf Version octets cause = cause ≡ Done

@@ -1,3 +1,4 @@
+pub mod Account
 pub mod AuditParts
 pub mod AuditText
 pub mod CheckText
@@ -15,6 +16,7 @@ pub mod LedgerRun
 pub mod LedgerText
 pub mod LedgerWant
 pub mod Made
+pub mod DelaysText
 pub mod MarginsText
 pub mod Outcomes
 pub mod Pages
@@ -23,6 +25,7 @@ pub mod ScenarioInput
 pub mod TopCall
 pub mod Words
 pub mod BoundsText
+pub use Account.*
 pub use AuditParts.*
 pub use AuditText.*
 pub use CheckText.*
@@ -40,6 +43,7 @@ pub use LedgerRun.*
 pub use LedgerText.*
 pub use LedgerWant.*
 pub use Made.*
+pub use DelaysText.*
 pub use MarginsText.*
 pub use Outcomes.*
 pub use Pages.*
@@ -52,4 +56,4 @@ pub use Rattle.srpnet.specs.declared.commands.CommandOutput.{CommandOutput}
 pub use Rattle.srpnet.specs.declared.outcome.Cause.{Cause}
 pub use Rattle.srpnet.specs.declared.outcome.Cause.TheVariants.{AuditNo, BadScenario, BadWords, Done, NoMemory, NotToml, ReadFault, TooLong, WriteFault}
 pub use Rattle.srpnet.specs.declared.words.Command.{Command}
-pub use Rattle.srpnet.specs.declared.words.Command.TheVariants.{Audit, AuditLong, Capture, Check, Decode, Explain, ExplainLedger, Generate, Groups, Help, Ledger, Margins, Ports, PortsJournal, Run, RunBounds, RunJournal, Version}
+pub use Rattle.srpnet.specs.declared.words.Command.TheVariants.{Audit, AuditLong, Capture, Check, Decode, Explain, ExplainAudit, ExplainLedger, Generate, GeneratePlan, Groups, Help, Ledger, Margins, Ports, PortsJournal, Run, RunBounds, RunJournal, Version, Delays}

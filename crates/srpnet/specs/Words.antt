@@ -5,7 +5,7 @@ use Rattle.mrpdu_codec.specs.declared.form.AppForm.{AppForm}
 use Rattle.mrpdu_codec.specs.declared.form.AppForm.TheVariants.{Mvrp, Msrp, Mmrp}
 use Rattle.report_words.specs.Number.{number_of_word}
 use Rattle.srpnet.specs.declared.words.Command.{Command}
-use Rattle.srpnet.specs.declared.words.Command.TheVariants.{Ledger, Check, Explain, ExplainLedger, Run, RunJournal, RunBounds, Ports, PortsJournal, Margins, Audit, AuditLong, Groups, Decode, Capture, Generate, Help, Version}
+use Rattle.srpnet.specs.declared.words.Command.TheVariants.{Ledger, Check, Explain, ExplainLedger, ExplainAudit, Run, RunJournal, RunBounds, Ports, PortsJournal, Margins, Audit, AuditLong, Groups, Decode, Capture, Generate, GeneratePlan, Help, Version, Delays}
 
 -- the rows of one word
 abbrev pub command_of_word : List ℕ → Option Command
@@ -16,6 +16,7 @@ command_of_word word =
     else if pointwise nat_eq word (codes "run") then Some Run
     else if pointwise nat_eq word (codes "ports") then Some Ports
     else if pointwise nat_eq word (codes "margins") then Some Margins
+    else if pointwise nat_eq word (codes "delays") then Some Delays
     else if pointwise nat_eq word (codes "audit") then Some Audit
     else if pointwise nat_eq word (codes "groups") then Some Groups
     else if pointwise nat_eq word (codes "capture") then Some Capture
@@ -39,6 +40,10 @@ decoding_of_word word = option_map Decode (form_of_word word)
 abbrev pub generation_of_word : List ℕ → Option Command
 generation_of_word word = option_map Generate (number_of_word word)
 
+-- the printing of one as a file, by its number
+abbrev pub generated_plan_of_word : List ℕ → Option Command
+generated_plan_of_word word = option_map GeneratePlan (number_of_word word)
+
 -- the rows of two words
 abbrev pub command_of_pair : List ℕ → List ℕ → Option Command
 command_of_pair first second =
@@ -50,16 +55,26 @@ command_of_pair first second =
     then Some PortsJournal
     else if pointwise nat_eq first (codes "explain") && pointwise nat_eq second (codes "ledger")
     then Some ExplainLedger
+    else if pointwise nat_eq first (codes "explain") && pointwise nat_eq second (codes "audit")
+    then Some ExplainAudit
     else if pointwise nat_eq first (codes "audit") && pointwise nat_eq second (codes "long")
     then Some AuditLong
     else if pointwise nat_eq first (codes "decode") then decoding_of_word second
     else if pointwise nat_eq first (codes "gen") then generation_of_word second
     else None
 
+-- the rows of three words
+abbrev pub command_of_triple : List ℕ → List ℕ → List ℕ → Option Command
+command_of_triple first second third =
+    if pointwise nat_eq first (codes "gen") && pointwise nat_eq third (codes "plan")
+    then generated_plan_of_word second
+    else None
+
 -- the command of some words, where they match a row
 abbrev pub command_of : List (List ℕ) → Option Command
 command_of (word ∷ []) = command_of_word word
 command_of (first ∷ second ∷ []) = command_of_pair first second
+command_of (first ∷ second ∷ third ∷ []) = command_of_triple first second third
 command_of _ = None
 
 -- whether a command starts threads, a thread for each port that has something to do
@@ -68,18 +83,21 @@ starts_threads Ledger = false
 starts_threads Check = false
 starts_threads Explain = false
 starts_threads ExplainLedger = false
+starts_threads ExplainAudit = false
 starts_threads Run = false
 starts_threads RunJournal = false
 starts_threads RunBounds = false
 starts_threads Ports = true
 starts_threads PortsJournal = true
 starts_threads Margins = false
+starts_threads Delays = false
 starts_threads Audit = false
 starts_threads AuditLong = false
 starts_threads Groups = false
 starts_threads (Decode form) = false
 starts_threads Capture = false
 starts_threads (Generate number) = false
+starts_threads (GeneratePlan number) = false
 starts_threads Help = false
 starts_threads Version = false
 

@@ -9,7 +9,8 @@ use crate::outcome::{Cause, no_journal};
 use crate::pages::{HELP, VERSION};
 use crate::words::Command;
 use crate::{
-    audit, bounds, check, decode, explain, generator, groups, ledger, margins, pages, ports, run,
+    audit, bounds, check, decode, delays, explain, generator, groups, ledger, margins, pages,
+    ports, run,
 };
 use srp_base::Seq;
 use srp_report::Printout;
@@ -47,18 +48,22 @@ pub fn reads_input(command: Command) -> bool
         | Command::Check
         | Command::Explain
         | Command::ExplainLedger
+        | Command::ExplainAudit
         | Command::Run
         | Command::RunJournal
         | Command::RunBounds
         | Command::Ports
         | Command::PortsJournal
         | Command::Margins
+        | Command::Delays
         | Command::Audit
         | Command::AuditLong
         | Command::Groups
         | Command::Decode(_)
         | Command::Capture => true,
-        Command::Generate(_) | Command::Help | Command::Version => false,
+        Command::Generate(_) | Command::GeneratePlan(_) | Command::Help | Command::Version => {
+            false
+        }
     }
 }
 
@@ -68,7 +73,7 @@ pub fn most_octets(command: Command) -> usize
     ensures few { result < 2 ^ 32 }
 {
     match command {
-        Command::AuditLong => 67_108_864,
+        Command::AuditLong | Command::ExplainAudit => 67_108_864,
         _ => 1_048_576,
     }
 }
@@ -88,17 +93,22 @@ pub fn output(alloc: Global, command: Command, octets: &[u8]) -> Result<CommandO
         Command::Check => Ok(text_alone(alloc, check::output(alloc, octets)?)),
         Command::Explain => Ok(text_alone(alloc, explain::output(alloc, octets)?)),
         Command::ExplainLedger => Ok(text_alone(alloc, explain::ledger_output(alloc, octets)?)),
+        Command::ExplainAudit => Ok(text_alone(alloc, audit::explain::output(alloc, octets)?)),
         Command::Run => run::output(alloc, octets),
         Command::RunJournal => run::output_with_journal(alloc, octets),
         Command::RunBounds => bounds::output(alloc, octets),
         Command::Ports | Command::PortsJournal => unreachable!(),
         Command::Margins => margins::output(alloc, octets),
+        Command::Delays => delays::output(alloc, octets),
         Command::Audit => Ok(text_alone(alloc, audit::output(alloc, octets)?)),
         Command::AuditLong => Ok(text_alone(alloc, audit::output(alloc, octets)?)),
         Command::Groups => Ok(text_alone(alloc, groups::output(alloc, octets)?)),
         Command::Decode(form) => Ok(text_alone(alloc, decode::output(alloc, form, octets)?)),
         Command::Capture => Ok(text_alone(alloc, decode::captured(alloc, octets)?)),
         Command::Generate(number) => generator::output(alloc, number),
+        Command::GeneratePlan(number) => {
+            Ok(text_alone(alloc, generator::plan_output(alloc, number)?))
+        }
         Command::Help => Ok(text_alone(alloc, pages::output(alloc, HELP)?)),
         Command::Version => Ok(text_alone(alloc, pages::output(alloc, VERSION)?)),
     }

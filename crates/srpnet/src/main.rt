@@ -11,10 +11,10 @@
 //! |- ports   the same with a thread for each port that has something to do
 //! |- bounds  the same as run, with how long class B waits at each port: limits, text
 //! |- margins what each port has left at the end of a run
-//! |- audit   whether a journal and a report are those of a legal run: parts, where two texts differ
+//! |- audit   whether a journal and a report are those of a legal run: parts, where two texts differ, what is found, and what is said of it
 //! |- groups  a network that runs MMRP through the ticks of a group scenario: input, text
 //! |- decode  what captured PDUs say, in a text or in a capture file
-//! |- generator  the scenario of a number, its run in short
+//! |- generator  the scenario of a number, its run in short, or the scenario as a file
 //! '- pages   --help and --version
 //! scenario   the input of the commands that read a scenario
 //! document   octets to a TOML table
@@ -36,6 +36,7 @@ mod bounds;
 mod check;
 mod commands;
 mod decode;
+mod delays;
 mod document;
 mod explain;
 mod generator;

@@ -39,6 +39,9 @@ srpnet: the Stream Reservation Protocol (IEEE Std 802.1Q-2018) over a file
   srpnet margins    reads and runs a scenario file too, and prints what is left
                     at each port, by how much each refused stream misses, and
                     the shapers of the classes as tc-cbs(8) takes them
+  srpnet delays     reads and runs a scenario file too, and prints how long
+                    frames of each stream wait at each port, and take to each
+                    Listener, at most, and how long those of the file took
   srpnet audit      reads a scenario file on standard input, a line that is
                     === output, and what run journal or ports journal printed
                     of it, and says whether a legal run prints just that; else
@@ -46,6 +49,10 @@ srpnet: the Stream Reservation Protocol (IEEE Std 802.1Q-2018) over a file
   srpnet audit long
                     does the same of an input of up to 64 MiB, where the others
                     have up to 1 MiB: for the journal of a large network
+  srpnet explain audit
+                    reads what audit reads, up to 64 MiB, and says in words
+                    at which line the answer is no and why, what stands there,
+                    and what a legal run has there
   srpnet groups     reads a file of groups on standard input, a network whose
                     stations join and part from groups by their addresses,
                     runs MMRP through its ticks, and prints which groups are
@@ -61,6 +68,8 @@ srpnet: the Stream Reservation Protocol (IEEE Std 802.1Q-2018) over a file
                     MSRP and MMRP in it says
   srpnet gen N      makes the scenario of the number N, 0 to 4294967295, runs
                     it, and prints the run in short; reads no input
+  srpnet gen N plan prints that scenario as a file, so that its run can be
+                    audited
   srpnet --help     this page
   srpnet --version  the version
 

@@ -1,7 +1,7 @@
 //! The words of the command line.
 
 ghost use Rattle.std.specs.Prelude.{◌≡◌, true, Some, None, IfSome};
-ghost use Rattle.srpnet.specs.Words.{command_of as command_of_spec, plain_command_of as plain_command_of_spec, plain_of, starts_threads as starts_threads_spec, IsPlain, command_of_pair, command_of_word, form_of_word, decoding_of_word, generation_of_word};
+ghost use Rattle.srpnet.specs.Words.{command_of as command_of_spec, plain_command_of as plain_command_of_spec, plain_of, starts_threads as starts_threads_spec, IsPlain, command_of_pair, command_of_triple, command_of_word, form_of_word, decoding_of_word, generated_plan_of_word, generation_of_word};
 
 use mrpdu_codec::AppForm;
 use report_words::number_of_word;
@@ -19,6 +19,9 @@ pub enum Command {
     Explain,
     /// `explain ledger`: does the same of a ledger file.
     ExplainLedger,
+    /// `explain audit`: reads what `audit` reads and prints where the answer is no, why, and what
+    /// would be right there.
+    ExplainAudit,
     /// `run`: reads a scenario, runs the network through its ticks and prints the report.
     Run,
     /// `run journal`: does the same, and prints what happened behind the report.
@@ -30,6 +33,9 @@ pub enum Command {
     Ports,
     /// `ports journal`: does the same, and prints what happened behind the report.
     PortsJournal,
+    /// `delays`: reads a scenario, runs it, and prints how long frames of its streams wait and take at
+    /// most.
+    Delays,
     /// `margins`: reads a scenario, runs it, and prints what each port has left at its end.
     Margins,
     /// `audit`: reads a scenario and what was printed of a run of it with its journal, and prints
@@ -48,6 +54,8 @@ pub enum Command {
     Capture,
     /// `gen N`: makes the scenario of a number, runs it and prints the summary of its run.
     Generate(u32),
+    /// `gen N plan`: makes the scenario of a number and prints it as a file.
+    GeneratePlan(u32),
     /// `--help`: prints a page of help.
     Help,
     /// `--version`: prints the version.
@@ -61,6 +69,9 @@ pub fn command_of(words: &Seq<Seq<u8>>) -> Option<Command>
     match words.as_slice() {
         [word] => command_of_word(word.as_slice()),
         [first, second] => command_of_pair(first.as_slice(), second.as_slice()),
+        [first, second, third] => {
+            command_of_triple(first.as_slice(), second.as_slice(), third.as_slice())
+        }
         _ => None,
     }
 }
@@ -124,6 +135,8 @@ fn command_of_word(word: &[u8]) -> Option<Command>
         Some(Command::Ports)
     } else if word == b"margins".as_slice() {
         Some(Command::Margins)
+    } else if word == b"delays".as_slice() {
+        Some(Command::Delays)
     } else if word == b"audit".as_slice() {
         Some(Command::Audit)
     } else if word == b"groups".as_slice() {
@@ -150,6 +163,8 @@ fn command_of_pair(first: &[u8], second: &[u8]) -> Option<Command>
         Some(Command::PortsJournal)
     } else if first == b"explain".as_slice() && second == b"ledger".as_slice() {
         Some(Command::ExplainLedger)
+    } else if first == b"explain".as_slice() && second == b"audit".as_slice() {
+        Some(Command::ExplainAudit)
     } else if first == b"audit".as_slice() && second == b"long".as_slice() {
         Some(Command::AuditLong)
     } else if first == b"decode".as_slice() {
@@ -191,6 +206,26 @@ fn generation_of_word(word: &[u8]) -> Option<Command>
 {
     match number_of_word(word) {
         Some(number) => Some(Command::Generate(number)),
+        None => None,
+    }
+}
+
+fn command_of_triple(first: &[u8], second: &[u8], third: &[u8]) -> Option<Command>
+    ensures { result ≡ command_of_triple first.now second.now third.now }
+{
+    if first == b"gen".as_slice() && third == b"plan".as_slice() {
+        generated_plan_of_word(second)
+    } else {
+        None
+    }
+}
+
+// The scenario that is to be printed as a file, by its number.
+fn generated_plan_of_word(word: &[u8]) -> Option<Command>
+    ensures { result ≡ generated_plan_of_word word.now }
+{
+    match number_of_word(word) {
+        Some(number) => Some(Command::GeneratePlan(number)),
         None => None,
     }
 }

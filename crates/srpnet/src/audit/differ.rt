@@ -1,6 +1,6 @@
 //! The first line in which two texts differ.
 
-ghost use Rattle.std.specs.Prelude.{◌≡◌, ◌==◌, ◌≤◌, if◌then◌else◌, length, take, drop};
+ghost use Rattle.std.specs.Prelude.{◌≡◌, ◌==◌, ◌<◌, ◌≤◌, ◌^◌, if◌then◌else◌, length, take, drop};
 ghost use Rattle.std.specs.Prelude.{None, IfOk, IfSome};
 ghost use Rattle.srpnet.specs.Differ.{DifferAtOnce, IsFirstDifferent, line_feeds};
 
@@ -12,7 +12,7 @@ use srp_report::Printout;
 pub fn differing_line(given: &[u8], wanted: Printout) -> Result<Option<u64>, NoMemory>
     ensures some { IfOk result (λ o. IfSome o (IsFirstDifferent given.now wanted)) }
     ensures none { IfOk result (λ o. o ≡ None → given.now ≡ wanted) }
-    ensures few { IfOk result (λ o. IfSome o (λ count. count ≤ length given.now)) }
+    ensures few { IfOk result (λ o. IfSome o (λ count. count < 2 ^ 63)) }
 {
     let mut rest = wanted;
     let mut at = 0;

@@ -78,6 +78,7 @@ pub fn what_is_put_together_is_parted()
         → audit_parts (put_together scenario report journal)
         ≡ Some (record {
           scenario = scenario;
+          cut = length (lines_of scenario) + 1;
           report = report;
           marked = length (lines_of report) + 1;
           journal = journal;

@@ -2,7 +2,8 @@
 //! `ports journal` printed of it, its report up to the line `journal`.
 
 ghost use Rattle.std.specs.Prelude.{◌≡◌, ◌<◌, ◌≤◌, ◌+◌, ◌^◌, length, Some, None, IfSome, IfNone};
-ghost use Rattle.srpnet.specs.AuditParts.{is_line, parted_at, audit_parts as audit_parts_spec};
+ghost use Rattle.srpnet.specs.AuditParts.{is_line, parted_at, audit_parts as audit_parts_spec, behind_cut as behind_cut_spec};
+ghost use Rattle.std.specs.Option.{option_copied};
 
 use journal_audit::{before, first_line};
 use std::marker::Model;
@@ -13,11 +14,12 @@ const CUT: &[u8] = b"=== output";
 /// The line between the report and the journal.
 const MARK: &[u8] = b"journal";
 
-/// What is audited: a scenario, and a report and a journal of a run of it. Behind the cut the line
-/// `journal` has a number, counted from 1.
+/// What is audited: a scenario, and a report and a journal of a run of it. In the input the cut has
+/// a number, counted from 1, and behind it the line `journal` has one.
 #[derive(Drop)]
 pub struct AuditParts<'a> {
     scenario: &'a [u8],
+    cut: u64,
     report: &'a [u8],
     marked: u64,
     journal: &'a [u8],
@@ -31,12 +33,13 @@ impl<'a> Model for AuditParts<'a> {
 
     ghost view = { λ p. record {
       scenario = p.scenario.now;
+      cut = p.cut;
       report = p.report.now;
       marked = p.marked;
       journal = p.journal.now;
     } };
 
-    ghost invariant = { λ p. p.marked + length p.journal.now < 2 ^ 63 };
+    ghost invariant = { λ p. p.cut + (p.marked + length p.journal.now) < 2 ^ 63 };
 }
 
 impl<'a> AuditParts<'a> {
@@ -45,6 +48,14 @@ impl<'a> AuditParts<'a> {
         ensures { result.now ≡ self.now.scenario }
     {
         self.scenario
+    }
+
+    /// The number of the cut in the input.
+    pub fn cut(&self) -> u64
+        ensures number { result ≡ self.now.cut }
+        ensures few { result + (self.now.marked + length self.now.journal) < 2 ^ 63 }
+    {
+        self.cut
     }
 
     /// The report, up to the line `journal`.
@@ -79,10 +90,21 @@ pub fn audit_parts(octets: &[u8]) -> Option<AuditParts<'_>>
     let end = parted_at(cut.behind, MARK)?;
     Some(AuditParts {
         scenario: cut.before,
+        cut: cut.lines + 1,
         report: end.before,
         marked: end.lines + 1,
         journal: end.behind,
     })
+}
+
+/// What stands behind the cut of an input, if it has one.
+pub fn behind_cut(octets: &[u8]) -> Option<&[u8]>
+    ensures { option_copied result ≡ behind_cut_spec octets.now }
+{
+    match parted_at(octets, CUT) {
+        Some(cut) => Some(cut.behind),
+        None => None,
+    }
 }
 
 // A text that is parted at a line.

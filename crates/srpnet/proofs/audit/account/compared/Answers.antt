@@ -1,12 +1,12 @@
-use Rattle.std.proofs.Common.{◌≡◌, ℕ, List, refl, subst, inl, inr, arith}
+use Rattle.std.proofs.Common.{◌≡◌, ℕ, List, refl, subst, inr, arith}
 use Rattle.std.specs.Prelude.{IfSome}
 use Rattle.srp_report.specs.Report.{report_text}
 use Rattle.srpnet.specs.{IsRunOf, IsFirstDifferent}
 use Rattle.srpnet.proofs.AuditLemmas.{other_report}
-use Rattle.srpnet.proofs.audit.compared.Goals as goal
+use Rattle.srpnet.proofs.audit.account.compared.Goals as goal
 
-pub returns-clause-ends : goal.returns-clause-ends
-returns-clause-ends c =
+pub differing-requires-clause-differs : goal.differing-requires-clause-differs
+differing-requires-clause-differs c =
     let plan = c.args.scenario.now in
     let run = c.args.run in
     let flows = c.in_ok-ran.ran.flow.ports in
@@ -27,8 +27,7 @@ returns-clause-ends c =
       holds = c.in_ok-ran.ensures.holds;
     }
     in
-    let rules = c.keeps_rules.ensures in
-    inl (
+    let rules = c.keeps_rules.ensures in (
       inr (record {
         ticks = run.journal.ticks;
         world = run.world;
