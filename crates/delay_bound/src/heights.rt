@@ -19,9 +19,10 @@ pub enum NoPeak {
 /// bits × 10^12, with which what they bring in over each whole span of ps is at most the height and
 /// what the slope takes away. It is there where their first slopes together are at most the slope.
 ///
-/// It stands at span 0 or at a crossing of two bounds of a group, at the whole span before it or
-/// behind it: so a walk over these finds it, in a few steps for each group and each of its
-/// crossings.
+/// It is 0 where they bring in no more than the slope takes away at any span. Else it is what they
+/// bring in over it at span 0, or next to a crossing of two bounds of a group: the last whole span
+/// up to the crossing, which is the crossing itself where that is whole, or the first beyond it. So
+/// a walk over these finds it, in a few steps for each group and each of its crossings.
 pub fn peak(groups: &[Group], slope: u64) -> Result<u128, NoPeak>
     ensures peak { IfOk result (λ height. IsPeak groups.now slope height) }
     ensures there { IsOk result
