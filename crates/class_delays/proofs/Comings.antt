@@ -1,5 +1,5 @@
 -- What comes to a port are the streams that are fed there.
-use Rattle.std.proofs.Common.{◌≡◌, ℕ, zero, suc, ◌+◌, ◌<◌, ◌≤◌, inl, inr, Bool, true, false, List, [], ◌∷◌, ◌++◌, length, get_or, take, map, Some, None, refl, sym, ◌∙◌, ap, subst, arith, append-nil}
+use Rattle.std.proofs.Common.{◌≡◌, ℕ, ◌+◌, ◌<◌, ◌≤◌, inl, inr, Bool, true, false, List, [], ◌∷◌, ◌++◌, length, get_or, take, map, Some, None, sym, ◌∙◌, ap, subst, append-nil}
 use Rattle.std.specs.Prelude.{All, Contains, filter}
 use Rattle.std.proofs.lemmas.{Bool.cond-true, Bool.cond-false, Bool.cases_Bool, Bool.false≢true, List.map-append, List.take_all, List.Elements.All-contains, List.Elements.All-contains_itself, List.Elements.All-filter, List.Elements.All-push, List.Elements.filter_more, List.Elements.filter_passes}
 use Rattle.srp_base.proofs.Lists.{map-map}
@@ -9,7 +9,7 @@ use Rattle.frame_flow.specs.{Force.is_port}
 use Rattle.frame_flow.proofs.LevelLemmas.{same-port}
 use Rattle.delay_bound.specs.declared.stream.ClassStream.{ClassStream}
 use Rattle.delay_flow.specs.{Places.is_booked, Ways.is_fed, Rules.IsBefore}
-use Rattle.delay_flow.proofs.Sums.{contains-filter, contains-map}
+use Rattle.delay_flow.proofs.Sums.{contains-filter, contains-map, contains-unmap}
 use Rattle.delay_flow.proofs.WayLemmas.{fed-first, fed-on, fed-back, booked-fed, aside-fed}
 use Rattle.class_delays.specs.declared.{coming.Coming.Coming, delays.FedStream.FedStream, delays.PortDelays.PortDelays}
 use Rattle.class_delays.specs.{ClassSetting, IsClassSetting, delays_at, is_same, stream_in, fed_streams, fed_by, IsComing, IsCome, AreComing, IsEntry, IsReckoned, AreReckoned}
@@ -17,13 +17,6 @@ use Rattle.class_delays.proofs.Finds.{found, some-found, same-stream, same-itsel
 use Rattle.class_delays.proofs.Entries.{at-port}
 
 -- ---- lists
-
-pub contains-unmap : {X Y : Type 0} (f : X → Y) (xs : List X) (y : Y) → Contains (map f xs) y → (x : X) × Contains xs x × (f x ≡ y)
-contains-unmap f [] y (k, below, same) = absurd (omega (arith, below))
-contains-unmap f (x ∷ xs) y (zero, below, same) = (x, (zero, omega arith, refl), same)
-contains-unmap f (x ∷ xs) y (suc k, below, same) =
-    let rest = contains-unmap f xs y (k, omega (arith, below), same) in
-    (rest.0, (suc rest.1.0, omega (arith, rest.1.1), rest.1.2), rest.2)
 
 pub filter-has : {X : Type 0} (p : X → Bool) (xs : List X) (x : X) → Contains (filter p xs) x → (p x ≡ true) × Contains xs x
 filter-has {X} p xs x has = (

@@ -8,3 +8,4 @@ pub mod Lines
 pub mod Waits
 pub mod WayLemmas
 pub mod SteadyLemmas
+pub mod Booked

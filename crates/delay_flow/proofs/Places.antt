@@ -195,7 +195,7 @@ frame-node s given f has =
     let N : Frame → Type 0 = λ g. HasNode s.tree g.from.0 in
     All-contains N s.frames f (All-weaker (IsFrame s.tree s.ticks) N (λ g h. h.from) s.frames given.range.frames) has
 
-from-before : (s : Setting) (flows : List PortFlow) (rate : EgressPort → Rate) → Network s flows rate → (p : EgressPort) (c : FrameCopy) (moment : ℕ)
+pub from-before : (s : Setting) (flows : List PortFlow) (rate : EgressPort → Rate) → Network s flows rate → (p : EgressPort) (c : FrameCopy) (moment : ℕ)
     → Contains s.frames c.frame → c.bit ≡ bit_from (rate p) moment → (over : ComesOver s flows p c.frame moment) → FromBefore s flows rate p c over.via
 from-before s flows rate net p c moment has bit over =
     let links = s.tree.links in

@@ -50,7 +50,7 @@ pub record Premises (s : Setting) (flows : List PortFlow) (traffic : Traffic) (s
 
 -- ---- of each stream's copies
 
-all-from : {X : Type 0} (P : X → Type 0) (xs : List X) → ((x : X) → Contains xs x → P x) → All P xs
+pub all-from : {X : Type 0} (P : X → Type 0) (xs : List X) → ((x : X) → Contains xs x → P x) → All P xs
 all-from P xs each k d below = each (get_or xs k d) (Contains-get_or xs k d below)
 
 abbrev pub OfCopies : (traffic : Traffic) → (ClassStream → FrameCopy → Type 0) → List ClassStream → List FrameCopy → Type 0

@@ -22,6 +22,13 @@ pub contains-map : {X Y : Type 0} (f : X → Y) (xs : List X) (x : X) → Contai
 contains-map f xs x (k, below, same) =
     (k, omega (arith, below, length-map xs f), get_or-map f xs k x (f x) below ∙ ap f same)
 
+pub contains-unmap : {X Y : Type 0} (f : X → Y) (xs : List X) (y : Y) → Contains (map f xs) y → (x : X) × Contains xs x × (f x ≡ y)
+contains-unmap f [] y (k, below, same) = absurd (omega (arith, below))
+contains-unmap f (x ∷ xs) y (zero, below, same) = (x, (zero, omega arith, refl), same)
+contains-unmap f (x ∷ xs) y (suc k, below, same) =
+    let rest = contains-unmap f xs y (k, omega (arith, below), same) in
+    (rest.0, (suc rest.1.0, omega (arith, rest.1.1), rest.1.2), rest.2)
+
 -- ---- sums
 
 pub sum-filter_cons : {F : Type 0} (g : F → ℕ) (p : F → Bool) (x : F) (xs : List F) → sum_by g (filter p (x ∷ xs)) ≡ cond (p x) (g x) 0 + sum_by g (filter p xs)

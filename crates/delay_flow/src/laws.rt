@@ -2,19 +2,19 @@
 //! does nothing; calling it brings the law to a proof.
 
 ghost use Rattle.std.specs.Prelude.{◌≡◌, ℕ, ◌*◌, ◌<◌, ◌≤◌, true, Some, List, map, filter, All, Contains};
-ghost use Rattle.srp_base.specs.declared.numbers.EgressPort.{EgressPort};
+ghost use Rattle.srp_base.specs.declared.{numbers.EgressPort.EgressPort, bandwidth.Rate.Rate};
 ghost use Rattle.credit_shaper.specs.declared.{shaper.Traffic.Traffic, port.Arrival.Arrival, port.PortInput.PortInput};
 ghost use Rattle.class_service.specs.Class.{IsClass};
 ghost use Rattle.tree_topology.specs.{Topology.HasNode, Topology.HasPort, Topology.IsSound, Ports.peer_of};
 ghost use Rattle.frame_flow.specs.declared.result.PortFlow.{PortFlow};
-ghost use Rattle.frame_flow.specs.{Flow.Setting, Flow.IsFlow, Given.IsSetting};
+ghost use Rattle.frame_flow.specs.{Copies.all_places, Flow.Setting, Flow.IsFlow, Given.IsSetting};
 ghost use Rattle.delay_bound.specs.declared.stream.SentFrame.{SentFrame};
 ghost use Rattle.delay_bound.specs.{Bounds.second, Waits.within_of, Windows.IsBoundBy};
 ghost use Rattle.delay_bound.specs.declared.stream.ClassStream.{ClassStream};
 ghost use Rattle.delay_flow.specs.Streams.{AreStreams, is_in_class, is_frame_of};
 ghost use Rattle.delay_flow.specs.Places.{is_booked, IsSteady, ChangesNothing};
 ghost use Rattle.delay_flow.specs.Rules.{Numbers, IsBefore, KeepRules};
-ghost use Rattle.delay_flow.specs.Delays.{HoldsAt};
+ghost use Rattle.delay_flow.specs.Delays.{HoldsAt, AreBookedAt};
 ghost use Rattle.delay_flow.specs.Ways.{way_to, hop_of, is_fed, IsFedByWay, ConformInOrder};
 
 use class_service::laws::{
@@ -72,6 +72,21 @@ pub fn what_is_booked_all_the_way_is_fed()
         → is_fed s p x ≡ true }
 {
     ports();
+}
+
+/// In a steady run no frame of a stream is unbooked where the stream is fed: each of its copies may
+/// be sent there but for its VID. So `each_frame_goes_in_time` speaks of all of them whose VID is
+/// registered at the port as they arrive.
+pub fn no_frame_is_unbooked_where_its_stream_is_fed()
+    ensures { (s : Setting) (flows : List PortFlow) (rate : EgressPort → Rate) (traffic : Traffic)
+        (tick : ℕ) (p : EgressPort) (x : ClassStream)
+        → IsSetting s → IsSound s.tree → IsFlow s flows
+        → All (λ y. y.rate ≡ rate y.at) (all_places s.tree.links s.rates)
+        → IsSteady s traffic tick → HasPort s.tree p → HasNode s.tree x.talker.0
+        → is_fed s p x ≡ true → AreBookedAt s flows rate traffic p x }
+{
+    ports();
+    frames_depart_in_order();
 }
 
 /// A stream's frames that conform by pairs, in order of moment, keep its burst and its slope in

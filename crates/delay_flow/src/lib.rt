@@ -18,7 +18,9 @@
 //! - `specs/Rules.antt`: `Numbers`, what is reckoned for each port and stream, and `KeepRules`, the
 //!   rules of each port by those that send into its node. The rules ask for no order of reckoning.
 //! - `specs/Delays.antt`: `HoldsAt`, what holds of a class at a port.
-//! - `laws`: `each_frame_goes_in_time`, all that by the rules.
+//! - `laws`: `each_frame_goes_in_time`, all that by the rules, of each copy that may be sent; and
+//!   `no_frame_is_unbooked_where_its_stream_is_fed`, by which that is each of a fed stream's copies
+//!   whose VID is registered.
 //!
 //! The proof goes from port to port against the way of the frames (`along` of frame_flow). At a
 //! port each stream's frames keep its burst and slope with what they may have moved
