@@ -1,5 +1,5 @@
 -- Where there are no numbers there is a cause.
-use Rattle.std.proofs.Common.{◌≡◌, ℕ, zero, ◌+◌, ◌^◌, ◌<◌, ◌≤◌, ◌⊎◌, inl, inr, false, List, [], ◌∷◌, map, Some, None, refl, sym, ◌∙◌, ap, subst, arith}
+use Rattle.std.proofs.Common.{◌≡◌, ℕ, zero, ◌+◌, ◌^◌, ◌<◌, ◌≤◌, ◌⊎◌, inl, inr, true, false, List, [], ◌∷◌, map, Some, None, refl, sym, ◌∙◌, ap, subst, arith}
 use Rattle.std.specs.Prelude.{Contains}
 use Rattle.std.proofs.lemmas.{Bool.cond-true, Bool.cond-false, Bool.cases_Bool, List.Elements.All-contains, List.Sums.sum_by-cons}
 use Rattle.srp_base.specs.declared.{numbers.EgressPort.EgressPort}
@@ -30,7 +30,7 @@ below-rules a given laws ports all p before q port less =
 
 pub late-fault : (a : ClassSetting) → IsClassSetting a → HasPortLaws a.setting.tree → (ports : List PortDelays) → AreReckoned a ports → (p : EgressPort) → HasPort a.setting.tree p
     → AreBefore a ports p → IsTooLate a p (numbers_of a ports) → IsUnbounded a (Large p)
-late-fault a given laws ports all p port before late = (port, numbers_of a ports, below-rules a given laws ports all p before, inl late)
+late-fault a given laws ports all p port before late = (port, ports, (below-rules a given laws ports all p before, inl late))
 
 -- ---- with what comes to the port
 
@@ -71,17 +71,39 @@ entry-of a laws ports p port peak cs are =
     let e = with_entry a p peak cs in
     entry-goes a laws ports (e ∷ ports) e (goes-first a ports e) (record { port = port; rate = refl; coming = cs; are = are; fed = refl })
 
+-- one that comes is fed
+come-fed : (a : ClassSetting) (ports : List PortDelays) (p : EgressPort) (cs : List Coming) → AreComing a ports p cs → (c : Coming) → Contains cs c
+    → (x : ClassStream) × Contains a.streams x × (is_fed a.setting p x ≡ true)
+come-fed a ports p cs are c has =
+    let listed = subst (λ (xs : List ClassStream). Contains xs c.stream) are.streams (contains-map (λ (d : Coming). d.stream) cs c has) in
+    let fed = filter-has (is_fed a.setting p) a.streams c.stream listed in
+    (c.stream, fed.1, fed.0)
+
+some-fed : (a : ClassSetting) (ports : List PortDelays) (p : EgressPort) (cs : List Coming) → AreComing a ports p cs → (cs ≡ [] → ⊥)
+    → (x : ClassStream) × Contains a.streams x × (is_fed a.setting p x ≡ true)
+some-fed a ports p [] are some = absurd (some refl)
+some-fed a ports p (c ∷ cs) are some = come-fed a ports p (c ∷ cs) are c (zero, omega arith, refl)
+
 pub bases-fault : (a : ClassSetting) → IsClassSetting a → HasPortLaws a.setting.tree → (ports : List PortDelays) → AreReckoned a ports → (p : EgressPort) → HasPort a.setting.tree p
-    → AreBefore a ports p → (cs : List Coming) → AreComing a ports p cs → 2 ^ 126 ≤ bases_of (groups_of a p cs) → IsUnbounded a (Large p)
-bases-fault a given laws ports all p port before cs are large =
+    → AreBefore a ports p → (cs : List Coming) → AreComing a ports p cs → (cs ≡ [] → ⊥) → 2 ^ 126 ≤ bases_of (groups_of a p cs) → IsUnbounded a (Large p)
+bases-fault a given laws ports all p port before cs are some large =
     let e = with_entry a p 0 cs in
     let more = e ∷ ports in
     let is = entry-of a laws ports p port 0 cs are in
-    let at = look-first ports e in (
+    let at = look-first ports e in
+    let fed = some-fed a ports p cs are some in (
       port,
-      numbers_of a more,
-      below-more a given laws ports all e before,
-      inr (inl (late-here a laws more e is at, subst (λ (gs : List Group). 2 ^ 126 ≤ bases_of gs) (sym (groups-same a laws more e is at)) large)),
+      more,
+      (
+        below-more a given laws ports all e before,
+        inr (inl (
+          late-here a laws more e is at,
+          subst (λ (gs : List Group). 2 ^ 126 ≤ bases_of gs) (sym (groups-same a laws more e is at)) large,
+          fed.0,
+          fed.1,
+          fed.2,
+        )),
+      ),
     )
 
 pub spent-fault : (a : ClassSetting) → IsClassSetting a → HasPortLaws a.setting.tree → (ports : List PortDelays) → AreReckoned a ports → (p : EgressPort) → HasPort a.setting.tree p
@@ -102,9 +124,11 @@ spent-fault a given laws ports all p port before peak cs are has_peak c has larg
     ∙ ap (λ (b : ℕ). (fed_by a p peak (to b k.come.stream)).spent) one
     ∙ ap (λ (y : ClassStream). (fed_by a p peak (to c.before y)).spent) k.same in (
       port,
-      numbers_of a more,
-      below-more a given laws ports all e before,
-      inr (inr (rules-here a given laws more e (record { entry = is; peak = has_peak }) at, c.stream, fed.1, fed.0, subst (λ (v : ℕ). 2 ^ 128 ≤ v) (sym same) large)),
+      more,
+      (
+        below-more a given laws ports all e before,
+        inr (inr (rules-here a given laws more e (record { entry = is; peak = has_peak }) at, c.stream, fed.1, fed.0, subst (λ (v : ℕ). 2 ^ 128 ≤ v) (sym same) large)),
+      ),
     )
 
 -- the groups' first slopes are the same by all numbers
@@ -139,17 +163,16 @@ steep-fault a given laws ports p port (c ∷ cs) are some cause =
     sum_by-cons f (own_group m a.streams p) (map (group_by s m a.streams p) rs) in
     let head : f (own_group n a.streams p) ≡ f (own_group m a.streams p) = refl in
     let same : first_slopes (groups_of a p all) ≡ first_slopes (groups_at s m a.streams p) = omega (arith, whole, one, other, head, slopes-same a more [] p rs) in
-    let listed = subst (λ (xs : List ClassStream). Contains xs c.stream) are.streams (contains-map (λ (d : Coming). d.stream) all c (zero, omega arith, refl)) in
-    let fed = filter-has (is_fed s p) a.streams c.stream listed in (
+    let fed = some-fed a ports p all are some in (
       port,
       (
         elim cause [
           | inl none ↦ inl none
           | inr less ↦ inr (omega (arith, less, same))
         ],
-        c.stream,
-        fed.1,
         fed.0,
+        fed.1,
+        fed.2,
       ),
     )
 
@@ -167,7 +190,7 @@ pub peak-fault : (a : ClassSetting) → IsClassSetting a → HasPortLaws a.setti
 peak-fault a given laws ports all p port before cs are (Steep q) h =
     subst (λ (t : EgressPort). IsUnbounded a (Steep t)) (sym h.0) (steep-fault a given laws ports p port cs are h.1 h.2)
 peak-fault a given laws ports all p port before cs are (Large q) h =
-    subst (λ (t : EgressPort). IsUnbounded a (Large t)) (sym h.0) (bases-fault a given laws ports all p port before cs are h.1)
+    subst (λ (t : EgressPort). IsUnbounded a (Large t)) (sym h.0) (bases-fault a given laws ports all p port before cs are h.1 h.2)
 peak-fault a given laws ports all p port before cs are NoMemory h = tt
 
 pub fed-fault : (a : ClassSetting) → IsClassSetting a → HasPortLaws a.setting.tree → (ports : List PortDelays) → AreReckoned a ports → (p : EgressPort) → HasPort a.setting.tree p

@@ -8,3 +8,4 @@ pub mod Handing
 pub mod Rules
 pub mod Faults
 pub mod Sums
+pub mod Fixed

@@ -6,10 +6,11 @@ ghost use Rattle.frame_flow.specs.Copies.{all_places};
 ghost use Rattle.frame_flow.specs.Given.{IsSetting};
 ghost use Rattle.delay_flow.specs.Rules.{KeepRules};
 ghost use Rattle.class_delays.specs.declared.delays.Unbounded.TheVariants as causes;
-ghost use Rattle.class_delays.specs.Causes.{IsUnbounded};
+ghost use Rattle.class_delays.specs.Causes.{IsUnbounded, HasBounds};
 ghost use Rattle.class_delays.specs.Given.{class_traffic, without_frames};
 ghost use Rattle.class_delays.specs.Table.{numbers_of, place_of, ListsFed};
 
+use crate::laws::a_class_with_bounds_has_no_cause;
 use crate::setting::DelaySetting;
 use delay_bound::ClassStream;
 use srp_base::{Class, EgressPort, NoMemory, Rate, Seq, Timeline};
@@ -48,7 +49,8 @@ pub struct PortDelays {
 pub enum Unbounded {
     /// At this port the slope of the class is none, or less than those of its streams together.
     Steep(EgressPort),
-    /// At this port a number is too large.
+    /// At this port a number is larger than its type holds, by those of the ports that send into its
+    /// node: a stream's lateness or its time up to there, or the bases of what comes together.
     Large(EgressPort),
     /// Memory ran out.
     NoMemory,
@@ -81,6 +83,9 @@ impl<T: Drop> From<AllocFailed<T>> for Unbounded {
 /// The numbers of a class over a tree, by what is in force at its ports at the end of so many ticks
 /// of 10 ms: for each port, link by link, the streams that are fed there, and how long their frames
 /// wait there and take up to there at most.
+///
+/// The answer is numbers where the class has bounds: where at each port its slope is above 0 and at
+/// least those of the streams that are fed there, and no number is larger than its type holds.
 ///
 /// There is one rate for each link. The timeline's changes ascend by port and tick, and at each port
 /// both slopes together are below the rate. There are 1 to 12,000 ticks. The streams' Talkers are
@@ -116,7 +121,14 @@ pub fn class_delays(
       class = class;
       streams = streams.now;
     }) e) }
+    ensures bounds { IfErr result (λ e. HasBounds (record {
+      setting = without_frames tree.now rates.now timeline.now.changes ticks;
+      class = class;
+      streams = streams.now;
+    }) → e ≡ causes.NoMemory) }
 {
+    tree.keeps();
+    a_class_with_bounds_has_no_cause();
     let setting = DelaySetting {
         tree,
         rates,

@@ -1,7 +1,7 @@
 //! What the numbers of a class say of a flow. Each is a function that does nothing; calling it
 //! brings the law to a proof.
 
-ghost use Rattle.std.specs.Prelude.{◌≡◌, ℕ, true, List, map, Contains};
+ghost use Rattle.std.specs.Prelude.{◌≡◌, ℕ, true, List, map, All, Contains};
 ghost use Rattle.srp_base.specs.declared.numbers.EgressPort.{EgressPort};
 ghost use Rattle.tree_topology.specs.Topology.{HasNode, HasPort, IsSound};
 ghost use Rattle.frame_flow.specs.declared.{frame.Frame.Frame, result.PortFlow.PortFlow};
@@ -9,11 +9,14 @@ ghost use Rattle.frame_flow.specs.{Flow.IsFlow, Given.IsSetting};
 ghost use Rattle.delay_bound.specs.declared.stream.ClassStream.{ClassStream};
 ghost use Rattle.delay_bound.specs.Waits.{within_of};
 ghost use Rattle.delay_flow.specs.{Streams.AreStreams, Places.IsSteady, Rules.KeepRules, Delays.HoldsAt, Ways.way_to, Ways.hop_of, Ways.is_fed};
-ghost use Rattle.class_delays.specs.declared.delays.PortDelays.{PortDelays};
+ghost use Rattle.class_delays.specs.declared.delays.{PortDelays.PortDelays, Unbounded.Unbounded};
+ghost use Rattle.class_delays.specs.declared.delays.Unbounded.TheVariants.{NoMemory};
+ghost use Rattle.class_delays.specs.Causes.{AreSameAt, HasBounds, IsUnbounded};
 ghost use Rattle.class_delays.specs.Given.{ClassSetting, class_traffic, with_frames};
 ghost use Rattle.class_delays.specs.Table.{numbers_of};
 
 use delay_flow::laws::{each_frame_goes_in_time, what_is_spent_is_within};
+use tree_topology::laws::ports;
 
 /// Where the numbers that are found in what is reckoned keep the rules, as `class_delays` ensures,
 /// each frame of the class goes by them in every steady run in which the class's streams conform,
@@ -45,4 +48,25 @@ pub fn spent_is_within()
         ≡ within_of x.least (map (hop_of (numbers_of a ports) x) (way_to a.setting x p)) }
 {
     what_is_spent_is_within();
+}
+
+/// The rules fix the numbers: by two tables that both keep the rules at all ports each stream has
+/// the same numbers at each port where it is fed, and what comes there the same peak.
+pub fn the_rules_fix_the_numbers()
+    ensures { (a : ClassSetting) (one other : List PortDelays) (p : EgressPort)
+        → IsSound a.setting.tree → All (λ x. HasNode a.setting.tree x.talker.0) a.streams
+        → KeepRules a.setting (class_traffic a.class) a.streams (numbers_of a one)
+        → KeepRules a.setting (class_traffic a.class) a.streams (numbers_of a other)
+        → HasPort a.setting.tree p → AreSameAt a (numbers_of a one) (numbers_of a other) p }
+{
+    ports();
+}
+
+/// A class that has bounds has no cause for none but want of memory.
+pub fn a_class_with_bounds_has_no_cause()
+    ensures { (a : ClassSetting) (e : Unbounded)
+        → IsSound a.setting.tree → All (λ x. HasNode a.setting.tree x.talker.0) a.streams
+        → HasBounds a → IsUnbounded a e → e ≡ NoMemory }
+{
+    ports();
 }
