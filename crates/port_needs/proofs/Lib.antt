@@ -1,0 +1,5 @@
+pub mod SumLemmas
+pub mod ShareLemmas
+pub mod WayLemmas
+pub mod NothingLemmas
+pub mod LedgerLemmas

@@ -1,0 +1,12 @@
+pub mod Domains
+pub mod Demands
+pub mod Shares
+pub mod Lines
+pub mod Needs
+pub mod Laws
+pub use Domains.*
+pub use Demands.*
+pub use Shares.*
+pub use Lines.*
+pub use Needs.*
+pub use Laws.*
