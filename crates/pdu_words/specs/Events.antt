@@ -70,7 +70,7 @@ traffic_text t = whole_of (
 
 -- what a Talker declares of its frames, and the latency in ns
 abbrev pub talker_text : Talker → List ℕ
-talker_text t = whole_of (address_text t ∷ traffic_text t ∷ codes " latency " ∷ decimal t.latency ∷ codes "\n" ∷ [])
+talker_text t = whole_of (address_text t ∷ traffic_text t ∷ codes " latency " ∷ decimal t.latency ∷ [])
 
 -- why it failed, and where
 abbrev pub failure_text : Failure → List ℕ
@@ -79,22 +79,21 @@ failure_text failure = whole_of (
 
 -- of what a declaration is
 abbrev pub key_text : MsrpKey → List ℕ
-key_text (keys.Talker stream) = codes " talker " ++ hex16_text stream.0
-key_text (keys.Listener stream) = codes " listener " ++ hex16_text stream.0
-key_text (keys.Domain class) = codes " domain " ++ decimal class
+key_text (keys.Talker stream) = codes "talker " ++ hex16_text stream.0
+key_text (keys.Listener stream) = codes "listener " ++ hex16_text stream.0
+key_text (keys.Domain class) = codes "domain " ++ decimal class
 
--- what it declares, up to the end of the line
+-- what it declares, with a blank in front
 abbrev pub content_text : MsrpContent → List ℕ
 content_text (Advertise t) = codes " advertise" ++ talker_text t
 content_text (Failed t failure) = failure_text failure ++ talker_text t
-content_text (Listener kind) = whole_of (codes " " ∷ kind_name kind ∷ codes "\n" ∷ [])
-content_text (Domain priority vid) = whole_of (
-    codes " priority " ∷ decimal priority ∷ codes " vid " ∷ decimal vid ∷ codes "\n" ∷ [])
+content_text (Listener kind) = codes " " ++ kind_name kind
+content_text (Domain priority vid) = whole_of (codes " priority " ∷ decimal priority ∷ codes " vid " ∷ decimal vid ∷ [])
 
 -- `joinmt talker ID advertise ..`, `joinmt talker ID failed bridge B code C ..`,
 -- `joinmt listener ID ready` or `joinmt domain 6 priority 3 vid 2`
 abbrev pub declaration_line : MrpEvent × MsrpKey × MsrpContent → List ℕ
-declaration_line x = whole_of (event_name x.0 ∷ key_text x.1 ∷ content_text x.2 ∷ [])
+declaration_line x = whole_of (event_name x.0 ∷ codes " " ∷ key_text x.1 ∷ content_text x.2 ∷ codes "\n" ∷ [])
 
 -- ---- PDUs; in front of what each says stands where it was found
 

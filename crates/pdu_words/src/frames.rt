@@ -47,8 +47,9 @@ fn write_capture(alloc: Global, out: &mut String, capture: &Capture<'_>) -> Resu
     Ok(writeln!(out, "frames {mrp} other {other}")?)
 }
 
-// Where the file breaks off, if it does.
-fn write_broken(out: &mut String, broken: Option<u32>) -> Result<(), AllocError>
+/// Puts at the end of a text where a capture file breaks off, if it does: the offset in octets, from
+/// 0.
+pub fn write_broken(out: &mut String, broken: Option<u32>) -> Result<(), AllocError>
     ensures { OnOk result (string_bytes out.new ≡ string_bytes out.old ++ broken_line broken) }
 {
     match broken {
@@ -133,7 +134,14 @@ fn write_pdu(
     let got = record.octets.len();
     let whole = record.whole;
     if got < whole as usize {
-        return Ok(writeln!(out, " cut {got} of {whole}")?);
+        return Ok(write_cut(out, got, whole)?);
     }
     write_octets(alloc, out, frame.app, frame.pdu)
+}
+
+/// Puts at the end of a text that so many octets of a frame were captured, of so many.
+pub fn write_cut(out: &mut String, got: usize, whole: u32) -> Result<(), AllocError>
+    ensures { OnOk result (string_bytes out.new ≡ string_bytes out.old ++ cut_text got whole) }
+{
+    writeln!(out, " cut {got} of {whole}")
 }

@@ -22,6 +22,9 @@
 //! (`specs/Captured`): behind where a PDU was found both say the very same of it, as the law
 //! `a_frame_says_what_its_line_says` has it.
 //!
+//! Who prints these words in lines of its own, as a replay of a link does, calls `app_name` and the
+//! writers of keys, contents, and of what is malformed, cut or breaks off.
+//!
 //! A further application is a case of `octets_said` with its lines in `specs/Events` and its writer
 //! beside `vlans`, `streams` and `groups`; a further kind of attribute of MSRP is a case of
 //! `key_text` and `content_text`, with its arm in `streams`.
@@ -36,6 +39,8 @@ mod text;
 mod vlans;
 mod words;
 
-pub use frames::captured_text;
+pub use frames::{captured_text, write_broken, write_cut};
 pub use laws::a_frame_says_what_its_line_says;
+pub use streams::{write_stream_content, write_stream_key};
 pub use text::decoded_text;
+pub use words::{app_name, write_malformed};

@@ -53,30 +53,33 @@ fn write_event(out: &mut String, event: &(MrpEvent, MsrpKey, MsrpContent)) -> Re
         ≡ string_bytes out.old ++ declaration_line event.now) }
 {
     out.push_str(event_name(event.0))?;
-    write_key(out, event.1)?;
-    write_content(out, event.2)
+    out.push_str(" ")?;
+    write_stream_key(out, event.1)?;
+    write_stream_content(out, event.2)?;
+    out.push_str("\n")
 }
 
-// Of what a declaration is.
-fn write_key(out: &mut String, key: MsrpKey) -> Result<(), AllocError>
+/// Puts at the end of a text of what a declaration of MSRP is: a stream's Talker or Listeners, or a
+/// Domain.
+pub fn write_stream_key(out: &mut String, key: MsrpKey) -> Result<(), AllocError>
     ensures { OnOk result (string_bytes out.new ≡ string_bytes out.old ++ key_text key) }
 {
     match key {
-        MsrpKey::Talker(stream) => write!(out, " talker {stream}"),
-        MsrpKey::Listener(stream) => write!(out, " listener {stream}"),
-        MsrpKey::Domain(class) => write!(out, " domain {class}"),
+        MsrpKey::Talker(stream) => write!(out, "talker {stream}"),
+        MsrpKey::Listener(stream) => write!(out, "listener {stream}"),
+        MsrpKey::Domain(class) => write!(out, "domain {class}"),
     }
 }
 
-// What it declares.
-fn write_content(out: &mut String, content: MsrpContent) -> Result<(), AllocError>
+/// Puts at the end of a text what a declaration of MSRP declares, with a blank in front.
+pub fn write_stream_content(out: &mut String, content: MsrpContent) -> Result<(), AllocError>
     ensures { OnOk result (string_bytes out.new ≡ string_bytes out.old ++ content_text content) }
 {
     match content {
         MsrpContent::Advertise(talker) => write_advertise(out, &talker),
         MsrpContent::Failed(talker, failure) => write_failed(out, &talker, failure),
         MsrpContent::Listener(kind) => write_kind(out, kind),
-        MsrpContent::Domain { priority, vid } => { writeln!(out, " priority {priority} vid {vid}") }
+        MsrpContent::Domain { priority, vid } => { write!(out, " priority {priority} vid {vid}") }
     }
 }
 
@@ -113,7 +116,7 @@ fn write_talker(out: &mut String, talker: &Talker) -> Result<(), AllocError>
     write_address(out, talker)?;
     write_traffic(out, talker)?;
     let latency = talker.latency;
-    writeln!(out, " latency {latency}")
+    write!(out, " latency {latency}")
 }
 
 // Where its frames go.
@@ -147,5 +150,5 @@ fn write_kind(out: &mut String, kind: ListenerKind) -> Result<(), AllocError>
         ≡ string_bytes out.old ++ content_text (MsrpContent.Listener kind)) }
 {
     let name = kind_name(kind);
-    writeln!(out, " {name}")
+    write!(out, " {name}")
 }

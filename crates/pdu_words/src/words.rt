@@ -58,8 +58,8 @@ pub(crate) fn write_leaveall(out: &mut String, leave_all: bool) -> Result<(), Al
     writeln!(out, " leaveall {word}")
 }
 
-/// What is said of a PDU that breaks at an offset.
-pub(crate) fn write_malformed(out: &mut String, place: u32) -> Result<(), AllocError>
+/// Puts at the end of a text that a PDU breaks at an offset in octets, from 0.
+pub fn write_malformed(out: &mut String, place: u32) -> Result<(), AllocError>
     ensures { OnOk result (string_bytes out.new ≡ string_bytes out.old ++ malformed_text place) }
 {
     writeln!(out, " malformed {place}")
@@ -73,7 +73,7 @@ pub(crate) fn write_no_octets(out: &mut String) -> Result<(), AllocError>
 }
 
 /// An application by its name.
-pub(crate) fn app_name(app: AppForm) -> &'static str
+pub fn app_name(app: AppForm) -> &'static str
     ensures { result.now ≡ app_name_spec app }
 {
     match app {
