@@ -17,6 +17,11 @@ pub record Ways (K C : Type 0) : Type 0 where
 abbrev pub new_ways : {K C : Type 0} → Cs → Ways K C
 new_ways leave_time = record { from_a = new_way A leave_time; from_b = new_way B leave_time }
 
+-- the way from an end
+abbrev pub way_of : {K C : Type 0} → End → Ways K C → WayState K C
+way_of A w = w.from_a
+way_of B w = w.from_b
+
 -- ---- time
 
 module _ {K C : Type 0} where

@@ -59,7 +59,7 @@ mod observer;
 mod way;
 
 pub use app::WatchedApp;
-pub use lines::End;
+pub use lines::{End, write_end_front, write_moment};
 pub use link_watch::LinkWatch;
 pub use observer::Observer;
 pub use way::Way;

@@ -28,7 +28,7 @@ impl End {
     }
 
     /// The end by its name.
-    fn name(self) -> &'static str
+    pub fn name(self) -> &'static str
         ensures { result.now ≡ end_name_spec self }
     {
         match self {
@@ -52,8 +52,8 @@ fn event_name(event: MrpEvent) -> &'static str
     }
 }
 
-// A moment in seconds.
-fn write_moment(out: &mut String, at: Cs) -> Result<(), AllocError>
+/// Puts a moment, in cs, at the end of a text, in seconds.
+pub fn write_moment(out: &mut String, at: Cs) -> Result<(), AllocError>
     ensures { OnOk result (string_bytes out.new ≡ string_bytes out.old ++ moment_text at) }
 {
     let seconds = at.0 / 100;
@@ -78,8 +78,8 @@ fn write_way_front<A: WatchedApp>(
     A::write_key(out, key)
 }
 
-// What an end does.
-fn write_end_front(out: &mut String, at: Cs, who: End) -> Result<(), AllocError>
+/// Puts at the end of a text the moment, in cs, of what an end does, and the end.
+pub fn write_end_front(out: &mut String, at: Cs, who: End) -> Result<(), AllocError>
     ensures { OnOk result (string_bytes out.new ≡ string_bytes out.old ++ end_front at who) }
 {
     write_moment(out, at)?;

@@ -1,8 +1,10 @@
 //! Both ways over a link, of one application.
 
-ghost use Rattle.std.specs.Prelude.{◌≡◌, ◌<◌, ◌+◌, ◌^◌, ◌-◌, ◌++◌, min, IfOk, OnOk, string_bytes};
+ghost use Rattle.std.specs.Prelude.{◌≡◌, ◌<◌, ◌+◌, ◌^◌, ◌-◌, ◌++◌, min, length, slice_get, option_map, IfOk, OnOk, string_bytes};
+ghost use Rattle.mrp_participant.specs.Lookup.{find};
+ghost use Rattle.mrp_participant.specs.Row.{registered_in};
 ghost use Rattle.mrp_participant.specs.State.{IsTime};
-ghost use Rattle.link_replay.specs.LinkWatch.{new_ways, ways_passing_text, ways_let_go, ways_passing, begun_text, begun_way, said_text, said_way, judged_text, judged_count, pdu_text, pdu_broken, after_pdu};
+ghost use Rattle.link_replay.specs.LinkWatch.{new_ways, way_of, ways_passing_text, ways_let_go, ways_passing, begun_text, begun_way, said_text, said_way, judged_text, judged_count, pdu_text, pdu_broken, after_pdu};
 
 use crate::app::WatchedApp;
 use crate::lines::End;
@@ -38,6 +40,41 @@ impl<A: WatchedApp> LinkWatch<A> {
         LinkWatch {
             from_a: Way::new(alloc, End::A, leave_time),
             from_b: Way::new(alloc, End::B, leave_time),
+        }
+    }
+
+    /// The content that stands of a key which an end declares, at the other end; None exactly where
+    /// its Registrar is MT there.
+    pub fn registered(&self, speaker: End, key: A::Key) -> Option<A::Content>
+        ensures { result
+            ≡ registered_in (find A.Key.cmp key (way_of speaker self.now).observer.rows) }
+    {
+        self.way(speaker).registered(key)
+    }
+
+    /// The number of keys which an end declares and whose Registrar isn't MT at the other.
+    pub fn rows(&self, speaker: End) -> usize
+        ensures { result ≡ length (way_of speaker self.now).observer.rows }
+    {
+        self.way(speaker).rows()
+    }
+
+    /// The key at a place among these, counted from 0 and ascending; None exactly where the index
+    /// isn't below their number.
+    pub fn key_at(&self, speaker: End, index: usize) -> Option<A::Key>
+        ensures { result
+            ≡ option_map (λ r. r.key) (slice_get (way_of speaker self.now).observer.rows index) }
+    {
+        self.way(speaker).key_at(index)
+    }
+
+    // The way from an end.
+    fn way(&self, speaker: End) -> &Way<A>
+        ensures { result.now ≡ way_of speaker self.now }
+    {
+        match speaker {
+            End::A => &self.from_a,
+            End::B => &self.from_b,
         }
     }
 

@@ -118,6 +118,14 @@ impl<A: MrpApp> Observer<A> {
         self.participant.rows()
     }
 
+    /// The key of the row at a place, counted from 0 and ascending; None exactly where the index
+    /// isn't below the number of rows.
+    pub fn key_at(&self, index: usize) -> Option<A::Key>
+        ensures { result ≡ option_map (λ r. r.key) (slice_get self.now.rows index) }
+    {
+        self.participant.key_at(index)
+    }
+
     /// The key of the row at a place, counted from 0 and ascending, with the state of its
     /// Registrar; None exactly where the index isn't below the number of rows.
     #[tactic(auto, using(crate::proofs::RowLines::pair_at, crate::proofs::RowLines::no_key_at, crate::proofs::RowLines::no_registrar_at))]

@@ -1,8 +1,9 @@
 //! One way over a link: what one end declares, and how it stands at the other.
 
-ghost use Rattle.std.specs.Prelude.{◌≡◌, ◌<◌, ◌^◌, ◌++◌, [], flat_map, length, filter, slice_get, IfOk, OnOk, string_bytes, not, if◌then◌else◌};
+ghost use Rattle.std.specs.Prelude.{◌≡◌, ◌<◌, ◌^◌, ◌++◌, [], flat_map, length, filter, slice_get, option_map, IfOk, OnOk, string_bytes, not, if◌then◌else◌};
 ghost use Rattle.std.specs.Option.{option_map_or};
 ghost use Rattle.mrp_participant.specs.Lookup.{find};
+ghost use Rattle.mrp_participant.specs.Row.{registered_in};
 ghost use Rattle.mrp_participant.specs.State.{IsTime};
 ghost use Rattle.attribute_propagation.specs.Dirty.{is_awaiting};
 ghost use Rattle.link_replay.specs.Way.{new_way, stands_as, withdrawn_by, gone_text, passing_text, let_go_count, passing_way, owed_text, leaving_of, leaving_text, leave_all_text, leave_all_way, joining_text, withdrawing_text, heard_text, hearing_way, all_heard_text, all_hearing_way, is_held, is_broken, word_text, words_text, broken_count};
@@ -63,6 +64,28 @@ impl<A: WatchedApp> Way<A> {
             known: false,
             alloc,
         }
+    }
+
+    /// The content that stands of a key at the other end; None exactly where its Registrar is MT.
+    pub fn registered(&self, key: A::Key) -> Option<A::Content>
+        ensures { result ≡ registered_in (find A.Key.cmp key self.now.observer.rows) }
+    {
+        self.observer.registered(key)
+    }
+
+    /// The number of keys whose Registrar isn't MT.
+    pub fn rows(&self) -> usize
+        ensures { result ≡ length self.now.observer.rows }
+    {
+        self.observer.rows()
+    }
+
+    /// The key at a place among these, counted from 0 and ascending; None exactly where the index
+    /// isn't below their number.
+    pub fn key_at(&self, index: usize) -> Option<A::Key>
+        ensures { result ≡ option_map (λ r. r.key) (slice_get self.now.observer.rows index) }
+    {
+        self.observer.key_at(index)
     }
 
     /// Fires the leave timers that are due at a moment, in cs and below 2^62. Says which attributes
