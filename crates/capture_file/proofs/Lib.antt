@@ -7,3 +7,4 @@ pub mod Holds
 pub mod MomentLemmas
 pub mod AnswerLemmas
 pub mod WithinLemmas
+pub mod Written

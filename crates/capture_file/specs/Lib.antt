@@ -5,6 +5,7 @@ pub mod Packets
 pub mod Pieces
 pub mod Grammar
 pub mod Reading
+pub mod Writing
 unfoldable pub use Fields.*
 pub use Settings.*
 unfoldable pub use Options.*
@@ -12,6 +13,7 @@ pub use Packets.*
 unfoldable pub use Pieces.*
 unfoldable pub use Grammar.*
 unfoldable pub use Reading.*
+unfoldable pub use Writing.*
 pub use Rattle.capture_file.specs.declared.capture.Capture.{Capture}
 pub use Rattle.capture_file.specs.declared.capture.Record.{Record}
 pub use Rattle.capture_file.specs.declared.error.CaptureErr.{CaptureErr}

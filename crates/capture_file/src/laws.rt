@@ -1,12 +1,16 @@
 //! Laws of the grammar of capture files, and of moments. A crate above that needs one calls it, and
 //! its proof has the clauses.
 
-ghost use Rattle.std.specs.Prelude.{◌≡◌, ◌↔◌, ◌<◌, ◌^◌, ◌++◌, ℕ, List};
+ghost use Rattle.std.specs.Prelude.{◌≡◌, ◌↔◌, ◌<◌, ◌^◌, ◌++◌, ℕ, List, Ok, None};
+ghost use Rattle.std.specs.List.{AllByRecursion};
 ghost use Rattle.capture_file.specs.declared.setting.ByteOrder.{ByteOrder};
+ghost use Rattle.capture_file.specs.declared.setting.LinkType.{LinkType};
+ghost use Rattle.capture_file.specs.Packets.{Packet};
 ghost use Rattle.capture_file.specs.Settings.{per_second, units_of, ns_of};
 ghost use Rattle.capture_file.specs.Options.{IsOtherOption, resolution_in};
-ghost use Rattle.capture_file.specs.Grammar.{Outcome, IsReading};
+ghost use Rattle.capture_file.specs.Grammar.{Outcome, IsReading, Spells};
 ghost use Rattle.capture_file.specs.Reading.{reading};
+ghost use Rattle.capture_file.specs.Writing.{Fits, file_text};
 
 /// The law of the grammar: all octets have exactly one outcome. They spell a capture of exactly one
 /// list of frames, or break off at exactly one place behind exactly one list, or are none for
@@ -34,4 +38,14 @@ pub fn moments_are_exact()
 pub fn other_options_are_passed_over()
     ensures { (order : ByteOrder) (text more : List ℕ) → IsOtherOption order text
         → resolution_in order 0 (text ++ more) ≡ resolution_in order 0 more }
+{}
+
+/// The round trip: a file of frames that fit spells these frames, whole, with their moments, and is
+/// read as them to its end.
+pub fn what_is_written_is_read()
+    ensures spelled { (order : ByteOrder) (link : LinkType) (packets : List Packet)
+        → AllByRecursion (Fits link) packets → Spells (file_text order link packets) packets }
+    ensures read { (order : ByteOrder) (link : LinkType) (packets : List Packet)
+        → AllByRecursion (Fits link) packets
+        → reading (file_text order link packets) ≡ Ok (packets, None) }
 {}

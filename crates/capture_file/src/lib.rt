@@ -10,6 +10,7 @@
 //!
 //! read_capture   octets -> Capture { records: [Record { link, at_ns, whole, octets }], broken: None or a place },
 //!                          or NotCapture, or OtherLink(number), or NoMemory
+//! put_head, put_record   the other way: a head, and records one after another, as pcap in ns
 //! ```
 //!
 //! The grammar stands in `specs/`. A piece, which is a record of pcap or a block of pcapng, is its
@@ -21,13 +22,16 @@
 //! frames aren't read (`HasOtherLink`); all octets have exactly one outcome by the law
 //! `one_reading`. `Reading` is the same as a function, which the law `reading_is_the_grammar` ties
 //! to the grammar. `Packets` says what a capture says that was read in place. `moments_are_exact`
-//! and `other_options_are_passed_over` are laws of clocks and options.
+//! and `other_options_are_passed_over` are laws of clocks and options. `Writing` is the form in
+//! which captures are written; what is written of frames is read as them, whole and with their
+//! moments, by the law `what_is_written_is_read`.
 //!
 //! The code reads in one pass (`reading`): how many octets the next piece takes, and what it says
 //! (`pieces`), which changes the setting or is one more record. The records' octets are borrowed
-//! from the file's. A further kind of block is a case of `block_meant` with its function in
-//! `pieces`; a further link type is a variant of `LinkType`, with a line in `link_numbered` of
-//! `setting` and of `specs/Settings`.
+//! from the file's. `writing` has the two calls that write. A further kind of block is a case of
+//! `block_meant` with its function in `pieces`; a further link type is a variant of `LinkType`,
+//! with a line in `link_numbered` of `setting` and of `specs/Settings`, and in `number_of` of
+//! `writing` and of `specs/Writing`.
 #![tactic(auto)]
 
 mod capture;
@@ -39,11 +43,14 @@ mod pieces;
 mod reading;
 mod said;
 mod setting;
+mod writing;
 
 pub use capture::{Capture, Record};
 pub use error::CaptureErr;
 pub use laws::{
     moments_are_exact, one_reading, other_options_are_passed_over, reading_is_the_grammar,
+    what_is_written_is_read,
 };
 pub use reading::read_capture;
 pub use setting::{ByteOrder, FileForm, Interface, LinkType, Magic, Setting};
+pub use writing::{put_head, put_record};
