@@ -9,3 +9,4 @@ pub mod Rules
 pub mod Faults
 pub mod Sums
 pub mod Fixed
+pub mod Covered

@@ -12,7 +12,7 @@ use Rattle.class_delays.specs.declared.{coming.Coming.Coming, delays.PortDelays.
 use Rattle.class_delays.specs.declared.delays.Unbounded.{Unbounded}
 use Rattle.class_delays.specs.declared.delays.Unbounded.TheVariants.{Steep, Large, NoMemory}
 use Rattle.class_delays.specs.Given.{ClassSetting, class_traffic}
-use Rattle.class_delays.specs.Table.{slope_at, numbers_of}
+use Rattle.class_delays.specs.Table.{slope_at, numbers_of, fed_streams}
 use Rattle.class_delays.specs.Reckoned.{groups_of, fed_by}
 
 -- numbers keep the rules at each port that frames pass on their way to one: at each of a lower
@@ -68,6 +68,12 @@ IsSteepAt a p =
 abbrev pub IsLargeAt : ClassSetting → EgressPort → Numbers → Type 0
 IsLargeAt a p n =
     KeepRulesBelow a p n × (IsTooLate a p n ⊎ (HasLargeBases a p n ⊎ TakesTooLong a p n))
+
+-- at a port the class's slope is at least those of the streams that are fed there together, and
+-- above 0 where there is one
+pub record IsCoveredAt (a : ClassSetting) (p : EgressPort) : Type 0 where
+  pub some : (x : ClassStream) → Contains a.streams x → is_fed a.setting p x ≡ true → 0 < slope_at a p
+  pub slopes : sum_by (λ x. x.limits.slope) (fed_streams a p) ≤ slope_at a p
 
 -- why there are none: a slope is too small, or a number is too large, as it is found in what is
 -- reckoned port by port

@@ -70,7 +70,8 @@ idle_at a p =
     (class_traffic a.class)
 
 -- the further bounds of what comes to a port by another of its node: by the line of the port that
--- sends there, and by the credit of the class at that
+-- sends there, and by the credit of the class at that, where the slopes of both classes are below the
+-- rate together, as in each setting of a flow
 abbrev pub further_of : ClassSetting → EgressPort → EgressPort → List Bound
 further_of a p r =
     let s = a.setting in

@@ -11,7 +11,7 @@ ghost use Rattle.delay_bound.specs.Waits.{within_of};
 ghost use Rattle.delay_flow.specs.{Streams.AreStreams, Places.IsSteady, Rules.KeepRules, Delays.HoldsAt, Ways.way_to, Ways.hop_of, Ways.is_fed};
 ghost use Rattle.class_delays.specs.declared.delays.{PortDelays.PortDelays, Unbounded.Unbounded};
 ghost use Rattle.class_delays.specs.declared.delays.Unbounded.TheVariants.{NoMemory};
-ghost use Rattle.class_delays.specs.Causes.{AreSameAt, HasBounds, IsUnbounded};
+ghost use Rattle.class_delays.specs.Causes.{AreSameAt, HasBounds, IsCoveredAt, IsSteepAt, IsUnbounded};
 ghost use Rattle.class_delays.specs.Given.{ClassSetting, class_traffic, with_frames};
 ghost use Rattle.class_delays.specs.Table.{numbers_of};
 
@@ -67,6 +67,15 @@ pub fn a_class_with_bounds_has_no_cause()
     ensures { (a : ClassSetting) (e : Unbounded)
         → IsSound a.setting.tree → All (λ x. HasNode a.setting.tree x.talker.0) a.streams
         → HasBounds a → IsUnbounded a e → e ≡ NoMemory }
+{
+    ports();
+}
+
+/// Where a port's slope covers the streams of the class that are fed there, as it does where each
+/// was booked with its own, it isn't too small for the groups that they come in: each comes in one.
+pub fn covered_slopes_are_not_steep()
+    ensures { (a : ClassSetting) (p : EgressPort)
+        → IsSound a.setting.tree → HasPort a.setting.tree p → IsCoveredAt a p → IsSteepAt a p → ⊥ }
 {
     ports();
 }

@@ -25,6 +25,18 @@
 //! bounds count at each port (`numbers_of` of `specs/Table.antt`). Levels and what comes to a port
 //! (`specs/Reckoned.antt`, `specs/Order.antt`) are the code's own.
 //!
+//! The rules fix the numbers (`laws::the_rules_fix_the_numbers`). Where a class has none, the answer
+//! says at which port: its slope there is none or less than those of the groups, which isn't so
+//! where it covers the streams that are fed there (`laws::covered_slopes_are_not_steep`); or a number
+//! there is larger than its type holds, reckoned from those of the ports before. A class that has
+//! bounds (`HasBounds` of `specs/Causes.antt`) gets its numbers.
+//!
+//! What the bound by the credit of the port that sends (`class_bound`) asks of that port is that the
+//! slopes of both classes there are below its rate together. `class_delays` asks for it as part of
+//! its setting (`slopes` of `IsSetting` in frame_flow), and a run has it from its caps: the booked
+//! slopes of a port stay within the cap of both classes (`bookings_are_within_caps` of port_ledger;
+//! IEEE Std 802.1Q-2018, 34.3), which is at most 90 percent of the rate.
+//!
 //! A port's work grows with its streams, and by their square where each is looked up at the port
 //! before: with 128 streams and 126 ports a run's numbers take some million steps.
 //!
