@@ -1,8 +1,8 @@
 -- From the last change of bookings or slopes on all ports stay as they are at the run's end.
 use Rattle.std.proofs.Common.{◌≡◌, ℕ, zero, suc, ◌+◌, ◌*◌, ◌<◌, ◌≤◌, ◌⊎◌, inl, inr, ◌-◌, Bool, true, false, List, [], ◌∷◌, get_or, Option, Some, None, cond, refl, sym, ◌∙◌, ap, subst, arith}
-use Rattle.std.specs.Prelude.{All, AllPairs, nat_le, max, filter, not, ◌==◌, ◌&&◌, ◌||◌}
+use Rattle.std.specs.Prelude.{All, AllPairs, Contains, nat_le, max, filter, not, ◌==◌, ◌&&◌, ◌||◌}
 use Rattle.std.specs.{List.list_all, List.list_any, Cmp.Lexicographic.pointwise}
-use Rattle.std.proofs.lemmas.{Bool.cond-true, Bool.cond-false, Bool.cases_Bool, Bool.cases_lt, Bool.eqb-true, Bool.and_parts, Bool.false≢true, List.Elements.All-nil, List.Elements.All-head, List.Elements.All-tail, List.Elements.All-weaker, List.Elements.All-filter, List.Elements.filter_passes, List.Sums.AllPass-from_list_all}
+use Rattle.std.proofs.lemmas.{Bool.cond-true, Bool.cond-false, Bool.cases_Bool, Bool.cases_lt, Bool.eqb-true, Bool.and_parts, Bool.false≢true, List.Elements.All-contains, List.Elements.All-nil, List.Elements.All-head, List.Elements.All-tail, List.Elements.All-weaker, List.Elements.All-filter, List.Elements.filter_passes, List.Sums.AllPass-from_list_all}
 use Rattle.std.proofs.Math.Nat.{le-max_left, le-max_right}
 use Rattle.srp_base.specs.declared.{numbers.EgressPort.EgressPort, numbers.StreamId.StreamId, bandwidth.Class.Class, bandwidth.Class.TheVariants.A, bandwidth.Class.TheVariants.B, ports.PortChange.PortChange}
 use Rattle.credit_shaper.proofs.PairLemmas.{pairs-head, pairs-tail}
@@ -12,7 +12,7 @@ use Rattle.frame_flow.proofs.LevelLemmas.{same-port, port-itself}
 use Rattle.delay_flow.specs.Places.{IsAsIn, IsSteady, last_force}
 use Rattle.delay_flow.specs.Streams.{is_in_class}
 use Rattle.delay_flow.proofs.Places.{same-traffic}
-use Rattle.scenario_delays.specs.Steady.{are_same_streams, has_bookings_of, same_port, booking_tick, last_booking_tick, is_reserved, is_steady}
+use Rattle.scenario_delays.specs.Steady.{are_same_streams, has_bookings_of, same_port, booking_tick, last_booking_tick, is_reserved, is_steady, HasEarlyFrame}
 use Rattle.scenario_delays.specs.Streams.{traffic_in}
 
 -- ---- bookings that are the same
@@ -225,3 +225,139 @@ steady-run s class some pairs within is =
           let early : nat_le (u * 10000000000) f.at.0 ≡ true = grind (arith, passes, reserved) in
           grind (arith, early);
     }
+
+-- ---- where it isn't steady
+
+-- a change of a port that is found in a list, by which it has other bookings or slopes than before
+record IsFoundIn (b : EgressPort → Option PortChange) (cs : List PortChange) (u : ℕ) : Type 0 where
+  change : PortChange
+  listed : Contains cs change
+  tick : change.tick ≡ u
+  other : has_bookings_of (last_upto (u - 1) (b change.at) (changes_at cs change.at)) change ≡ false
+
+-- the last change of each port, with one more
+abbrev with_change : PortChange → (EgressPort → Option PortChange) → EgressPort → Option PortChange
+with_change c b p = cond (is_port c.at p) (Some c) (b p)
+
+follows-with : (before : Option PortChange) (b : EgressPort → Option PortChange) (c : PortChange) (cs : List PortChange) → AllPairs IsEarlier (c ∷ cs)
+    → ((p : EgressPort) → Follows p before (b p) (c ∷ cs)) → (p : EgressPort) → Follows p (Some c) (with_change c b p) cs
+follows-with before b c cs pairs follows p =
+    let F : Option PortChange → Type 0 = λ o. Follows p (Some c) o cs in
+    elim (cases_Bool (is_port c.at p)) [
+      | inl here ↦ subst F (sym (cond-true (is_port c.at p) (Some c) (b p) here)) (follows-here p c cs pairs here)
+      | inr aside ↦ subst F (sym (cond-false (is_port c.at p) (Some c) (b p) aside)) (follows-aside p before (b p) c cs pairs aside (follows p))
+    ]
+
+later-ticks : (p : EgressPort) (c : PortChange) (cs : List PortChange) → AllPairs IsEarlier (c ∷ cs) → is_port c.at p ≡ true → All (λ d. c.tick < d.tick) (changes_at cs p)
+later-ticks p c cs pairs here i d below =
+    let test : PortChange → Bool = λ x. is_port x.at p in
+    let E : PortChange → Type 0 = λ x. is_port x.at p ≡ true → c.tick < x.tick in
+    (All-filter test E cs (All-weaker (IsEarlier c) E (λ x h there. tick-before p c x here there h) cs (pairs-head IsEarlier c cs pairs)) i d below)
+    (filter_passes test cs i d below)
+
+-- it is the first of some
+found-first : (before : Option PortChange) (b : EgressPort → Option PortChange) (c : PortChange) (cs : List PortChange) (u : ℕ) → AllPairs IsEarlier (c ∷ cs)
+    → ((p : EgressPort) → Follows p before (b p) (c ∷ cs)) → 0 < u → booking_tick before c ≡ u → IsFoundIn b (c ∷ cs) u
+found-first before b c cs u pairs follows some is =
+    elim (cases_Bool (has_bookings_of (same_port before c) c)) [
+      | inl kept ↦ absurd (omega (arith, some, is, cond-true (has_bookings_of (same_port before c) c) 0 c.tick kept))
+      | inr other ↦ (
+          let p = c.at in
+          let tick : c.tick ≡ u = sym (cond-false (has_bookings_of (same_port before c) c) 0 c.tick other) ∙ is in
+          let S : PortChange → Type 0 = λ d. is_port d.at p ≡ true → same_port before d ≡ b p in
+          let had : same_port before c ≡ b p = All-head S c cs (follows p).same (port-itself p) in
+          let F = changes_at cs p in
+          let L : PortChange → Type 0 = λ d. c.tick < d.tick in
+          let later : All (λ d. u - 1 < d.tick) F = All-weaker L (λ d. u - 1 < d.tick) (λ d h. omega (arith, h, tick)) F (later-ticks p c cs pairs (port-itself p)) in
+          let not_yet : nat_le c.tick (u - 1) ≡ false = grind (arith, tick, some) in
+          let now : last_upto (u - 1) (b p) (changes_at (c ∷ cs) p) ≡ b p =
+          ap (λ (xs : List PortChange). last_upto (u - 1) (b p) xs) (cond-true (is_port c.at p) (c ∷ F) F (port-itself p))
+          ∙ ap (λ (o : Option PortChange). last_upto (u - 1) o F) (cond-false (nat_le c.tick (u - 1)) (Some c) (b p) not_yet)
+          ∙ upto-later (u - 1) (b p) F later in
+          record {
+            change = c;
+            listed = (zero, omega arith, refl);
+            tick = tick;
+            other = ap (λ (o : Option PortChange). has_bookings_of o c) (now ∙ sym had) ∙ other;
+          })
+    ]
+
+-- it is among the others
+found-later : (b : EgressPort → Option PortChange) (c : PortChange) (cs : List PortChange) (u : ℕ) → AllPairs IsEarlier (c ∷ cs) → IsFoundIn (with_change c b) cs u → IsFoundIn b (c ∷ cs) u
+found-later b c cs u pairs h =
+    let d = h.change in
+    let p = d.at in
+    let F = changes_at cs p in
+    let now : last_upto (u - 1) (b p) (changes_at (c ∷ cs) p) ≡ last_upto (u - 1) (with_change c b p) F =
+    elim (cases_Bool (is_port c.at p)) [
+      | inl here ↦ (
+          let earlier = All-contains (IsEarlier c) cs d (pairs-head IsEarlier c cs pairs) h.listed in
+          let less = tick-before p c d here (port-itself p) earlier in
+          let come : nat_le c.tick (u - 1) ≡ true = grind (arith, less, h.tick) in
+          ap (λ (xs : List PortChange). last_upto (u - 1) (b p) xs) (cond-true (is_port c.at p) (c ∷ F) F here)
+          ∙ ap (λ (o : Option PortChange). last_upto (u - 1) o F) (cond-true (nat_le c.tick (u - 1)) (Some c) (b p) come)
+          ∙ ap (λ (o : Option PortChange). last_upto (u - 1) o F) (sym (cond-true (is_port c.at p) (Some c) (b p) here)))
+      | inr aside ↦ ap (λ (xs : List PortChange). last_upto (u - 1) (b p) xs) (cond-false (is_port c.at p) (c ∷ F) F aside)
+          ∙ ap (λ (o : Option PortChange). last_upto (u - 1) o F) (sym (cond-false (is_port c.at p) (Some c) (b p) aside))
+    ] in
+    record {
+      change = d;
+      listed = (suc h.listed.0, omega (arith, h.listed.1), h.listed.2);
+      tick = h.tick;
+      other = ap (λ (o : Option PortChange). has_bookings_of o d) now ∙ h.other;
+    }
+
+found-last : (before : Option PortChange) (b : EgressPort → Option PortChange) (cs : List PortChange) (u : ℕ) → AllPairs IsEarlier cs → ((p : EgressPort) → Follows p before (b p) cs)
+    → 0 < u → last_booking_tick before cs ≡ u → IsFoundIn b cs u
+found-last before b [] u pairs follows some is = absurd (omega (arith, some, is))
+found-last before b (c ∷ cs) u pairs follows some is =
+    let first = booking_tick before c in
+    let rest = last_booking_tick (Some c) cs in
+    elim (cases_lt first rest) [
+      | inl less ↦ (
+          let last : rest ≡ u = omega (arith, less, is) in
+          found-later b c cs u pairs
+          (found-last (Some c) (with_change c b) cs u (pairs-tail IsEarlier c cs pairs) (follows-with before b c cs pairs follows) some last))
+      | inr more ↦ (let one : first ≡ u = omega (arith, more, is) in found-first before b c cs u pairs follows some one)
+    ]
+
+some-fails : {X : Type 0} (test : X → Bool) (xs : List X) → list_all test xs ≡ false → (x : X) × Contains xs x × (test x ≡ false)
+some-fails test [] is = absurd (false≢true (sym is))
+some-fails test (x ∷ xs) is =
+    elim (cases_Bool (test x)) [
+      | inr nay ↦ (x, (zero, omega arith, refl), nay)
+      | inl passes ↦ (
+          let rest = some-fails test xs (sym (ap (λ (t : Bool). t && list_all test xs) passes) ∙ is) in
+          (rest.0, (suc rest.1.0, omega (arith, rest.1.1), rest.1.2), rest.2))
+    ]
+
+early-by : (changes : List PortChange) (frames : List Frame) (u : ℕ) → IsFoundIn (λ p. None) changes u → (f : Frame) → Contains frames f → is_reserved (traffic_of f.route) ≡ true
+    → f.at.0 < u * 10000000000 → HasEarlyFrame changes frames
+early-by changes frames u found f sent reserved early =
+    let c = found.change in
+    let at : u ≡ c.tick = sym found.tick in
+    record {
+      change = c;
+      listed = found.listed;
+      other = subst (λ (t : ℕ). has_bookings_of (last_upto (t - 1) None (changes_at changes c.at)) c ≡ false) at found.other;
+      frame = f;
+      sent = sent;
+      reserved = reserved;
+      early = subst (λ (t : ℕ). f.at.0 < t * 10000000000) at early;
+    }
+
+pub early-frame : (changes : List PortChange) (frames : List Frame) → AllPairs IsEarlier changes → is_steady changes frames ≡ false → HasEarlyFrame changes frames
+early-frame changes frames pairs is =
+    let u = last_booking_tick None changes in
+    let test : Frame → Bool = λ f. not (is_reserved (traffic_of f.route)) || nat_le (u * 10000000000) f.at.0 in
+    let fails = some-fails test frames is in
+    let f = fails.0 in
+    let nay = fails.2 in
+    let reserved : is_reserved (traffic_of f.route) ≡ true = grind (arith, nay) in
+    let not_late : nat_le (u * 10000000000) f.at.0 ≡ false = grind (arith, nay) in
+    let early : f.at.0 < u * 10000000000 = grind (arith, not_late) in
+    early-by changes frames u
+    (found-last None (λ p. None) changes u pairs
+    (λ p. record { same = λ i d below here. refl; earlier = λ e none. absurd (let no : None ≡ Some e = none in cc) })
+    (omega (arith, early)) refl)
+    f fails.1 reserved early

@@ -1,26 +1,27 @@
 -- How long frames take in a run that keeps a class's bounds.
-use Rattle.std.proofs.Common.{◌≡◌, ℕ, ◌+◌, ◌≤◌, true, List, Option, Some, None, refl, sym, ◌∙◌, ap, subst, arith}
+use Rattle.std.proofs.Common.{◌≡◌, ℕ, ◌+◌, ◌≤◌, inl, inr, true, List, Option, Some, None, refl, sym, ◌∙◌, ap, subst, arith}
 use Rattle.std.specs.Prelude.{All, Contains, ◌==◌}
 use Rattle.std.proofs.lemmas.{Bool.eqb-true, List.Elements.All-weaker, List.Elements.All-contains, List.Elements.All-contains_itself, List.Elements.All-filter, List.Elements.filter_passes}
 use Rattle.srp_base.specs.declared.{bandwidth.Class.Class, bandwidth.Class.TheVariants.A, bandwidth.Class.TheVariants.B, numbers.EgressPort.EgressPort, ports.PortChange.PortChange}
 use Rattle.credit_shaper.specs.declared.shaper.Traffic.{Traffic}
 use Rattle.tree_topology.specs.Topology.{HasNode, HasPort, IsSound}
 use Rattle.frame_flow.specs.declared.{frame.Frame.Frame, frame.FrameCopy.FrameCopy, place.Place.Place, result.PortFlow.PortFlow}
-use Rattle.frame_flow.specs.declared.result.Fate.TheVariants.{Departed}
+use Rattle.frame_flow.specs.declared.result.Fate.TheVariants.{Departed, Unbooked}
 use Rattle.frame_flow.specs.{Copies.all_places, Copies.arriving, Copies.flow_at, Copies.frame_of, Flow.Setting, Flow.port_flow, Force.is_port, Given.IsSetting, Moments.moment_of, Origins.HasSource, Origins.IsFlowOf, Origins.IsOfCopy}
 use Rattle.frame_flow.proofs.CopyLemmas.{All-find}
 use Rattle.frame_flow.proofs.LevelLemmas.{same-port}
 use Rattle.topology_file.specs.{Plan.Plan, Scenario.KeepsRules}
 use Rattle.scenario_frames.specs.{PlanFrames.plan_frames, Setting.setting_of}
 use Rattle.delay_bound.specs.declared.{bound.Bound.Bound, stream.ClassStream.ClassStream}
-use Rattle.delay_flow.specs.{Delays.GoesInTime, Delays.HoldsAt, Places.place_at, Places.copies_at, Places.may_go, Places.sendable_at, Places.flow_there, Rules.Numbers, Rules.IsBefore, Rules.IsFurther, Rules.KeepRules, Rules.KeepRulesAt, Streams.is_frame_of, Streams.is_route_of, Ways.is_fed}
-use Rattle.delay_flow.proofs.Places.{listed-is, one-frame}
+use Rattle.delay_flow.specs.{Delays.AreBookedAt, Delays.GoesInTime, Delays.HoldsAt, Places.place_at, Places.copies_at, Places.may_go, Places.sendable_at, Places.flow_there, Rules.Numbers, Rules.IsBefore, Rules.IsFurther, Rules.KeepRules, Rules.KeepRulesAt, Streams.is_frame_of, Streams.is_route_of, Ways.is_fed}
+use Rattle.delay_flow.proofs.Places.{HasRates, listed-is, one-frame}
 use Rattle.delay_flow.proofs.Sums.{contains-filter, contains-map}
-use Rattle.class_delays.specs.declared.{delays.FedStream.FedStream, delays.PortDelays.PortDelays}
-use Rattle.class_delays.specs.{Given.ClassSetting, Given.class_traffic, Given.without_frames, Table.delays_at, Table.is_same, Table.stream_in, Table.spent_in, Table.numbers_of, Table.fed_streams, Table.ListsFed}
+use Rattle.class_delays.specs.declared.{delays.FedStream.FedStream, delays.PortDelays.PortDelays, delays.Unbounded.Unbounded}
+use Rattle.class_delays.specs.declared.delays.Unbounded.TheVariants as causes
+use Rattle.class_delays.specs.{Causes.IsUnbounded, Given.ClassSetting, Given.class_traffic, Given.without_frames, Table.delays_at, Table.is_same, Table.rate_at, Table.stream_in, Table.spent_in, Table.numbers_of, Table.fed_streams, Table.ListsFed}
 use Rattle.class_delays.proofs.Finds.{same-stream}
 use Rattle.scenario_delays.specs.declared.{facts.ClassBounds.ClassBounds, facts.DelayFacts.DelayFacts}
-use Rattle.scenario_delays.specs.declared.facts.ClassBounds.TheVariants.{Reckoned}
+use Rattle.scenario_delays.specs.declared.facts.ClassBounds.TheVariants.{Reckoned, Unbounded as HasNone}
 use Rattle.scenario_delays.specs.{Facts.AreBounds, Facts.AreFacts, Facts.AreReckonedFor, Facts.bounds_of, Facts.class_setting, Streams.streams_in, Streams.traffic_in}
 use Rattle.scenario_delays.proofs.StreamLemmas.{of-stream, talkers-are}
 
@@ -69,6 +70,16 @@ pub reckoned-for : (plan : Plan) (changes : List PortChange) (facts : DelayFacts
     → AreReckonedFor (class_setting plan changes class) ports
 reckoned-for plan changes facts class ports are is =
     subst (λ (b : ClassBounds). AreBounds (class_setting plan changes class) b) is (bounds-are plan changes facts class are)
+
+-- where no cause but want of memory may stand it is there
+reckoned-so : (a : ClassSetting) (b : ClassBounds) → AreBounds a b → ((e : Unbounded) → IsUnbounded a e → e ≡ causes.NoMemory) → (ports : List PortDelays) × (b ≡ Reckoned ports)
+reckoned-so a (Reckoned ports) are none = (ports, refl)
+reckoned-so a (HasNone at) (inl steep) none = absurd (let no : causes.Steep at ≡ causes.NoMemory = none (causes.Steep at) steep in cc)
+reckoned-so a (HasNone at) (inr large) none = absurd (let no : causes.Large at ≡ causes.NoMemory = none (causes.Large at) large in cc)
+
+pub bounds-there : (plan : Plan) (changes : List PortChange) (facts : DelayFacts) (class : Class) → AreFacts plan changes facts
+    → ((e : Unbounded) → IsUnbounded (class_setting plan changes class) e → e ≡ causes.NoMemory) → (ports : List PortDelays) × (bounds_of class facts ≡ Reckoned ports)
+bounds-there plan changes facts class are none = reckoned-so (class_setting plan changes class) (bounds_of class facts) (bounds-are plan changes facts class are) none
 
 pub rules-are : (plan : Plan) (changes : List PortChange) (class : Class) (ports : List PortDelays) → AreReckonedFor (class_setting plan changes class) ports
     → KeepRules (setting_of plan changes) (traffic_in class) (streams_in class plan) (numbers_of (class_setting plan changes class) ports)
@@ -171,3 +182,13 @@ took-no-longer plan changes class ports flows p x fed flow number start end f ke
     let spent : n.spent p x ≡ fed.spent = ap spent_in found in
     let moment : moment_of flow.input.rate end ≡ moment_of (n.rate p) end = ap (λ (y : PortFlow). moment_of y.input.rate end) is.0 in
     omega (arith, within, at, spent, moment)
+
+pub never-unbooked : (plan : Plan) (changes : List PortChange) (class : Class) (flows : List PortFlow) (p : EgressPort) (x : ClassStream) (flow : PortFlow) (f : Frame) → KeepsRules plan
+    → Contains (streams_in class plan) x → HasRates (setting_of plan changes) (rate_at (setting_of plan changes)) → IsFlowOf (setting_of plan changes) flows p flow
+    → AreBookedAt (setting_of plan changes) flows (rate_at (setting_of plan changes)) (traffic_in class) p x
+    → Contains (plan_frames plan) f → is_route_of x.id f.route ≡ true → Contains flow.fates (f.number, Unbooked) → ⊥
+never-unbooked plan changes class flows p x flow f kept has rates is booked known route fate =
+    let s = setting_of plan changes in
+    let rate = rate_at s in
+    let same : flow ≡ flow_there s flows rate p = is.flow ∙ ap (λ (t : Place). port_flow s flows t) (listed-is s rate rates is.place p is.listed is.at) in
+    booked.fates f known (of-stream plan class kept x has f known route) (subst (λ (y : PortFlow). Contains y.fates (f.number, Unbooked)) same fate)

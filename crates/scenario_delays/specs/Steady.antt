@@ -1,12 +1,12 @@
 -- Whether a run is steady: no frame of a reserved stream is sent before bookings and slopes are as
 -- they stay. A tick is 10^10 ps.
-use Rattle.std.specs.Prelude.{ℕ, ◌+◌, ◌*◌, ◌==◌, Bool, true, false, not, ◌&&◌, ◌||◌, if◌then◌else◌, max, List, [], ◌∷◌, Option, None, Some, nat_le}
-use Rattle.std.specs.{List.list_all, Cmp.Lexicographic.pointwise}
+use Rattle.std.specs.Prelude.{◌≡◌, ℕ, ◌+◌, ◌-◌, ◌*◌, ◌<◌, ◌==◌, Bool, true, false, not, ◌&&◌, ◌||◌, if◌then◌else◌, max, List, [], ◌∷◌, Option, None, Some, nat_le}
+use Rattle.std.specs.{List.Contains, List.list_all, Cmp.Lexicographic.pointwise}
 use Rattle.srp_base.specs.declared.{numbers.StreamId.StreamId, ports.PortChange.PortChange}
 use Rattle.credit_shaper.specs.declared.shaper.Traffic.{Traffic}
 use Rattle.credit_shaper.specs.declared.shaper.Traffic.TheVariants.{A, B, Other}
 use Rattle.frame_flow.specs.declared.{frame.Frame.Frame, frame.Route.Route}
-use Rattle.frame_flow.specs.{Flow.traffic_of, Force.is_port}
+use Rattle.frame_flow.specs.{Flow.traffic_of, Force.changes_at, Force.in_force, Force.is_port}
 
 -- whether two lists have the same streams, in the same order
 abbrev pub are_same_streams : List StreamId → List StreamId → Bool
@@ -45,3 +45,14 @@ abbrev pub is_steady : List PortChange → List Frame → Bool
 is_steady changes frames =
     list_all (λ f. not (is_reserved (traffic_of f.route))
     || nat_le (last_booking_tick None changes * 10000000000) f.at.0) frames
+
+-- a frame of class A or B is sent before the beginning of the tick of a change by which a port has
+-- other bookings or slopes than were in force there in the tick before
+pub record HasEarlyFrame (changes : List PortChange) (frames : List Frame) : Type 0 where
+  pub change : PortChange
+  pub listed : Contains changes change
+  pub other : has_bookings_of (in_force (change.tick - 1) (changes_at changes change.at)) change ≡ false
+  pub frame : Frame
+  pub sent : Contains frames frame
+  pub reserved : is_reserved (traffic_of frame.route) ≡ true
+  pub early : frame.at.0 < change.tick * 10000000000
