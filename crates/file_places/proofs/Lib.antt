@@ -1,0 +1,3 @@
+pub mod DocumentLemmas
+pub mod SpotLemmas
+pub mod LineLemmas
