@@ -1,3 +1,4 @@
+pub mod LinkLemmas
 pub mod SumLemmas
 pub mod ShareLemmas
 pub mod WayLemmas

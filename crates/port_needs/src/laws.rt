@@ -1,7 +1,7 @@
 //! What is true of what is needed. Each is a function that does nothing; calling it brings the law
 //! to a proof.
 
-ghost use Rattle.std.specs.Prelude.{◌≡◌, ◌≤◌, ◌<◌, ◌↔◌, ◌+◌, ℕ, true, false, List, [], IfSome, IfNone};
+ghost use Rattle.std.specs.Prelude.{◌≡◌, ◌≤◌, ◌<◌, ◌↔◌, ◌+◌, ℕ, true, false, List, [], IsSome, IfSome, IfNone};
 ghost use Rattle.std.specs.List.{AllByRecursion};
 ghost use Rattle.srp_base.specs.Bandwidth.{bits_of};
 ghost use Rattle.srp_base.specs.declared.{bandwidth.Rate.Rate, numbers.EgressPort.EgressPort};
@@ -10,8 +10,9 @@ ghost use Rattle.stream_importance.specs.declared.{entry.Fit.TheVariants.Fits, e
 ghost use Rattle.port_ledger.specs.Book.{Book, fit_for};
 ghost use Rattle.port_ledger.specs.Decision.{is_booked};
 ghost use Rattle.tree_topology.specs.Topology.{HasNode, HasPort, IsSound, Topology, link_ports};
-ghost use Rattle.topology_file.specs.Plan.{Plan};
+ghost use Rattle.topology_file.specs.{Plan.Plan, Scenario.KeepsRules};
 ghost use Rattle.topology_file.specs.declared.entries.LinkEntry.{LinkEntry};
+ghost use Rattle.scenario_bounds.specs.Caps.{link_at};
 ghost use Rattle.port_needs.specs.declared.demand.Wish.{Wish};
 ghost use Rattle.port_needs.specs.Demands.{leads_to, wants_at};
 ghost use Rattle.port_needs.specs.Shares.{is_enough, least_rate, shares_for};
@@ -51,6 +52,13 @@ pub fn nothing_is_needed_where_all_are_large_enough()
         ↔ AllByRecursion (IsLargeEnough plan wishes) (link_ports plan.tree) }
     ensures streams { (plan : Plan) (wishes : List Wish) → (never_lines plan wishes ≡ [])
         ↔ AreServed plan wishes }
+{}
+
+/// Each port of a scenario's links has the entry of its link, by whose caps it is large enough or
+/// not.
+pub fn each_port_has_its_link()
+    ensures { (plan : Plan) → KeepsRules plan
+        → AllByRecursion (λ p. IsSome (link_at plan p)) (link_ports plan.tree) }
 {}
 
 /// Frames leave by a port on their way from one node to another exactly where it stands on the walk
