@@ -1,0 +1,5 @@
+pub mod FrameLemmas
+pub mod EndLemmas
+pub mod TickLemmas
+pub mod RunLemmas
+pub mod ReadLemmas
