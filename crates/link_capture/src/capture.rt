@@ -1,6 +1,6 @@
 //! The capture of a link.
 
-ghost use Rattle.std.specs.Prelude.{◌≡◌, ◌<◌, ◌↔◌, length, slice_index_or, IsSome, IfSome, IfOk};
+ghost use Rattle.std.specs.Prelude.{◌≡◌, ◌<◌, length, slice_index_or, IfOk};
 ghost use Rattle.tree_topology.specs.{Topology.HasLink, Ports.ends_of};
 ghost use Rattle.world_core.specs.Ticks.{AreLegalTicks};
 ghost use Rattle.link_capture.specs.Captured.{captured};
@@ -12,18 +12,6 @@ use srp_base::{EgressPort, LinkNo, NoMemory};
 use std::alloc::Global;
 use topology_file::Scenario;
 use world_core::{Run, Tick, World};
-
-/// The link of a number, counted from 1 in the order of the file; None exactly where the scenario
-/// has no such link.
-pub fn link_of(scenario: &Scenario, number: u64) -> Option<LinkNo>
-    ensures some { IsSome result ↔ HasLink scenario.now.tree number }
-    ensures link { IfSome result (λ link. link.0 ≡ number) }
-{
-    if number < 1 || u64::from(scenario.tree.links()) < number {
-        return None;
-    }
-    Some(LinkNo(number as u16))
-}
 
 /// The ports of a link's ends, the end `a` first.
 fn ends_at(scenario: &Scenario, link: LinkNo) -> (EgressPort, EgressPort)

@@ -8,7 +8,6 @@
 //!   00000000 00000000 0000003c 0000003c                   a record: 0 s, 0 ns, 60 octets of 60
 //!   0180c2000021 020000000101 88f5 00 01020001 .. 00..    to MVRP's address, from s1's port 1: the PDU, filled up
 //!
-//!   link_of        a link's number -> the link, where the scenario has it
 //!   link_capture   scenario, run, link -> the file
 //! ```
 //!
@@ -39,5 +38,5 @@ mod frames;
 pub mod laws;
 mod ticks;
 
-pub use capture::{link_capture, link_of};
+pub use capture::link_capture;
 pub use laws::what_is_captured_is_read;
