@@ -2,10 +2,10 @@
 //! an entry begins that breaks a rule.
 //!
 //! ```text
-//!   octets --> toml's reader --> an error's span --> there: line 12 column 8: ..     toml_place, put_place
+//!   octets --> toml's reader --> an error's span --> there: line 12 column 8: ..   toml_place
 //!
 //!   octets, "node", 3 --> the fewest first lines that are
-//!                         a document with 3 tables `node` --> line: 9                line_of_entry, put_line
+//!                         a document with 3 tables `node` --> line: 9               line_of_entry
 //! ```
 //!
 //! A place's line is one more than there are line feeds before the start of the span, and its

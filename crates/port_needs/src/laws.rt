@@ -39,7 +39,8 @@ pub fn the_rate_is_the_least()
         (λ r. is_enough (caps_of r delta_a delta_b) a both ≡ true) }
     ensures least { (delta_a delta_b a both : ℕ) (other : Rate)
         → IfSome (least_rate delta_a delta_b a both)
-        (λ r. bits_of other < bits_of r → is_enough (caps_of other delta_a delta_b) a both ≡ false) }
+        (λ r. bits_of other < bits_of r
+        → is_enough (caps_of other delta_a delta_b) a both ≡ false) }
     ensures none { (delta_a delta_b a both : ℕ) (other : Rate)
         → IfNone (least_rate delta_a delta_b a both)
         (is_enough (caps_of other delta_a delta_b) a both ≡ false) }

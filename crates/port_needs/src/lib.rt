@@ -2,13 +2,13 @@
 //! over its tree: no run is made (IEEE Std 802.1Q-2018, 34.3, 34.4, 35.2.4.3).
 //!
 //! ```text
-//!   needs b1>b2 A 92672000 of 75000000 A+B 92672000 of 75000000 delta_a none delta_b none rate 1000
-//!   never voice code 8 at b2>s4
+//!   needs b>c A 92672000 of 75000000 A+B 92672000 of 75000000 delta_a none delta_b none rate 1000
+//!   never voice code 8 at c>s4
 //!
 //!   wishes: a stream, a station
 //!      |  behind which ports, and no boundary before      what a stream wants there
 //!      v                                                         v
-//!   demands of streams ---- at a port: wants_at ----> sums a of class A, b of both ----> is_enough of its caps
+//!   demands of streams ---- at a port: wants_at --> sums of class A, of both --> is_enough
 //! ```
 //!
 //! `needs_text` (`specs/Needs.antt`) is the text as a function of the scenario and the wishes. A
@@ -22,8 +22,8 @@
 //! - `domains`: which ports are boundaries.
 //! - `shares`: the sums, whether caps suffice, and the least shares and rate that do.
 //! - `lines`, `ports`, `never`, `text`: the lines and the whole text.
-//! - `laws`: the shares and the rate are the least that suffice; there is no line exactly where every
-//!   port is large enough and every wish may be served; a stream leaves exactly by the ports of its
+//! - `laws`: the shares and the rate are the least that suffice; there is no line exactly where
+//!   every port is large enough and every wish may be served; a stream leaves exactly by the ports of its
 //!   way; and a ledger that is large enough books all that is wished there.
 //!
 //! A further number of a port is a piece of `short_line` in `specs/Needs.antt` with its words in

@@ -40,10 +40,10 @@ fn ports_text(
 /// is wished behind it, the slopes of class A and of both classes with the port's caps, in bit/s
 /// (IEEE Std 802.1Q-2018, 34.3), the least shares in percent that suffice at its rate, or `none`
 /// where they pass 90, and the least rate in Mb/s of which its shares suffice, or `none`; or that
-/// nothing is needed. Then each wished stream that no link helps, in the order of the file: with the
-/// code 13 or 14 at the port of its talker, with which every port refuses it, or with the code 8 at
-/// each port on the way to a station that wishes it, which is at the boundary of the domain of its
-/// class (35.2.2.8.7). A wish whose stream or station the scenario hasn't is none.
+/// nothing is needed. Then each wished stream that no link helps, in the order of the file: with
+/// the code 13 or 14 at the port of its talker, with which every port refuses it, or with the code
+/// 8 at each port on the way to a station that wishes it, which is at the boundary of the domain of
+/// its class (35.2.2.8.7). A wish whose stream or station the scenario hasn't is none.
 pub fn needs_text(alloc: Global, scenario: &Scenario, wishes: &[Wish]) -> Result<Vec<u8>, NoMemory>
     ensures { IfOk result (λ text. text.items ≡ needs_text_spec scenario.now wishes.now) }
 {
