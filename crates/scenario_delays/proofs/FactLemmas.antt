@@ -2,14 +2,13 @@
 use Rattle.std.proofs.Common.{◌≡◌, ℕ, List, refl, subst, arith}
 use Rattle.std.specs.Prelude.{Result, Err, IfErr}
 use Rattle.std.proofs.lemmas.List.Elements.{All-nil}
-use Rattle.srp_base.specs.declared.{bandwidth.Class.Class, bandwidth.Rate.Rate, numbers.EgressPort.EgressPort, ports.PortChange.PortChange}
+use Rattle.srp_base.specs.declared.{bandwidth.Class.Class, bandwidth.Rate.Rate, ports.PortChange.PortChange}
 use Rattle.tree_topology.specs.Topology.{Topology}
 use Rattle.frame_flow.specs.Given.{IsFrame, IsSetting}
 use Rattle.topology_file.specs.Plan.{Plan}
 use Rattle.scenario_frames.specs.Setting.{plan_rates, setting_of}
 use Rattle.delay_bound.specs.declared.stream.ClassStream.{ClassStream}
 use Rattle.class_delays.specs.declared.{delays.PortDelays.PortDelays, delays.Unbounded.Unbounded}
-use Rattle.class_delays.specs.declared.delays.Unbounded.TheVariants as causes
 use Rattle.class_delays.specs.{Causes.IsUnbounded, Given.ClassSetting, Given.without_frames}
 use Rattle.scenario_delays.specs.{Facts.class_setting, Streams.streams_in}
 
@@ -34,8 +33,7 @@ pub same-setting : (plan : Plan) (changes : List PortChange) (class : Class) (tr
 same-setting plan changes class tree rates ticks streams h1 h2 h3 h4 = rw (h1, h2, h3, h4) refl
 
 -- why none are answered, as what is asked of a scenario has it
-pub unbounded-large : (plan : Plan) (changes : List PortChange) (class : Class) (a : ClassSetting) (found : Result (List PortDelays) Unbounded) (at : EgressPort)
-    → a ≡ class_setting plan changes class → found ≡ Err (causes.Large at) → IfErr found (IsUnbounded a)
-    → IsUnbounded (class_setting plan changes class) (causes.Large at)
-unbounded-large plan changes class a found at same is why =
-    subst (λ (b : ClassSetting). IsUnbounded b (causes.Large at)) same (subst (λ (r : Result (List PortDelays) Unbounded). IfErr r (IsUnbounded a)) is why)
+pub unbounded-as : (plan : Plan) (changes : List PortChange) (class : Class) (a : ClassSetting) (found : Result (List PortDelays) Unbounded) (e : Unbounded)
+    → a ≡ class_setting plan changes class → found ≡ Err e → IfErr found (IsUnbounded a) → IsUnbounded (class_setting plan changes class) e
+unbounded-as plan changes class a found e same is why =
+    subst (λ (b : ClassSetting). IsUnbounded b e) same (subst (λ (r : Result (List PortDelays) Unbounded). IfErr r (IsUnbounded a)) is why)

@@ -107,8 +107,9 @@ pub fn no_frame_is_unbooked_where_its_stream_is_fed()
     no_frame_is_unbooked();
 }
 
-/// In a run that keeps a class's bounds each frame of a stream that is fed at a port and departed there took from its
-/// moment to the bit time after its last bit no longer than is reckoned for the stream there.
+/// In a run that keeps a class's bounds each frame of a stream that is fed at a port and departed
+/// there took from its moment to the bit time after its last bit no longer than is reckoned for the
+/// stream there.
 pub fn a_frame_took_no_longer()
     ensures { (plan : Plan) (changes : List PortChange) (facts : DelayFacts) (class : Class)
         (ports : List PortDelays) (flows : List PortFlow) (p : EgressPort)
