@@ -3,3 +3,4 @@ pub mod StepLemmas
 pub mod RestLemmas
 pub mod TickLemmas
 mod NotedLemmas
+pub mod WatchLemmas

@@ -26,7 +26,12 @@
 //! list for each port while the run goes on (`History` of world_core), and become one timeline at
 //! its end.
 //!
-//! Beside it `generate`, which makes the scenario of a number, is handed on as scenario_generator
+//! `watched_run` is the same run, and shows the network at the end of each tick to one who watches
+//! (`RunWatcher`), who keeps of it what is wanted, since a run keeps no network but its last. Its
+//! contract says that the watcher has seen these ends, one after the other (`specs/Watch.antt`);
+//! `plain_run` is that of nobody.
+//!
+//! Beside them `generate`, which makes the scenario of a number, is handed on as scenario_generator
 //! has it: a run of it is the plain run of what it answers.
 //!
 //! A further kind of event is an arm of `world_event` (`src/script.rt` of world_core), a further
@@ -37,6 +42,8 @@ mod order;
 mod rest;
 mod run;
 mod steps;
+mod watch;
 
-pub use run::plain_run;
+pub use run::{plain_run, watched_run};
 pub use scenario_generator::generate;
+pub use watch::RunWatcher;

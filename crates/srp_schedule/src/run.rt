@@ -4,9 +4,11 @@ ghost use Rattle.std.specs.Prelude.{◌≡◌, ◌<◌, List, IfOk, OnOk};
 ghost use Rattle.world_core.specs.{Ticks.AreCanonicalTicks, World.CanHappen, World.world_step, During.IsDuring, Carrying.NothingWaits, Cursor.IsCursor, Timeline.AreChanges, Timeline.IsTimelineOf};
 ghost use Rattle.srp_schedule.specs.Rest.{AreRests};
 ghost use Rattle.srp_schedule.specs.Tick.{DuringLaws, IsTickMade};
+ghost use Rattle.srp_schedule.specs.Watch.{ends_of, having_seen};
 
 use crate::rest::{Rest, forget_if, nothing_known};
 use crate::steps::make_steps;
+use crate::watch::{Nobody, RunWatcher};
 use node_core::laws::a_node_at_rest_stays_so;
 use srp_base::{NoMemory, Seq};
 use std::alloc::Global;
@@ -28,6 +30,24 @@ pub fn plain_run(alloc: Global, scenario: &Scenario) -> Result<Run, NoMemory>
         run.world) }
     ensures timeline { IfOk result
         (λ run. IsTimelineOf scenario.now run.journal.ticks run.timeline.changes) }
+{
+    let mut nobody = Nobody;
+    watched_run(alloc, scenario, &mut nobody)
+}
+
+/// Runs a scenario as `plain_run` does, and shows the network at the end of each tick to one who
+/// watches.
+pub fn watched_run<W: RunWatcher>(
+    alloc: Global,
+    scenario: &Scenario,
+    watcher: &mut W,
+) -> Result<Run, NoMemory>
+    ensures ticks { IfOk result (λ run. AreCanonicalTicks scenario.now run.journal.ticks
+        run.world) }
+    ensures timeline { IfOk result
+        (λ run. IsTimelineOf scenario.now run.journal.ticks run.timeline.changes) }
+    ensures watched { IfOk result (λ run. watcher.new
+        ≡ having_seen W.after watcher.old (ends_of scenario.now run.journal.ticks)) }
 {
     what_is_allowed_may_happen();
     a_tick_carries_what_it_has_sent();
@@ -54,6 +74,7 @@ pub fn plain_run(alloc: Global, scenario: &Scenario) -> Result<Run, NoMemory>
             history,
         )?;
         history = noted;
+        watcher.see(t, &world)?;
         ticks.push(tick)?;
     }
     let timeline = history.into_timeline()?;

@@ -1,0 +1,3 @@
+mod GrantLemmas
+mod ListLemmas
+mod MomentLemmas
