@@ -149,7 +149,8 @@ pub(crate) fn put_undeclared_line(
     name: &[u8],
     vid: Vid,
 ) -> Result<(), NoMemory>
-    ensures { OnOk result (out.new.items ≡ out.old.items ++ undeclared_line station.now name.now vid) }
+    ensures { OnOk result (out.new.items
+        ≡ out.old.items ++ undeclared_line station.now name.now vid) }
 {
     put_listener_start(out, station)?;
     put_undeclared_end(out, name, vid)
@@ -214,7 +215,8 @@ pub(crate) fn put_long_frame_line(
     name: &[u8],
     most: u16,
 ) -> Result<(), NoMemory>
-    ensures { OnOk result (out.new.items ≡ out.old.items ++ long_frame_line number octets name.now most) }
+    ensures { OnOk result (out.new.items
+        ≡ out.old.items ++ long_frame_line number octets name.now most) }
 {
     put_frame_start(out, number)?;
     put_long_frame_end(out, octets, name, most)
@@ -239,7 +241,8 @@ pub(crate) fn put_dense_frame_line(
     name: &[u8],
     frames: u16,
 ) -> Result<(), NoMemory>
-    ensures { OnOk result (out.new.items ≡ out.old.items ++ dense_frame_line number name.now frames) }
+    ensures { OnOk result (out.new.items
+        ≡ out.old.items ++ dense_frame_line number name.now frames) }
 {
     put_dense_frame_start(out, number)?;
     put_entry_end(out, name, frames)
