@@ -1,0 +1,10 @@
+pub mod MemberLemmas
+pub mod NameLemmas
+pub mod NumberLemmas
+pub mod FreeNumbers
+pub mod EventLemmas
+pub mod PlanKept
+pub mod TableLemmas
+pub mod Readings
+pub mod Digits
+pub mod Lookups

@@ -1,0 +1,19 @@
+pub mod Plan
+pub mod Fields
+pub mod Streams
+pub mod Events
+pub mod Numbers
+pub mod Tables
+pub mod Rules
+pub use Plan.*
+pub use Fields.*
+pub use Streams.*
+unfoldable pub use Events.*
+pub use Numbers.*
+pub use Tables.*
+pub use Rules.*
+pub use Rattle.plan_file.specs.declared.entries.Ends.{Ends}
+pub use Rattle.plan_file.specs.declared.entries.PlanForm.{PlanForm}
+pub use Rattle.plan_file.specs.declared.entries.PlanStream.{PlanStream}
+pub use Rattle.plan_file.specs.declared.entries.PlanValues.{PlanValues}
+pub use Rattle.plan_file.specs.declared.events.PlanEvent.{PlanEvent}
