@@ -8,3 +8,7 @@ pub mod TableLemmas
 pub mod Readings
 pub mod Digits
 pub mod Lookups
+pub mod NetworkRead
+pub mod StreamsRead
+pub mod EventsRead
+pub mod ExpandLaw

@@ -5,6 +5,7 @@ pub mod Events
 pub mod Numbers
 pub mod Tables
 pub mod Rules
+pub mod Scenario
 pub use Plan.*
 pub use Fields.*
 pub use Streams.*
@@ -12,6 +13,7 @@ unfoldable pub use Events.*
 pub use Numbers.*
 pub use Tables.*
 pub use Rules.*
+pub use Scenario.*
 pub use Rattle.plan_file.specs.declared.entries.Ends.{Ends}
 pub use Rattle.plan_file.specs.declared.entries.PlanForm.{PlanForm}
 pub use Rattle.plan_file.specs.declared.entries.PlanStream.{PlanStream}

@@ -24,7 +24,8 @@
 //!
 //! `expanded` is the table that a plan stands for. `plan_scenario` reads it, so that its answer
 //! keeps the rules of a scenario, and `expanded_text` prints it: what is printed reads as that
-//! table.
+//! table. The law `plans_stand_for_scenarios` says that this table reads as `scenario_for`, which
+//! has exactly the plan's nodes, links, streams and events.
 //!
 //! A new key of a stream is a reader and a field of `PlanValues` (`src/forms.rt`), one line in
 //! `values_at` and a key in `sized_keys` and `audio_keys` (`specs/Streams.antt`), and where the
