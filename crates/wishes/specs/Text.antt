@@ -4,11 +4,10 @@ use Rattle.std.specs.{Option.option_map_or, Fmt.decimal}
 use Rattle.srp_base.specs.Text.{whole_of}
 use Rattle.topology_file.specs.declared.entries.StreamEntry.{StreamEntry}
 use Rattle.topology_file.specs.Plan.{Plan}
-use Rattle.world_core.specs.World.{WorldState}
 use Rattle.report_words.specs.{Names.name_of, Names.port_name, Words.yes_or_no}
 use Rattle.wishes.specs.declared.wish.{Answer.Answer, Wish.Wish}
 use Rattle.wishes.specs.declared.wish.Answer.TheVariants.{Granted, Refused, Silent}
-use Rattle.wishes.specs.Wishes.{grants, is_silent, refuses, wishes_in}
+use Rattle.wishes.specs.Wishes.{grants, is_silent, refuses}
 
 -- ---- the lines
 
@@ -110,10 +109,6 @@ abbrev pub lines_of : Plan → List Wish → List ℕ
 lines_of plan wishes = whole_of (
     counts_of wishes ∷ refused_lines plan wishes ∷ silent_lines plan wishes ∷ granted_lines plan wishes ∷ [])
 
--- of all wishes in a network for the streams of a scenario
-abbrev pub wishes_text : Plan → WorldState → List ℕ
-wishes_text plan w = lines_of plan (wishes_in plan w)
-
--- how many of them aren't granted
-abbrev pub ungranted_count : Plan → WorldState → ℕ
-ungranted_count plan w = count_that (λ answer. not (grants answer)) (wishes_in plan w)
+-- how many of some wishes aren't granted
+abbrev pub ungranted_in : List Wish → ℕ
+ungranted_in wishes = count_that (λ answer. not (grants answer)) wishes

@@ -1,7 +1,7 @@
 -- What the stations of a network want of its streams, and what came of it. A wish is a stream and a
 -- station that listens to it.
 use Rattle.std.specs.Prelude.{ℕ, ◌+◌, ◌-◌, ◌==◌, Bool, true, false, not, ◌&&◌, if◌then◌else◌, List, [], ◌∷◌, ◌++◌, length, map, filter, find, Option, Some, None, option_map, option_and_then}
-use Rattle.std.specs.{Option.option_map_or, List.list_all, List.range_with_len}
+use Rattle.std.specs.{Option.is_none, Option.option_map_or, List.list_all, List.range_with_len}
 use Rattle.srp_base.specs.declared.{numbers.BridgeId.BridgeId, numbers.EgressPort.EgressPort, numbers.NodeNo.NodeNo, numbers.StreamId.StreamId, streams.Failure.Failure, streams.TalkerReg.TalkerReg}
 use Rattle.srp_base.specs.declared.streams.TalkerReg.TheVariants.{Absent, Advertise, Failed}
 use Rattle.tree_topology.specs.Walk.{path_between}
@@ -84,9 +84,13 @@ answer_to w e l =
 
 -- ---- the wishes
 
+-- whether some station talks a stream
+abbrev pub is_talked : WorldState → StreamId → Bool
+is_talked w stream = not (is_none (talking_node w stream))
+
 -- that of a station for the stream whose entry has this place in the file
 abbrev pub wish_of : WorldState → ℕ → StreamEntry → NodeNo → Wish
-wish_of w place e l = record { stream = place; station = l; answer = answer_to w e l.0 }
+wish_of w place e l = record { stream = place; station = l; talked = is_talked w e.id; answer = answer_to w e l.0 }
 
 -- those for a stream, ascending by station
 abbrev pub stream_wishes : WorldState → ℕ → StreamEntry → List Wish

@@ -18,9 +18,9 @@
 //! network, each with what came of it, in the words of network_laws: what a station's application
 //! hears, and whether each egress port of the way from the Talker has booked the stream. So a wish
 //! is granted by what the network does, and none of it is what the file would have one expect.
-//! `wishes_text` (`specs/Text.antt`) is the text as a function of the same two. `laws` says that in
-//! a network at rest a wish is granted exactly where its application hears Ready, and in any network
-//! only where each port of its way has booked.
+//! `lines_of` (`specs/Text.antt`) is their text. `laws` says that in a network at rest a wish is
+//! granted exactly where its application hears Ready, and in any network only where each port of its
+//! way has booked.
 //!
 //! `doubts_text` (`specs/Doubts.antt`) has a line exactly where its fact holds, and `moments_of`
 //! (`specs/RunMoments.antt`) are functions of the networks at the ends of all ticks, of which a run
@@ -50,5 +50,5 @@ mod wish;
 
 pub use moments::{Moments, Span, run_with_moments};
 pub use outlook::outlook_text;
-pub use text::{not_granted, wishes_text};
+pub use text::{ungranted, wishes_text};
 pub use wish::{Answer, Wish, wishes_in};

@@ -4,7 +4,7 @@ ghost use Rattle.std.specs.Prelude.{◌≡◌, ◌++◌, option_map, IfOk, IfSom
 ghost use Rattle.std.specs.List.{AllByRecursion};
 ghost use Rattle.tree_topology.specs.Topology.{HasNode};
 ghost use Rattle.network_laws.specs.Streams.{is_listened_at, is_talked_at, talking_node};
-ghost use Rattle.wishes.specs.Wishes.{listeners, listeners_from};
+ghost use Rattle.wishes.specs.Wishes.{is_talked as is_talked_spec, listeners, listeners_from};
 
 use srp_base::{NoMemory, NodeNo, StreamId};
 use std::alloc::Global;
@@ -74,6 +74,13 @@ pub(crate) fn talking_station(world: &World, stream: StreamId) -> Option<NodeNo>
         }
     }
     None
+}
+
+/// Whether some station talks a stream.
+pub(crate) fn is_talked(world: &World, stream: StreamId) -> bool
+    ensures { result ≡ is_talked_spec world.now stream }
+{
+    !talking_station(world, stream).is_none()
 }
 
 // Whether a node is a station that talks a stream.

@@ -1,17 +1,16 @@
 //! What is printed of the wishes at the end of a run.
 
 ghost use Rattle.std.specs.Prelude.{◌≡◌, ◌++◌, not, IfOk, OnOk};
-ghost use Rattle.wishes.specs.Text.{count_that, counts_of, granted_by, granted_lines, lines_of, refused_by, refused_lines, silent_by, silent_lines, ungranted_count, wishes_text as wishes_text_spec};
+ghost use Rattle.wishes.specs.Text.{count_that, counts_of, granted_by, granted_lines, lines_of, refused_by, refused_lines, silent_by, silent_lines, ungranted_in};
 ghost use Rattle.wishes.specs.Wishes.{grants as grants_spec, is_silent as is_silent_spec, refuses as refuses_spec};
 
 use crate::lines::{Counts, put_counts, put_granted, put_refused, put_silent};
-use crate::wish::{Answer, Wish, wishes_in};
+use crate::wish::{Answer, Wish};
 use srp_base::NoMemory;
 use std::alloc::Global;
 use topology_file::Scenario;
-use world_core::Run;
 
-/// What came of each wish at the end of a run of a scenario, in octets. A wish is a stream and a
+/// What came of these wishes at the end of a run of a scenario, in octets. A wish is a stream and a
 /// station that listens to it then, in the order of the file's streams, then of the nodes. First
 /// how many there are, and how many of each kind; then those that are refused, with the port of the
 /// way from the Talker whose node the Talker Failed at the station's port names, the failure code
@@ -20,22 +19,19 @@ use world_core::Run;
 /// station's application hears nothing of the stream, or hears it and the way isn't booked whole;
 /// then those that are granted, each egress port of the way having booked the stream, with how many
 /// these are, and whether the stream's VID is registered at each of them.
-pub fn wishes_text(alloc: Global, scenario: &Scenario, run: &Run) -> Result<Vec<u8>, NoMemory>
-    ensures { IfOk result
-        (λ text. text.items ≡ wishes_text_spec scenario.now run.now.world) }
+pub fn wishes_text(alloc: Global, scenario: &Scenario, wishes: &[Wish]) -> Result<Vec<u8>, NoMemory>
+    ensures { IfOk result (λ text. text.items ≡ lines_of scenario.now wishes.now) }
 {
-    let wishes = wishes_in(alloc, scenario, &run.world)?;
     let mut out = Vec::new(alloc);
-    put_lines(&mut out, scenario, wishes.as_slice())?;
+    put_lines(&mut out, scenario, wishes)?;
     Ok(out)
 }
 
-/// How many wishes aren't granted at the end of a run of a scenario.
-pub fn not_granted(alloc: Global, scenario: &Scenario, run: &Run) -> Result<u64, NoMemory>
-    ensures { IfOk result (λ count. count ≡ ungranted_count scenario.now run.now.world) }
+/// How many of these wishes aren't granted.
+pub fn ungranted(wishes: &[Wish]) -> u64
+    ensures { result ≡ ungranted_in wishes.now }
 {
-    let wishes = wishes_in(alloc, scenario, &run.world)?;
-    Ok(count_ungranted(wishes.as_slice()) as u64)
+    count_ungranted(wishes) as u64
 }
 
 fn count_ungranted(wishes: &[Wish]) -> usize

@@ -5,7 +5,7 @@ ghost use Rattle.std.specs.List.{AllByRecursion};
 ghost use Rattle.tree_topology.specs.Topology.{HasNode, HasPort};
 ghost use Rattle.wishes.specs.Wishes.{answer_by, answer_to as answer_to_spec, shortfall as shortfall_spec, stream_wishes, way_to as way_to_spec, wish_of, wishes_in as wishes_in_spec};
 
-use crate::listeners::listeners_of;
+use crate::listeners::{is_talked, listeners_of};
 use crate::way::{are_registered, failure_of_listener, port_of_bridge, way_to};
 use network_laws::{Refusal, ready_on_path, refusal_shown};
 use srp_base::{EgressPort, Failure, NoMemory, NodeNo, StreamId};
@@ -46,6 +46,8 @@ pub struct Wish {
     pub stream: usize,
     /// The station.
     pub station: NodeNo,
+    /// Whether some station talks the stream.
+    pub talked: bool,
     /// What came of it.
     pub answer: Answer,
 }
@@ -113,6 +115,7 @@ fn wish_by(
     Ok(Wish {
         stream: place,
         station,
+        talked: is_talked(world, entry.id),
         answer,
     })
 }
