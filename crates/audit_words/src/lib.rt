@@ -12,7 +12,7 @@
 //!            legal: ..                              what it has
 //! ```
 //!
-//! `slip_of` tells the slip by the octets alone, `line_at` and `count_lines` find a line. Each text
+//! `slip_of` tells the slip by the octets alone, `line_at` finds a line. Each text
 //! is a definition of `specs/Words.antt` that its function has as its contract: which line is wrong
 //! and why, and which line is legal there, is for the audit to say. A line is shown in one line
 //! whatever its octets, and no more of it than the first 200.
@@ -26,6 +26,6 @@ mod shown;
 mod slips;
 mod words;
 
-pub use lines::{count_lines, line_at};
+pub use lines::line_at;
 pub use slips::{Slip, slip_of, slip_words};
 pub use words::{differing_text, illegal_text, unformed_text};

@@ -1,25 +1,11 @@
 //! The lines of an input.
 
-ghost use Rattle.std.specs.Prelude.{◌≡◌, Some, None, length, slice_get, IfOk, IfSome, IfNone};
+ghost use Rattle.std.specs.Prelude.{◌≡◌, Some, None, slice_get, IfOk, IfSome, IfNone};
 ghost use Rattle.journal_audit.specs.Texts.{lines_of};
 
 use journal_audit::first_line;
 use srp_base::{NoMemory, Seq};
 use std::alloc::Global;
-
-/// How many lines a text has.
-pub fn count_lines(text: &[u8]) -> u64
-    ensures { result ≡ length (lines_of text.now) }
-{
-    let mut rest = text;
-    let mut count = 0;
-    while !rest.is_empty() {
-        let (_, behind) = first_line(rest);
-        rest = behind;
-        count += 1;
-    }
-    count
-}
 
 /// The line of a text at a place, counted from 0; None where it has no more.
 pub fn line_at(alloc: Global, text: &[u8], place: u64) -> Result<Option<Seq<u8>>, NoMemory>

@@ -2,7 +2,7 @@
 
 ghost use Rattle.std.specs.Prelude.{◌≡◌, ◌≤◌, ◌++◌, ◌==◌, length, take, flat_map, OnOk};
 ghost use Rattle.std.specs.List.{list_any};
-ghost use Rattle.audit_words.specs.Shown.{shown_octet, shown_octets, shown_end, shown_line};
+ghost use Rattle.audit_words.specs.Shown.{shown_octet, shown_octets, shown_end, shown_line, most_whole as most_whole_spec};
 
 use report_words::put;
 use srp_base::NoMemory;
@@ -42,11 +42,19 @@ fn front_of(line: &[u8], count: usize) -> &[u8]
     front
 }
 
+// The most octets of a line that is shown whole: its line feed isn't shown.
+fn most_whole(feed: bool) -> usize
+    ensures most { result ≡ most_whole_spec feed }
+    ensures enough { 200 ≤ result }
+{
+    if feed { MOST_SHOWN + 1 } else { MOST_SHOWN }
+}
+
 // A line, or the first octets of a long one.
 fn put_front(out: &mut Vec<u8>, line: &[u8]) -> Result<(), NoMemory>
     ensures { OnOk result (out.new.items ≡ out.old.items ++ shown_octets line.now) }
 {
-    if MOST_SHOWN < line.len() {
+    if most_whole(has_feed(line)) < line.len() {
         put_each(out, front_of(line, MOST_SHOWN))?;
         put(out, " ..")
     } else {

@@ -19,6 +19,9 @@ pub enum Slip {
     NoCut,
     /// Nothing stands behind the cut: nothing was printed.
     NoOutput,
+    /// What stands behind the cut has no line `journal`, and one that a refused run says on its
+    /// error stream.
+    Refused,
     /// What stands behind the cut has no line `journal`: the report alone was printed.
     NoJournal,
 }
@@ -32,6 +35,17 @@ pub(crate) enum Sought {
     CutWithReturn,
     // The line `journal` with one.
     JournalWithReturn,
+    // One that a refused run says on its error stream.
+    ErrorLine,
+}
+
+// Whether a line ends with the cut.
+fn ends_with_cut(line: &[u8]) -> bool
+    ensures { result ≡ is_sought_spec Sought.JoinedCut line.now }
+{
+    line.ends_with(b"=== output\n")
+        || line.ends_with(b"=== output\r\n")
+        || line.ends_with(b"=== output")
 }
 
 // Whether a line is what is sought.
@@ -39,9 +53,11 @@ fn is_sought(sought: Sought, line: &[u8]) -> bool
     ensures { result ≡ is_sought_spec sought line.now }
 {
     match sought {
-        Sought::JoinedCut => line.ends_with(b"=== output\n") || line.ends_with(b"=== output"),
+        Sought::JoinedCut => ends_with_cut(line),
         Sought::CutWithReturn => line == b"=== output\r\n".as_slice(),
         Sought::JournalWithReturn => line == b"journal\r\n".as_slice(),
+        Sought::ErrorLine => line.starts_with(b"srpnet: rule ")
+            || line.starts_with(b"srpnet: not TOML"),
     }
 }
 
@@ -83,6 +99,8 @@ fn slip_behind(behind: &[u8]) -> Slip
         Slip::NoOutput
     } else if has_sought(Sought::JournalWithReturn, behind) {
         Slip::Returns
+    } else if has_sought(Sought::ErrorLine, behind) {
+        Slip::Refused
     } else {
         Slip::NoJournal
     }
@@ -114,6 +132,8 @@ pub fn slip_words(slip: Slip) -> &'static str
             "audit no\nwhy 1: no line is `=== output`\ncure: put that line between the plan and what was printed of it\n",
         Slip::NoOutput =>
             "audit no\nwhy 1: nothing stands behind `=== output`: the run printed nothing\ncure: see with `explain` whether the plan is refused, and run it again\n",
+        Slip::Refused =>
+            "audit no\nwhy 1: a line behind `=== output` is what a refused run says: the plan breaks a rule, or is no TOML\ncure: see with `explain` of the plan why it is refused, and run it again\n",
         Slip::NoJournal =>
             "audit no\nwhy 1: no line behind `=== output` is `journal`: `run` and `ports` print the report alone\ncure: print it by `run journal` or `ports journal`\n",
     }
