@@ -1,0 +1,5 @@
+pub mod BookingLemmas
+pub mod CutLemmas
+pub mod Documents
+pub mod Joining
+pub mod Runs
