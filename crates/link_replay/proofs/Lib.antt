@@ -3,3 +3,5 @@ pub mod Watching
 pub mod MomentLemmas
 pub mod RowLines
 pub mod Ways
+pub mod Ticking
+pub mod Timers

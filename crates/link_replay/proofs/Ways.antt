@@ -1,5 +1,5 @@
 -- A way holds what an observer of it would that saw the same.
-use Rattle.std.proofs.Common.{◌≡◌, ◌∙◌, suc, Bool, true, false, not, if◌then◌else◌, List, [], ◌∷◌, length, filter, refl, ap, sym, arith}
+use Rattle.std.proofs.Common.{◌≡◌, ◌∙◌, suc, Bool, true, false, not, if◌then◌else◌, List, [], ◌∷◌, map, filter, refl, ap, sym, arith}
 use Rattle.std.specs.Prelude.{Option, Some, None, Contains, ◌&&◌}
 use Rattle.std.specs.declared.cmp.Ordering.{Ordering}
 use Rattle.srp_base.specs.declared.{numbers.Cs.Cs, mrp.MrpEvent.MrpEvent}
@@ -9,7 +9,9 @@ use Rattle.registrar.specs.declared.Registrar.TheVariants.{Held, Leaving, Empty}
 use Rattle.registrar.specs.Table.{is_in}
 use Rattle.mrp_participant.specs.{Lookup.find, Row.registrar_of, State.State, State.Messages, State.received_state}
 use Rattle.link_replay.specs.Standing.{held_by, standing, is_standing, agrees}
-use Rattle.link_replay.specs.{Observer.Sight.Comes, Observer.Sight.Goes, seen_state, WayState, all_hearing_way, hearing_way, leave_all_way, is_broken, broken_count, begun_way, said_way}
+use Rattle.link_replay.specs.declared.lines.End.{End}
+use Rattle.link_replay.specs.declared.lines.End.TheVariants.{A, B}
+use Rattle.link_replay.specs.{Observer.Sight.Comes, Observer.Sight.Goes, seen_state, other_end, WayState, all_hearing_way, hearing_way, leave_all_way, is_broken, Ways, way_of, begun_way, said_way, ways_saying, is_word_broken, doubted}
 
 unbroken_by : (a b : Bool) → a ≡ true → (not a && b) ≡ false
 unbroken_by true b h = refl
@@ -53,17 +55,28 @@ module _ {K C : Type 0} (cmp : K → K → Ordering) where
       → is_broken cmp way e ≡ false
   unbroken way e h = unbroken_by _ _ (ap (agrees e.0) (let same = stands (find cmp e.1 way.observer.rows) in sym same) ∙ h)
 
-none : {X : Type 0} (test : X → Bool) (xs : List X) → ((x : X) → Contains xs x → test x ≡ false) → length (filter test xs) ≡ 0
-none test [] h = refl
-none test (x ∷ xs) h =
+-- none of some is taken where none passes a test
+none : {X Y : Type 0} (f : X → Y) (test : X → Bool) (xs : List X) → ((x : X) → Contains xs x → test x ≡ false) → map f (filter test xs) ≡ []
+none f test [] h = refl
+none f test (x ∷ xs) h =
     let here : test x ≡ false = h x (0, omega arith, refl) in
-    let rest : length (filter test xs) ≡ 0 = none test xs (λ y c. h y (suc c.0, (let low = c.1 in omega (arith, low)), c.2)) in
+    let rest : map f (filter test xs) ≡ [] = none f test xs (λ y c. h y (suc c.0, (let low = c.1 in omega (arith, low)), c.2)) in
     rw here rest
 
 module _ {K C : Type 0} (cmp : K → K → Ordering) where
-  pub none-broken : (way : WayState K C) (s : State K C) (events : List (MrpEvent × K × C)) → way.observer ≡ s
-      → ((e : MrpEvent × K × C) → Contains events e → agrees e.0 (is_standing (standing (find cmp e.1 s.rows))) ≡ true)
-      → broken_count cmp way events ≡ 0
-  none-broken way s events is agree =
-      none (is_broken cmp way) events (λ e c. unbroken cmp way e
-      (ap (λ (t : State K C). agrees e.0 (is_standing (standing (find cmp e.1 t.rows)))) is ∙ agree e c))
+  -- the way of which an end speaks, once it has said a list of messages
+  spoken-of : (at : Cs) (who : End) (m : Messages K C) (w : Ways K C)
+      → way_of (other_end who) (ways_saying cmp at who m w) ≡ begun_way cmp at m.leave_all (way_of (other_end who) w)
+  spoken-of at A m w = refl
+  spoken-of at B m w = refl
+
+  pub none-doubted : (at : Cs) (who : End) (w : Ways K C) (m : Messages K C) (s : State K C)
+      → (begun_way cmp at m.leave_all (way_of (other_end who) w)).observer ≡ s
+      → ((e : MrpEvent × K × C) → Contains m.events e → agrees e.0 (is_standing (standing (find cmp e.1 s.rows))) ≡ true)
+      → doubted cmp (ways_saying cmp at who m w) who m.events ≡ []
+  none-doubted at who w m s is agree =
+      none (λ e. (who, e)) (is_word_broken cmp (ways_saying cmp at who m w) who) m.events (λ e c.
+      unbroken cmp (way_of (other_end who) (ways_saying cmp at who m w)) e
+      (ap (λ (way : WayState K C). agrees e.0 (is_standing (standing (find cmp e.1 way.observer.rows)))) (spoken-of at who m w)
+      ∙ ap (λ (t : State K C). agrees e.0 (is_standing (standing (find cmp e.1 t.rows)))) is
+      ∙ agree e c))

@@ -1,89 +1,87 @@
--- Both ways over a link, of one application: what is printed of each PDU, and what becomes of the
--- ways.
-use Rattle.std.specs.Prelude.{ℕ, ◌+◌, Bool, if◌then◌else◌, List, [], ◌++◌}
+-- A link, of one application, from its PDUs: the ways over it, what is on its way there, and the words
+-- on registrars that disagree. What is said at one moment is with the other end at the next, and may
+-- cross what is said there: so a word is broken only where it disagrees behind that too.
+use Rattle.std.specs.Prelude.{ℕ, Bool, List, [], ◌∷◌, ◌++◌, length, map, filter, flat_map, fold}
 use Rattle.std.specs.declared.cmp.Ordering.{Ordering}
-use Rattle.srp_base.specs.{declared.numbers.Cs.Cs}
+use Rattle.srp_base.specs.declared.{numbers.Cs.Cs, mrp.MrpEvent.MrpEvent}
 use Rattle.mrp_participant.specs.State.{Messages}
 use Rattle.link_replay.specs.declared.lines.End.{End}
-use Rattle.link_replay.specs.declared.lines.End.TheVariants.{A, B}
-use Rattle.link_replay.specs.Way.{WayState, new_way, passing_text, passing_way, let_go_count, leave_all_text, leave_all_way, all_heard_text, all_hearing_way, words_text, broken_count}
+use Rattle.link_replay.specs.{Lines.other_end, Way.word_text, BothWays.Ways, BothWays.new_ways, BothWays.way_of, BothWays.ways_passing, BothWays.ways_saying, BothWays.ways_arriving, BothWays.is_word_broken, BothWays.said_text}
 
--- what each end declares, as it stands at the other
-pub record Ways (K C : Type 0) : Type 0 where
-  pub from_a : WayState K C
-  pub from_b : WayState K C
+-- the ways; the lists of messages that are on their way, in the order in which they were said, each
+-- with the end that said it; and the words that disagreed when they were said, each with its end
+pub record LinkState (K C : Type 0) : Type 0 where
+  pub ways : Ways K C
+  pub on_way : List (End × Messages K C)
+  pub kept : List (End × (MrpEvent × K × C))
 
--- of which nothing was seen yet
-abbrev pub new_ways : {K C : Type 0} → Cs → Ways K C
-new_ways leave_time = record { from_a = new_way A leave_time; from_b = new_way B leave_time }
-
--- the way from an end
-abbrev pub way_of : {K C : Type 0} → End → Ways K C → WayState K C
-way_of A w = w.from_a
-way_of B w = w.from_b
-
--- ---- time
+-- a link of which nothing was seen yet
+abbrev pub unseen_link : {K C : Type 0} → Cs → LinkState K C
+unseen_link leave_time = record { ways = new_ways leave_time; on_way = []; kept = [] }
 
 module _ {K C : Type 0} where
   -- after a moment
-  abbrev pub ways_passing : Cs → Ways K C → Ways K C
-  ways_passing at w = record { from_a = passing_way at w.from_a; from_b = passing_way at w.from_b }
+  abbrev pub link_passing : Cs → LinkState K C → LinkState K C
+  link_passing at l = record l { ways = ways_passing at l.ways }
 
--- ---- what becomes of the ways
+  -- once the words are judged
+  abbrev pub link_judged : LinkState K C → LinkState K C
+  link_judged l = record l { kept = [] }
+
+-- ---- what is said, what arrives, and which words are broken
 
 module _ {K C : Type 0} (cmp : K → K → Ordering) where
-  -- how much is let go at a moment
-  abbrev pub ways_let_go : Cs → Ways K C → ℕ
-  ways_let_go at w = let_go_count cmp at w.from_a + let_go_count cmp at w.from_b
+  -- the events of an end that disagree with its observer
+  abbrev pub doubted : Ways K C → End → List (MrpEvent × K × C) → List (End × (MrpEvent × K × C))
+  doubted w who events = map (λ e. (who, e)) (filter (is_word_broken cmp w who) events)
 
-  -- a way after a LeaveAll, where there is one
-  abbrev pub begun_way : Cs → Bool → WayState K C → WayState K C
-  begun_way at leave_all way = if leave_all then leave_all_way cmp at way else way
+  -- after an end says a list of messages: its own LeaveAll acts at once, then its words are looked at,
+  -- and all of it is on its way
+  abbrev pub link_saying : Cs → End → Messages K C → LinkState K C → LinkState K C
+  link_saying at who m l =
+      let ways = ways_saying cmp at who m l.ways in
+      record { ways = ways; on_way = l.on_way ++ ((who, m) ∷ []); kept = l.kept ++ doubted ways who m.events }
 
-  -- the way of the end that says a list of messages, after it
-  abbrev pub said_way : Cs → Messages K C → WayState K C → WayState K C
-  said_way at m way = all_hearing_way cmp at (begun_way at m.leave_all way) m.events
+  -- the ways after a list of messages of an end has arrived
+  abbrev pub said_arriving : Cs → Ways K C → End × Messages K C → Ways K C
+  said_arriving at w x = ways_arriving cmp at x.0 x.1 w
 
-  -- how many of its words on registrars are broken, which are about the way of the other end
-  abbrev pub judged_count : Cs → Messages K C → WayState K C → ℕ
-  judged_count at m way = broken_count cmp (begun_way at m.leave_all way) m.events
+  -- after some, in order
+  abbrev pub all_arriving : Cs → Ways K C → List (End × Messages K C) → Ways K C
+  all_arriving at w on_way = fold (said_arriving at) w on_way
 
-  -- how many words of a PDU of an end are
-  abbrev pub pdu_broken : Cs → End → Messages K C → Ways K C → ℕ
-  pdu_broken at A m w = judged_count at m w.from_b
-  pdu_broken at B m w = judged_count at m w.from_a
+  -- once all that is on its way has arrived
+  abbrev pub link_arriving : Cs → LinkState K C → LinkState K C
+  link_arriving at l = record l { ways = all_arriving at l.ways l.on_way; on_way = [] }
 
-  -- after a PDU of an end
-  abbrev pub after_pdu : Cs → End → Messages K C → Ways K C → Ways K C
-  after_pdu at A m w = record { from_a = said_way at m w.from_a; from_b = begun_way at m.leave_all w.from_b }
-  after_pdu at B m w = record { from_a = begun_way at m.leave_all w.from_a; from_b = said_way at m w.from_b }
+  -- whether a word that an end said disagrees
+  unfoldable pub is_kept_broken : Ways K C → End × (MrpEvent × K × C) → Bool
+  is_kept_broken w x = is_word_broken cmp w x.0 x.1
 
--- ---- what is printed of a LeaveAll
+  -- how many of the words are broken
+  abbrev pub link_broken : LinkState K C → ℕ
+  link_broken l = length (filter (is_kept_broken l.ways) l.kept)
 
-module _ {K C : Type 0} (key_text : K → List ℕ) where
-  -- of a LeaveAll, where there is one
-  abbrev pub begun_text : Cs → Bool → WayState K C → List ℕ
-  begun_text at leave_all way = if leave_all then leave_all_text key_text at way else []
-
--- ---- what is printed where time passes, and of words on registrars
+-- ---- what is printed of the words, which were said at a moment
 
 module _ {K C : Type 0} (cmp : K → K → Ordering) (key_text : K → List ℕ) where
-  -- on both ways
-  abbrev pub ways_passing_text : Cs → Ways K C → List ℕ
-  ways_passing_text at w = passing_text cmp key_text at w.from_a ++ passing_text cmp key_text at w.from_b
+  -- of a word that an end said
+  unfoldable pub kept_text : Cs → Ways K C → End × (MrpEvent × K × C) → List ℕ
+  kept_text at w x = word_text cmp key_text at (way_of (other_end x.0) w) x.1
 
-  -- on the way of the other end, whose attributes the words on registrars are about
-  abbrev pub judged_text : Cs → Messages K C → WayState K C → List ℕ
-  judged_text at m way = begun_text key_text at m.leave_all way ++ words_text cmp key_text at (begun_way cmp at m.leave_all way) m.events
+  -- of all of them
+  abbrev pub judging_text : Cs → LinkState K C → List ℕ
+  judging_text at l = flat_map (kept_text at l.ways) l.kept
 
--- ---- what is printed of a PDU
+-- ---- what is printed of what arrives
 
 module _ {K C : Type 0} (cmp : K → K → Ordering) (eq : C → C → Bool) (key_text : K → List ℕ) (content_text : C → List ℕ) where
-  -- on the way of the end that says a list of messages
-  abbrev pub said_text : Cs → Messages K C → WayState K C → List ℕ
-  said_text at m way = begun_text key_text at m.leave_all way ++ all_heard_text cmp eq key_text content_text at (begun_way cmp at m.leave_all way) m.events
+  -- of lists of messages, in order
+  abbrev pub all_arriving_text : Cs → Ways K C → List (End × Messages K C) → List ℕ
+  all_arriving_text at w [] = []
+  all_arriving_text at w (x ∷ on_way) =
+      said_text cmp eq key_text content_text at x.1 (way_of x.0 w) ++ all_arriving_text at (said_arriving cmp at w x) on_way
 
-  -- of a PDU of an end: first what it says of its registrars, and then what it declares
-  abbrev pub pdu_text : Cs → End → Messages K C → Ways K C → List ℕ
-  pdu_text at A m w = judged_text cmp key_text at m w.from_b ++ said_text at m w.from_a
-  pdu_text at B m w = judged_text cmp key_text at m w.from_a ++ said_text at m w.from_b
+  -- of all that is on its way
+  abbrev pub arriving_text : Cs → LinkState K C → List ℕ
+  arriving_text at l = all_arriving_text at l.ways l.on_way

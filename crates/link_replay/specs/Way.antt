@@ -1,31 +1,32 @@
 -- One way over a link: what one end declares, and how it stands at the other. What is printed of it
 -- and what becomes of it, by what is seen (IEEE Std 802.1Q-2018, 10.7). The words are this
 -- project's.
-use Rattle.std.specs.Prelude.{ℕ, Bool, true, false, not, ◌&&◌, ◌||◌, if◌then◌else◌, List, [], ◌∷◌, ◌++◌, length, filter, flat_map, fold, Option, Some}
+use Rattle.std.specs.Prelude.{◌≡◌, ◌<◌, ℕ, Bool, true, false, not, ◌&&◌, ◌||◌, if◌then◌else◌, List, [], ◌∷◌, ◌++◌, length, filter, flat_map, fold, Option, Some}
 use Rattle.std.specs.{declared.cmp.Ordering.Ordering, Option.option_eq}
 use Rattle.srp_base.specs.declared.{numbers.Cs.Cs, mrp.MrpEvent.MrpEvent}
 use Rattle.srp_base.specs.declared.mrp.MrpEvent.TheVariants.{New, JoinIn, OnlyIn, JoinMt, OnlyMt, Lv}
-use Rattle.attribute_propagation.specs.Dirty.{is_awaiting, with_key, without_key}
+use Rattle.attribute_propagation.specs.Dirty.{is_awaiting, with_key, without_key, all_marked}
 use Rattle.registrar.specs.declared.Registrar.{Registrar}
 use Rattle.registrar.specs.Table.{is_in}
 use Rattle.mrp_participant.specs.declared.row.Row.{Row}
 use Rattle.mrp_participant.specs.{Lookup.find, Row.registrar_of, Row.registered_in, State.State, State.after, State.left_keys, State.due_state, State.received_state}
 use Rattle.link_replay.specs.declared.lines.End.{End}
-use Rattle.link_replay.specs.{Standing.agrees, Observer.new_observer, Observer.own_leave_all_state, Lines.other_end, Lines.stands_line, Lines.leaves_line, Lines.gone_line, Lines.owes_line, Lines.let_go_line, Lines.word_line}
+use Rattle.link_replay.specs.{Standing.agrees, Standing.standing, Standing.Standing, Standing.Standing.Stands, Standing.Standing.Leaves, Standing.Standing.Gone, Moments.cs_cmp, Moments.is_up_to, Moments.later_than, Observer.new_observer, Observer.own_leave_all_state, Lines.other_end, Lines.stands_line, Lines.leaves_line, Lines.gone_line, Lines.owes_line, Lines.let_go_line, Lines.word_line}
 
--- the end that declares; the observer of the other; how long leave timers last; the keys of which
--- Lv was said last; and whether a LeaveAll of either end was seen, before which nothing is known of
--- what was declared earlier
+-- the end that declares; the observer of the other; how long leave timers last; the moments at which
+-- those end that were started; the keys of which Lv was said last; and whether a LeaveAll of either
+-- end was seen, before which nothing is known of what was declared earlier
 pub record WayState (K C : Type 0) : Type 0 where
   pub speaker : End
   pub observer : State K C
   pub leave_time : Cs
+  pub ends : List Cs
   pub withdrawn : List K
   pub known : Bool
 
 -- of which nothing was seen yet
 abbrev pub new_way : {K C : Type 0} → End → Cs → WayState K C
-new_way speaker leave_time = record { speaker = speaker; observer = new_observer leave_time; leave_time = leave_time; withdrawn = []; known = false }
+new_way speaker leave_time = record { speaker = speaker; observer = new_observer leave_time; leave_time = leave_time; ends = []; withdrawn = []; known = false }
 
 -- the keys of which Lv was said last, after an event of a key: a declaration takes it out
 abbrev pub withdrawn_by : {K : Type 0} → (K → K → Ordering) → MrpEvent → K → List K → List K
@@ -35,6 +36,16 @@ withdrawn_by cmp OnlyIn k keys = keys
 withdrawn_by cmp JoinMt k keys = without_key cmp k keys
 withdrawn_by cmp OnlyMt k keys = keys
 withdrawn_by cmp Lv k keys = with_key cmp k keys
+
+-- the moments at which leave timers end, after an event with which one that starts ends at a moment:
+-- Lv starts it
+abbrev pub ends_by : MrpEvent → Cs → List Cs → List Cs
+ends_by New until ends = ends
+ends_by JoinIn until ends = ends
+ends_by OnlyIn until ends = ends
+ends_by JoinMt until ends = ends
+ends_by OnlyMt until ends = ends
+ends_by Lv until ends = with_key cs_cmp until ends
 
 -- whether a registrar is IN with this content
 abbrev pub stands_as : {K C : Type 0} → (C → C → Bool) → C → Option (Row K C) → Bool
@@ -47,9 +58,13 @@ module _ {K C : Type 0} where
   abbrev pub until_of : Cs → WayState K C → Cs
   until_of at way = after at way.leave_time
 
-  -- after a moment
+  -- the moments up to this one at which leave timers end
+  abbrev pub ends_up_to : Cs → WayState K C → List Cs
+  ends_up_to at way = filter (is_up_to at) way.ends
+
+  -- after a moment: the leave timers have fired that are due
   abbrev pub passing_way : Cs → WayState K C → WayState K C
-  passing_way at way = record way { observer = due_state at way.observer }
+  passing_way at way = record way { observer = due_state at way.observer; ends = later_than at way.ends }
 
 -- ---- what becomes of a way
 
@@ -60,12 +75,17 @@ module _ {K C : Type 0} (cmp : K → K → Ordering) where
 
   -- after a LeaveAll of either end
   abbrev pub leave_all_way : Cs → WayState K C → WayState K C
-  leave_all_way at way = record way { observer = own_leave_all_state cmp at way.observer; known = true }
+  leave_all_way at way =
+      record way { observer = own_leave_all_state cmp at way.observer; ends = with_key cs_cmp (until_of at way) way.ends; known = true }
 
   -- after an event of the speaker
   abbrev pub hearing_way : Cs → WayState K C → MrpEvent × K × C → WayState K C
   hearing_way at way e =
-      record way { observer = received_state cmp at false (e ∷ []) way.observer; withdrawn = withdrawn_by cmp e.0 e.1 way.withdrawn }
+      record way {
+        observer = received_state cmp at false (e ∷ []) way.observer;
+        ends = ends_by e.0 (until_of at way) way.ends;
+        withdrawn = withdrawn_by cmp e.0 e.1 way.withdrawn;
+      }
 
   -- after some, in order
   abbrev pub all_hearing_way : Cs → WayState K C → List (MrpEvent × K × C) → WayState K C
@@ -79,10 +99,6 @@ module _ {K C : Type 0} (cmp : K → K → Ordering) where
   -- stands is no ground where an earlier declaration may not have been seen.
   abbrev pub is_broken : WayState K C → MrpEvent × K × C → Bool
   is_broken way e = not (agrees e.0 (is_held way e.1)) && (way.known || is_held way e.1)
-
-  -- how many of some words are
-  abbrev pub broken_count : WayState K C → List (MrpEvent × K × C) → ℕ
-  broken_count way events = length (filter (is_broken way) events)
 
 -- ---- what is printed of a LeaveAll, of either end
 
@@ -125,10 +141,6 @@ module _ {K C : Type 0} (cmp : K → K → Ordering) (key_text : K → List ℕ)
   word_text at way e =
       if is_broken cmp way e then word_line at (other_end way.speaker) e.0 (key_text e.1) (is_held cmp way e.1) else []
 
-  -- of all events of a list of messages
-  abbrev pub words_text : Cs → WayState K C → List (MrpEvent × K × C) → List ℕ
-  words_text at way events = flat_map (word_text at way) events
-
 -- ---- what is printed of what the speaker says
 
 module _ {K C : Type 0} (cmp : K → K → Ordering) (eq : C → C → Bool) (key_text : K → List ℕ) (content_text : C → List ℕ) where
@@ -150,3 +162,16 @@ module _ {K C : Type 0} (cmp : K → K → Ordering) (eq : C → C → Bool) (ke
   abbrev pub all_heard_text : Cs → WayState K C → List (MrpEvent × K × C) → List ℕ
   all_heard_text at way [] = []
   all_heard_text at way (e ∷ events) = heard_text at way e.0 e.1 e.2 ++ all_heard_text at (hearing_way cmp at way e) events
+
+-- ---- leave timers
+
+-- the leave timer of what stands of a key, where it runs, ends after a moment, and then is one of some
+-- moments
+abbrev pub IsEndKnown : {C : Type 0} → Cs → List Cs → Standing C → Type 0
+IsEndKnown at ends (Stands c) = Unit {0}
+IsEndKnown at ends (Leaves c until) = (at.0 < until.0) × (is_awaiting cs_cmp until ends ≡ true)
+IsEndKnown at ends Gone = Unit {0}
+
+-- so it is of each key of a way
+abbrev pub AreEndsKnown : {K C : Type 0} → (K → K → Ordering) → Cs → WayState K C → Type 0
+AreEndsKnown {K = K} cmp at way = (k : K) → IsEndKnown at way.ends (standing (find cmp k way.observer.rows))

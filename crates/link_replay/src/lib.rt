@@ -24,8 +24,24 @@
 //! want of memory an observer is as it was.
 //!
 //! A `Way` is one way over a link: from the end that declares, the speaker, to the observer of the
-//! other. A `LinkWatch` has both. What goes over the link, of one application, becomes lines
-//! (`specs/Lines.antt`), where T and U are moments in seconds:
+//! other. A `LinkWatch` has both, and what is on its way over them. A moment is in cs. What an end
+//! sends at a moment is with the other end at the next, whatever that end sends meanwhile: both may
+//! send in one hundredth of a second, each before it has what the other sent.
+//!
+//! ```text
+//!   moment t       says       a LeaveAll acts on the observer of the end that sends; a word on a
+//!                             registrar that disagrees with that observer is kept; all is on its way
+//!   moment t + 1   arrives    all that is on its way is with the other end
+//!                  judges     a word that is kept and disagrees still was broken when it was said
+//!   later moments  passes     leave timers fire, each at the moment at which it ends (`mark_ends`)
+//! ```
+//!
+//! A word is judged twice since a capture doesn't say in which order things went at an end within a
+//! hundredth of a second: one that agrees with what was there before, or with what came meanwhile, is
+//! no fault.
+//!
+//! What goes over the link, of one application, becomes lines (`specs/Lines.antt`), where T and U are
+//! moments in seconds:
 //!
 //! ```text
 //! T a>b KEY IN CONTENT              what a declares stands at b, or with another content
@@ -37,12 +53,16 @@
 //! T b says joinin KEY, none stands
 //! ```
 //!
-//! Each call's clauses say which ways there are after it (`specs/Way.antt`,
+//! Each call's clauses say which link there is after it (`specs/Way.antt`, `specs/BothWays.antt`,
 //! `specs/LinkWatch.antt`), exactly which lines it puts at the end of a text, and how many words
 //! are broken, or how many attributes are let go. The observer of a way is the one above: law
-//! `a_way_holds_what_was_seen`. No word of a participant of this project is broken where its
-//! observer has seen what it has: law `no_word_of_a_participant_is_broken`. After want of memory
-//! the text may have a part of the lines.
+//! `a_way_holds_what_was_seen`. No word of a participant of this project disagrees where its observer
+//! has seen what it has (`no_word_of_a_participant_disagrees`); and in a run of two participants that
+//! go by ticks, in which what goes out in one comes in in the next before the timers fire
+//! (`specs/Ticks.antt`), the observers hold after every tick what the registrars hold, and no word is
+//! ever broken (`no_word_is_broken_in_a_run`). No leave timer is late: each that runs ends at a moment
+//! that `mark_ends` tells (`each_timer_ends_at_a_known_moment`). After want of memory the text may
+//! have a part of the lines.
 //!
 //! A further thing that an end takes is a `Sight`, with its state in `seen_state`, what is seen of
 //! it in `sights` (`specs/Watch.antt`) and its case in `proofs/Watching.antt`. A further
@@ -52,6 +72,7 @@
 #![tactic(auto)]
 
 mod app;
+mod both_ways;
 pub mod laws;
 mod lines;
 mod link_watch;

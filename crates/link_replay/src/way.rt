@@ -5,8 +5,9 @@ ghost use Rattle.std.specs.Option.{option_map_or};
 ghost use Rattle.mrp_participant.specs.Lookup.{find};
 ghost use Rattle.mrp_participant.specs.Row.{registered_in};
 ghost use Rattle.mrp_participant.specs.State.{IsTime};
-ghost use Rattle.attribute_propagation.specs.Dirty.{is_awaiting};
-ghost use Rattle.link_replay.specs.Way.{new_way, stands_as, withdrawn_by, gone_text, passing_text, let_go_count, passing_way, owed_text, leaving_of, leaving_text, leave_all_text, leave_all_way, joining_text, withdrawing_text, heard_text, hearing_way, all_heard_text, all_hearing_way, is_held, is_broken, word_text, words_text, broken_count};
+ghost use Rattle.attribute_propagation.specs.Dirty.{is_awaiting, all_marked};
+ghost use Rattle.link_replay.specs.Moments.{cs_cmp, is_up_to, later_than as later_than_spec};
+ghost use Rattle.link_replay.specs.Way.{new_way, stands_as, withdrawn_by, ends_by, ends_up_to, gone_text, passing_text, let_go_count, passing_way, owed_text, leaving_of, leaving_text, leave_all_text, leave_all_way, joining_text, withdrawing_text, heard_text, hearing_way, all_heard_text, all_hearing_way, is_held, is_broken, word_text};
 
 use crate::app::WatchedApp;
 use crate::lines::{
@@ -28,6 +29,7 @@ pub struct Way<A: WatchedApp> {
     speaker: End,
     observer: Observer<A>,
     leave_time: Cs,
+    ends: Dirty<Cs>,
     withdrawn: Dirty<A::Key>,
     known: bool,
     alloc: Global,
@@ -43,6 +45,7 @@ impl<A: WatchedApp> Model for Way<A> {
       speaker = w.speaker;
       observer = w.observer;
       leave_time = w.leave_time;
+      ends = w.ends.keys;
       withdrawn = w.withdrawn.keys;
       known = w.known;
     } };
@@ -60,6 +63,7 @@ impl<A: WatchedApp> Way<A> {
             speaker,
             observer: Observer::new(alloc, leave_time),
             leave_time,
+            ends: Dirty::new(alloc),
             withdrawn: Dirty::new(alloc),
             known: false,
             alloc,
@@ -88,6 +92,15 @@ impl<A: WatchedApp> Way<A> {
         self.observer.key_at(index)
     }
 
+    /// Puts the moments up to this one at which leave timers end into a set. It has every such
+    /// moment of a timer that runs, and may have others of timers that were stopped.
+    pub(crate) fn mark_ends(&self, at: Cs, moments: &mut Dirty<Cs>) -> Result<(), NoMemory>
+        ensures { OnOk result (moments.new.keys
+            ≡ all_marked cs_cmp (ends_up_to at self.now) moments.old.keys) }
+    {
+        mark_up_to(moments, self.ends.as_slice(), at)
+    }
+
     /// Fires the leave timers that are due at a moment, in cs and below 2^62. Says which attributes
     /// stand no more, and which of them the speaker let go. Answers how many it let go.
     pub fn passes(&mut self, out: &mut String, at: Cs) -> Result<u64, NoMemory>
@@ -98,6 +111,7 @@ impl<A: WatchedApp> Way<A> {
         ensures count { IfOk result (λ n. n ≡ let_go_count A.Key.cmp at self.old) }
     {
         let keys = self.observer.passes(at)?;
+        self.ends = later_than(self.alloc, self.ends.as_slice(), at)?;
         self.write_all_gone(out, at, keys.as_slice())
     }
 
@@ -141,6 +155,7 @@ impl<A: WatchedApp> Way<A> {
     {
         self.write_all_leaving(out, at)?;
         self.observer.goes(at)?;
+        self.ends.mark(Cs(at.0 + self.leave_time.0))?;
         self.known = true;
         Ok(())
     }
@@ -241,7 +256,21 @@ impl<A: WatchedApp> Way<A> {
             events: Seq::from_vec(events),
         };
         self.observer.comes(at, &msgs)?;
+        self.mark_end(event.0, Cs(at.0 + self.leave_time.0))?;
         self.withdraw(event)
+    }
+
+    // Keeps that a leave timer ends at a moment, where an event starts one.
+    fn mark_end(&mut self, event: MrpEvent, until: Cs) -> Result<(), NoMemory>
+        ensures { OnOk result (self.new ≡ record self.old {
+          ends = ends_by event until self.old.ends;
+        }) }
+    {
+        match event {
+            MrpEvent::New | MrpEvent::JoinIn | MrpEvent::JoinMt => Ok(()),
+            MrpEvent::OnlyIn | MrpEvent::OnlyMt => Ok(()),
+            MrpEvent::Lv => self.ends.mark(until),
+        }
     }
 
     // Keeps of which keys Lv was said last.
@@ -327,28 +356,9 @@ impl<A: WatchedApp> Way<A> {
         Ok(write_leaves::<A>(out, at, self.speaker, key, until)?)
     }
 
-    /// Judges what the other end sent at a moment, by what it says of its registrars of the
-    /// speaker's attributes, where `leave_all` was told of its LeaveAll. Says which words are
-    /// broken, and answers how many.
-    pub fn judges(
-        &self,
-        out: &mut String,
-        at: Cs,
-        events: &[(MrpEvent, A::Key, A::Content)],
-    ) -> Result<u64, NoMemory>
-        ensures text { OnOk result (string_bytes out.new
-            ≡ string_bytes out.old ++ words_text A.Key.cmp A.key_text at self.now events.now) }
-        ensures count { IfOk result (λ n. n ≡ broken_count A.Key.cmp self.now events.now) }
-    {
-        let mut count: u64 = 0;
-        for event in events {
-            count += self.judge(out, at, *event)?;
-        }
-        Ok(count)
-    }
-
-    // Judges an event. Answers 1 where it is broken, else 0.
-    fn judge(
+    /// Judges an event that the other end said at a moment, by what it says of its registrar of an
+    /// attribute of the speaker. Says that it is broken, where it is; answers 1 then, else 0.
+    pub(crate) fn judge(
         &self,
         out: &mut String,
         at: Cs,
@@ -367,11 +377,39 @@ impl<A: WatchedApp> Way<A> {
         Ok(1)
     }
 
-    // Whether what is said isn't what the observer holds.
-    fn is_broken(&self, event: (MrpEvent, A::Key, A::Content)) -> bool
+    /// Whether an event that the other end says isn't what the observer holds.
+    pub(crate) fn is_broken(&self, event: (MrpEvent, A::Key, A::Content)) -> bool
         ensures { result ≡ is_broken A.Key.cmp self.now event }
     {
         let held = self.is_held(event.1);
         !self.observer.agrees(event.0, event.1) && (self.known || held)
     }
+}
+
+// Puts those of some moments that aren't after one into a set.
+fn mark_up_to(set: &mut Dirty<Cs>, moments: &[Cs], at: Cs) -> Result<(), NoMemory>
+    ensures { OnOk result (set.new.keys
+        ≡ all_marked cs_cmp (filter (is_up_to at) moments.now) set.old.keys) }
+{
+    for moment in moments {
+        if moment.0 > at.0 {
+            continue;
+        }
+        set.mark(*moment)?;
+    }
+    Ok(())
+}
+
+// Those of some moments that are after one.
+fn later_than(alloc: Global, moments: &[Cs], at: Cs) -> Result<Dirty<Cs>, NoMemory>
+    ensures { IfOk result (λ set. set.keys ≡ later_than_spec at moments.now) }
+{
+    let mut set = Dirty::new(alloc);
+    for moment in moments {
+        if moment.0 <= at.0 {
+            continue;
+        }
+        set.mark(*moment)?;
+    }
+    Ok(set)
 }

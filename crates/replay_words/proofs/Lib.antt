@@ -3,3 +3,4 @@ pub mod CutLemmas
 pub mod Documents
 pub mod Joining
 pub mod Runs
+pub mod UpTo

@@ -10,7 +10,7 @@ use Rattle.stream_importance.specs.{Bandwidth.slope_of_frames, Importance.class_
 use Rattle.attribute_propagation.specs.Dirty.{is_awaiting, all_marked}
 use Rattle.link_replay.specs.declared.lines.End.{End}
 use Rattle.link_replay.specs.declared.lines.End.TheVariants as ends
-use Rattle.link_replay.specs.{Moments.moment_text, Lines.other_end, Lines.end_name, LinkWatch.Ways, LinkWatch.way_of}
+use Rattle.link_replay.specs.{Moments.moment_text, Lines.other_end, Lines.end_name, BothWays.Ways, BothWays.way_of}
 use Rattle.mrp_participant.specs.{declared.row.Row.Row, Lookup.find, Row.registered_in}
 use Rattle.msrp.specs.{Part.key_cmp, Part.listener_kind_of, Stream.is_ready}
 use Rattle.msrp_codec.specs.declared.pdu.{MsrpKey.MsrpKey, MsrpContent.MsrpContent}
@@ -123,7 +123,7 @@ caps_text at who caps bookings =
 abbrev pub has_new : List Booking → List Booking → Bool
 has_new before after = list_any (λ b. not (is_awaiting booking_cmp b before)) after
 
--- of the bookings of the port at an end, before and after a frame: what is gone, what is new, and
+-- of the bookings of the port at an end, before and after what happens: what is gone, what is new, and
 -- where something is new what passes the caps
 unfoldable pub changes_text : Cs → End → Caps → List Booking → List Booking → List ℕ
 changes_text at who caps before after =
@@ -133,7 +133,7 @@ changes_text at who caps before after =
 
 -- ---- at both ends
 
--- of the ways before and after a frame
+-- of the ways before and after what happens
 abbrev pub followed_text : Cs → Caps → StreamWays → StreamWays → List ℕ
 followed_text at caps before after =
     changes_text at ends.A caps (bookings_of ends.A before) (bookings_of ends.A after)

@@ -1,5 +1,5 @@
 -- A file to be replayed to what is printed of it.
-use Rattle.std.specs.Prelude.{ℕ, List, [], ◌∷◌, Option, Some, None, Result, Ok, Err, string_bytes}
+use Rattle.std.specs.Prelude.{ℕ, List, [], ◌∷◌, ◌++◌, Option, Some, None, Result, Ok, Err, string_bytes}
 use Rattle.std.specs.declared.string.String.{String}
 use Rattle.srp_base.specs.{Results.◌>>=◌, Results.Gives, Text.whole_of}
 use Rattle.capture_file.specs.{Grammar.Outcome, Packets.Packet, Reading.reading}
@@ -8,14 +8,22 @@ use Rattle.stream_importance.specs.declared.slope.Caps.{Caps}
 use Rattle.toml_rules.specs.declared.rules.RuleErr.{RuleErr}
 use Rattle.toml_rules.specs.declared.rules.RuleErr.TheVariants as rules
 use Rattle.replay_words.specs.declared.{ends.Ends.Ends, head.Head.Head, error.ReplayErr.ReplayErr, error.ReplayErr.TheVariants.NoLine, error.ReplayErr.TheVariants.Rule, error.ReplayErr.TheVariants.NoMemory}
-use Rattle.replay_words.specs.{Cut.parts_of, Document.document, Document.or_not_toml, Head.head_of, Ends.ends_of, Seen.LinkSeen, Seen.new_seen, Seen.after_packets, Seen.packets_text, Seen.counts_text}
+use Rattle.replay_words.specs.{Cut.parts_of, Document.document, Document.or_not_toml, Head.head_of, Ends.ends_of, Seen.LinkSeen, Seen.new_seen, Seen.after_packets, Seen.packets_text, Seen.seen_arriving, Seen.arrived_text, Seen.counts_text}
 
 -- ---- a capture
 
+-- what is printed of some frames: of each, and of what is on its way behind the last; no timer fires
+-- any more
+unfoldable pub run_text : Caps → Ends → LinkSeen → List Packet → List ℕ
+run_text caps ends s ps = packets_text caps ends s ps ++ arrived_text caps (after_packets ends s ps)
+
+-- what was seen after them
+unfoldable pub after_run : Ends → LinkSeen → List Packet → LinkSeen
+after_run ends s ps = seen_arriving (after_packets ends s ps)
+
 -- what is printed of some frames, of the place where the file breaks off, and at the end
 abbrev pub frames_text : Caps → Ends → LinkSeen → List Packet × Option ℕ → List ℕ
-frames_text caps ends s x =
-    whole_of (packets_text caps ends s x.0 ∷ broken_line x.1 ∷ counts_text (after_packets ends s x.0).counts ∷ [])
+frames_text caps ends s x = whole_of (run_text caps ends s x.0 ∷ broken_line x.1 ∷ counts_text (after_run ends s x.0).counts ∷ [])
 
 -- what is printed of a capture, or why it is none
 unfoldable pub capture_text : Head → Outcome → List ℕ

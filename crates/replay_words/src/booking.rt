@@ -3,7 +3,7 @@
 ghost use Rattle.std.specs.Prelude.{◌≡◌, [], slice_get, option_to_list, Some, IfOk, OnOk};
 ghost use Rattle.std.specs.Option.{option_map_or};
 ghost use Rattle.attribute_propagation.specs.Dirty.{all_marked};
-ghost use Rattle.link_replay.specs.LinkWatch.{way_of};
+ghost use Rattle.link_replay.specs.BothWays.{way_of};
 ghost use Rattle.msrp.specs.Part.{listener_kind_of};
 ghost use Rattle.msrp.specs.Stream.{is_ready as is_ready_spec};
 ghost use Rattle.replay_words.specs.Bookings.{booking_cmp, booking_in as booking_in_spec, asked_by as asked_by_spec, booked_at, row_booked, bookings_of as bookings_of_spec};
@@ -42,7 +42,7 @@ pub(crate) fn bookings_of(
     who: End,
     watch: &LinkWatch<Streams>,
 ) -> Result<Dirty<Booking>, NoMemory>
-    ensures { IfOk result (λ set. set.keys ≡ bookings_of_spec who watch.now) }
+    ensures { IfOk result (λ set. set.keys ≡ bookings_of_spec who watch.now.ways) }
 {
     let mut set = Dirty::new(alloc);
     for i in 0..watch.rows(who) {
@@ -60,8 +60,8 @@ fn mark_row(
     i: usize,
 ) -> Result<(), NoMemory>
     ensures { OnOk result (set.new.keys ≡ all_marked booking_cmp
-        (option_map_or (row_booked watch.now who)
-        (slice_get (way_of who watch.now).observer.rows i) []) set.old.keys) }
+        (option_map_or (row_booked watch.now.ways who)
+        (slice_get (way_of who watch.now.ways).observer.rows i) []) set.old.keys) }
 {
     match watch.key_at(who, i) {
         Some(key) => mark_key(set, who, watch, key),
@@ -78,7 +78,7 @@ fn mark_key(
     key: MsrpKey,
 ) -> Result<(), NoMemory>
     ensures { OnOk result (set.new.keys
-        ≡ all_marked booking_cmp (booked_at watch.now who key) set.old.keys) }
+        ≡ all_marked booking_cmp (booked_at watch.now.ways who key) set.old.keys) }
 {
     match key {
         MsrpKey::Talker(stream) => mark_stream(set, who, watch, stream),
@@ -96,7 +96,7 @@ fn mark_stream(
     stream: StreamId,
 ) -> Result<(), NoMemory>
     ensures { OnOk result (set.new.keys
-        ≡ all_marked booking_cmp (booked_at watch.now who (MsrpKey.Talker stream)) set.old.keys) }
+        ≡ all_marked booking_cmp (booked_at watch.now.ways who (MsrpKey.Talker stream)) set.old.keys) }
 {
     if !is_ready(watch.registered(who.other(), MsrpKey::Listener(stream))) {
         return Ok(());

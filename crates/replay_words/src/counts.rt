@@ -1,7 +1,7 @@
 //! What is counted of a link.
 
 ghost use Rattle.std.specs.Prelude.{◌≡◌, ◌++◌, OnOk, string_bytes};
-ghost use Rattle.replay_words.specs.Seen.{no_counts, with_owed, with_frame, with_other, counts_text};
+ghost use Rattle.replay_words.specs.Seen.{no_counts, with_owed, with_broken, with_frame, with_other, counts_text};
 
 use std::alloc::AllocError;
 use std::fmt::Write;
@@ -11,8 +11,9 @@ use std::fmt::Write;
 pub struct Counts {
     /// The attributes that were let go.
     pub owed: u64,
-    /// The words on registrars that aren't what the observers hold, the streams of which one PDU
-    /// declares a Talker Advertise and a Talker Failed, and the malformed PDUs.
+    /// The words on registrars that aren't what the observers hold, neither when they are said nor
+    /// once what crosses them is there, the streams of which one PDU declares a Talker Advertise and
+    /// a Talker Failed, and the malformed PDUs.
     pub broken: u64,
     /// The frames of MRP of either end.
     pub frames: u64,
@@ -39,6 +40,16 @@ impl Counts {
     {
         Counts {
             owed: self.owed.saturating_add(more),
+            ..self
+        }
+    }
+
+    /// So many more words are broken.
+    pub(crate) fn with_broken(self, more: u64) -> Counts
+        ensures { result ≡ with_broken more self }
+    {
+        Counts {
+            broken: self.broken.saturating_add(more),
             ..self
         }
     }

@@ -19,7 +19,7 @@ pub enum ReplayErr {
     NotToml,
     /// The first rule that the head breaks; entry 0 is the head as a whole.
     #[error("rule {rule} entry {entry}")]
-    Rule { rule: u64, entry: u64 },
+    Rule { rule: u8, entry: u32 },
     /// Want of memory, which comes at any place.
     #[error("no memory")]
     NoMemory,
@@ -30,10 +30,7 @@ impl From<RuleErr> for ReplayErr {
 
     fn from(error: RuleErr) -> ReplayErr {
         match error {
-            RuleErr::Rule { rule, entry } => ReplayErr::Rule {
-                rule: u64::from(rule),
-                entry: u64::from(entry),
-            },
+            RuleErr::Rule { rule, entry } => ReplayErr::Rule { rule, entry },
             RuleErr::NoMemory => ReplayErr::NoMemory,
         }
     }

@@ -5,7 +5,7 @@ ghost use Rattle.capture_file.specs.Packets.{Packet};
 ghost use Rattle.stream_importance.specs.declared.slope.Caps.{Caps};
 ghost use Rattle.attribute_propagation.specs.Dirty.{is_awaiting};
 ghost use Rattle.link_replay.specs.declared.lines.End.{End};
-ghost use Rattle.link_replay.specs.LinkWatch.{way_of};
+ghost use Rattle.link_replay.specs.BothWays.{way_of};
 ghost use Rattle.replay_words.specs.Bookings.{StreamWays, booking_cmp, row_booked, bookings_of};
 ghost use Rattle.replay_words.specs.Seen.{LinkSeen, after_packet, after_packets, packets_text};
 

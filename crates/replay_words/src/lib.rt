@@ -11,15 +11,31 @@
 //!                        |                                 |
 //!                        caps, leave time, ends            by moment, in order
 //!                                                          v
-//!                        LinkSeen: the ways over the link of MVRP, of MSRP and of MMRP, and counts
+//!                        LinkSeen: the link of MVRP, of MSRP and of MMRP, each with its ways and what
+//!                        is on its way, and counts
 //! ```
 //!
 //! `replayed_text` has as its contract that its text is `replayed` of the octets (`specs/Replay`),
 //! and which of the causes without a text comes when; want of memory alone is free. A moment is
-//! that of the capture in cs, rounded down, and never falls. At each frame, MRP's or not, the leave
-//! timers fire that are due; then comes what the frame says, and then what followed. `specs/Seen`
-//! has this frame by frame, and each application's part in it is link_replay's (`specs/Watched`).
-//! T is a moment in seconds:
+//! that of the capture in cs, rounded down, and never falls. What an end sends at a moment is with the
+//! other end by the next: so PDUs of one cs may cross, or not. `specs/Seen` has what that makes of
+//! each frame:
+//!
+//! ```text
+//! a frame at t, behind one at s     where s < t, time goes on first:
+//!                                     all that was sent at s arrives at s + 1, application by
+//!                                     application, with what followed of the streams; the words
+//!                                     that disagreed at s are judged anew; then, at each moment up
+//!                                     to t at which leave timers end, they fire, with what followed
+//!                                   then the frame is seen: its LeaveAll acts at its own end, its
+//!                                   words are looked at, and what it says is on its way
+//! the end of the capture            what is on its way arrives and the words are judged, and no
+//!                                   timer fires any more
+//! ```
+//!
+//! A malformed PDU, one that the capture has cut, and a Talker that is declared twice in one PDU are
+//! told when they are seen. Each application's part in all this is link_replay's (`specs/Watched`). T
+//! is a moment in seconds; that of a broken word is the one at which it was said:
 //!
 //! ```text
 //! T a>b KEY IN CONTENT                    the lines of link_replay, where KEY is `vlan 2`, `group
@@ -45,10 +61,6 @@
 //! at the other end and a Listener Ready or Ready Failed at this one: what two ends that keep to the
 //! standard have booked. Where that passes a cap, an end granted more than it may.
 //!
-//! A PDU counts for the other end at once. PDUs that cross, as in a run of this core those of one
-//! tick do, were each said before the other came: a word in them may be told as broken where nothing
-//! is. So no command of the program prints this yet.
-//!
 //! A further application is a `WatchedApp` in `apps`, with its ways in `specs/Watched` and its
 //! reading in `watched`. A further key of the head is a rule in `specs/Head`, with its words in
 //! `specs/HeadKeys`. A further line is a definition in `specs/Lines` with its writer in `lines`, and
@@ -57,6 +69,8 @@
 
 mod apps;
 mod booking;
+#[cfg(test)]
+mod cases;
 mod counts;
 mod cut;
 mod document;

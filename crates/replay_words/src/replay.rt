@@ -3,17 +3,19 @@
 ghost use Rattle.std.specs.Prelude.{◌≡◌, ◌<◌, ◌^◌, ◌++◌, length, Ok, IfOk, OnOk, string_bytes};
 ghost use Rattle.std.specs.List.{AllByRecursion};
 ghost use Rattle.srp_base.specs.Results.{Gives};
-ghost use Rattle.capture_file.specs.Packets.{capture_in};
+ghost use Rattle.capture_file.specs.Packets.{capture_in, packets_in};
 ghost use Rattle.capture_file.specs.Reading.{reading};
 ghost use Rattle.mrp_participant.specs.State.{IsTime};
-ghost use Rattle.replay_words.specs.Replay.{capture_text, cause_told, replayed};
+ghost use Rattle.replay_words.specs.Replay.{run_text, after_run, capture_text, cause_told, replayed};
+ghost use Rattle.replay_words.specs.Seen.{new_seen};
 
+use crate::counts::Counts;
 use crate::cut::parts_of;
 use crate::ends::Ends;
 use crate::error::ReplayErr;
 use crate::head::{Head, head_in};
 use crate::seen::Link;
-use capture_file::{Capture, CaptureErr, read_capture};
+use capture_file::{Capture, CaptureErr, Record, read_capture};
 use pdu_words::write_broken;
 use srp_base::NoMemory;
 use std::alloc::Global;
@@ -73,8 +75,30 @@ fn write_capture(
 {
     let records = capture.records.as_slice();
     let ends = Ends::of(&head.ends, records);
-    let mut link = Link::new(alloc, head.leave_time);
-    link.takes(out, &head.caps, &ends, records)?;
+    let counts = write_run(alloc, out, head, &ends, records)?;
     write_broken(out, capture.broken)?;
-    Ok(link.counts().write(out)?)
+    Ok(counts.write(out)?)
+}
+
+// What is printed of some frames, and of what is on its way behind the last. Answers the counts.
+#[tactic(auto, unfolding(crate::specs::Replay::run_text, crate::specs::Replay::after_run))]
+fn write_run(
+    alloc: Global,
+    out: &mut String,
+    head: &Head,
+    ends: &Ends,
+    records: &[Record<'_>],
+) -> Result<Counts, NoMemory>
+    requires few { AllByRecursion (λ r. length r.octets.now < 2 ^ 32) records.now }
+    requires time { IsTime head.now.leave_time }
+    ensures text { OnOk result (string_bytes out.new ≡ string_bytes out.old
+        ++ run_text head.now.caps ends.now (new_seen head.now.leave_time)
+        (packets_in records.now)) }
+    ensures counts { IfOk result (λ counts. counts
+        ≡ (after_run ends.now (new_seen head.now.leave_time) (packets_in records.now)).counts) }
+{
+    let mut link = Link::new(alloc, head.leave_time);
+    link.takes(out, &head.caps, ends, records)?;
+    link.settle(out, &head.caps)?;
+    Ok(link.counts())
 }

@@ -1,12 +1,13 @@
 //! What was seen of a link, frame by frame.
 
-ghost use Rattle.std.specs.Prelude.{◌≡◌, ◌<◌, ◌≤◌, ◌-◌, ◌^◌, ◌++◌, min, length, IfOk, OnOk, string_bytes};
+ghost use Rattle.std.specs.Prelude.{◌≡◌, ◌<◌, ◌≤◌, ◌+◌, ◌^◌, ◌++◌, length, IfOk, OnOk, string_bytes};
 ghost use Rattle.std.specs.List.{AllByRecursion};
 ghost use Rattle.capture_file.specs.Packets.{packet_in, packets_in};
 ghost use Rattle.mrp_frames.specs.Frames.{seen_in, frame_in};
 ghost use Rattle.mrp_participant.specs.State.{IsTime};
-ghost use Rattle.replay_words.specs.Seen.{new_seen, moment_after, seen_passing, after_said, said_text, said_broken, seen_said, seen_from, from_text, seen_frame, frame_text, after_packet, packet_said, packet_text, after_packets, packets_text};
-ghost use Rattle.replay_words.specs.Watched.{watched_passing_text};
+ghost use Rattle.replay_words.specs.Bookings.{followed_text};
+ghost use Rattle.replay_words.specs.Seen.{new_seen, moment_after, next_cs, arrived, seen_arriving, arrived_text, seen_passing, passed_text, all_passing, all_passed_text, seen_later, later_text, seen_at, at_text, after_said, said_text, said_broken, seen_said, seen_from, from_text, seen_frame, frame_text, after_packet, packet_text, after_packets, packets_text};
+ghost use Rattle.replay_words.specs.Watched.{watched_arriving, watched_arriving_text, watched_passing_text};
 
 use crate::counts::Counts;
 use crate::ends::Ends;
@@ -39,16 +40,16 @@ impl Model for Link {
 
     ghost view = { λ l. record { at = l.at; watched = l.watches; counts = l.counts } };
 
-    ghost invariant = { λ l. l.at.0 < 2 ^ 62 };
+    ghost invariant = { λ l. l.at.0 < 2 ^ 61 };
 }
 
 // The moment of a frame, in cs: that of the capture, rounded down, or the one before it where that
 // is later.
 #[tactic(auto, unfolding(crate::specs::Seen::moment_after))]
 fn moment_after(before: Cs, record: &Record<'_>) -> Cs
-    requires { before.0 < 2 ^ 62 }
+    requires { before.0 < 2 ^ 61 }
     ensures moment { result ≡ moment_after before (packet_in record.now) }
-    ensures small { result.0 < 2 ^ 62 }
+    ensures small { result.0 < 2 ^ 61 }
 {
     let at = record.at_ns / 10_000_000;
     if at < before.0 { before } else { Cs(at) }
@@ -94,8 +95,8 @@ impl Link {
         Ok(())
     }
 
-    // Takes a captured frame, and says what followed.
-    #[tactic(auto, unfolding(crate::specs::Seen::packet_text))]
+    // Takes a captured frame, and the time up to it.
+    #[tactic(auto, unfolding(crate::specs::Seen::after_packet, crate::specs::Seen::packet_text))]
     fn take(
         &mut self,
         out: &mut String,
@@ -110,42 +111,87 @@ impl Link {
             ++ packet_text caps.now ends.now self.old (packet_in record.now)) }
     {
         let at = moment_after(self.at, record);
-        let before = self.watches.bookings()?;
-        self.take_at(out, ends, at, record)?;
-        let after = self.watches.bookings()?;
-        Ok(write_followed(out, at, caps, &before, &after)?)
-    }
-
-    // Takes a captured frame at its moment.
-    #[tactic(auto, unfolding(crate::specs::Seen::after_packet, crate::specs::Seen::packet_said, crate::specs::Seen::seen_passing))]
-    fn take_at(
-        &mut self,
-        out: &mut String,
-        ends: &Ends,
-        at: Cs,
-        record: &Record<'_>,
-    ) -> Result<(), NoMemory>
-        requires few { length record.now.octets.now < 2 ^ 32 }
-        requires at { at ≡ moment_after self.old.at (packet_in record.now) }
-        requires small { at.0 < 2 ^ 62 }
-        ensures seen { OnOk result (self.new
-            ≡ after_packet ends.now self.old (packet_in record.now)) }
-        ensures text { OnOk result (string_bytes out.new
-            ≡ string_bytes out.old ++ packet_said ends.now self.old (packet_in record.now)) }
-    {
-        self.pass(out, at)?;
+        self.reach(out, caps, at)?;
         self.take_frame(out, ends, at, record)
     }
 
-    // Lets time pass to a moment.
-    #[tactic(auto, unfolding(crate::specs::Seen::seen_passing))]
-    fn pass(&mut self, out: &mut String, at: Cs) -> Result<(), NoMemory>
-        requires { at.0 < 2 ^ 62 }
-        ensures seen { OnOk result (self.new ≡ seen_passing at self.old) }
+    // Lets time go on to a moment that may be later.
+    #[tactic(auto, unfolding(crate::specs::Seen::seen_at, crate::specs::Seen::at_text))]
+    fn reach(&mut self, out: &mut String, caps: &Caps, at: Cs) -> Result<(), NoMemory>
+        requires { at.0 < 2 ^ 61 }
+        ensures seen { OnOk result (self.new ≡ seen_at at self.old) }
         ensures text { OnOk result (string_bytes out.new
-            ≡ string_bytes out.old ++ watched_passing_text at self.old.watched) }
+            ≡ string_bytes out.old ++ at_text caps.now at self.old) }
     {
+        if at.0 <= self.at.0 {
+            return Ok(());
+        }
+        self.go_on(out, caps, at)
+    }
+
+    // Lets time go on to a later moment: what was said arrives, and then the leave timers fire that
+    // end by then, each at its own moment.
+    #[tactic(auto, unfolding(crate::specs::Seen::seen_later, crate::specs::Seen::later_text))]
+    fn go_on(&mut self, out: &mut String, caps: &Caps, at: Cs) -> Result<(), NoMemory>
+        requires { at.0 < 2 ^ 61 }
+        ensures seen { OnOk result (self.new ≡ seen_later at self.old) }
+        ensures text { OnOk result (string_bytes out.new
+            ≡ string_bytes out.old ++ later_text caps.now at self.old) }
+    {
+        self.settle(out, caps)?;
+        let moments = self.watches.ends(at)?;
+        self.pass_all(out, caps, at, moments.as_slice())?;
+        self.at = at;
+        Ok(())
+    }
+
+    /// Takes that all that is on its way is with the other end at the next moment, and judges the
+    /// words that disagreed when they were said. Says what followed.
+    #[tactic(auto, unfolding(crate::specs::Seen::seen_arriving, crate::specs::Seen::arrived_text))]
+    pub(crate) fn settle(&mut self, out: &mut String, caps: &Caps) -> Result<(), NoMemory>
+        ensures seen { OnOk result (self.new ≡ seen_arriving self.old) }
+        ensures text { OnOk result (string_bytes out.new
+            ≡ string_bytes out.old ++ arrived_text caps.now self.old) }
+    {
+        let next = Cs(self.at.0 + 1);
+        arrive(&mut self.watches, out, caps, next)?;
+        let broken = self.watches.judges(out, self.at)?;
+        self.counts = self.counts.with_broken(broken);
+        Ok(())
+    }
+
+    // Fires the leave timers that end at some moments, none of which is after one.
+    fn pass_all(
+        &mut self,
+        out: &mut String,
+        caps: &Caps,
+        at: Cs,
+        moments: &[Cs],
+    ) -> Result<(), NoMemory>
+        requires at { at.0 < 2 ^ 61 }
+        requires up_to { AllByRecursion (λ u. u.0 ≤ at.0) moments.now }
+        ensures seen { OnOk result (self.new ≡ all_passing self.old moments.now) }
+        ensures text { OnOk result (string_bytes out.new
+            ≡ string_bytes out.old ++ all_passed_text caps.now self.old moments.now) }
+    {
+        for moment in moments {
+            self.pass(out, caps, *moment)?;
+        }
+        Ok(())
+    }
+
+    // Fires the leave timers that end at a moment, and says what followed.
+    #[tactic(auto, unfolding(crate::specs::Seen::seen_passing, crate::specs::Seen::passed_text))]
+    fn pass(&mut self, out: &mut String, caps: &Caps, at: Cs) -> Result<(), NoMemory>
+        requires { at.0 < 2 ^ 61 }
+        ensures seen { OnOk result (self.new ≡ seen_passing self.old at) }
+        ensures text { OnOk result (string_bytes out.new
+            ≡ string_bytes out.old ++ passed_text caps.now self.old at) }
+    {
+        let before = self.watches.bookings()?;
         let let_go = self.watches.passes(out, at)?;
+        let after = self.watches.bookings()?;
+        write_followed(out, at, caps, &before, &after)?;
         self.at = at;
         self.counts = self.counts.with_owed(let_go);
         Ok(())
@@ -161,7 +207,7 @@ impl Link {
         record: &Record<'_>,
     ) -> Result<(), NoMemory>
         requires few { length record.now.octets.now < 2 ^ 32 }
-        requires at { at.0 < 2 ^ 62 }
+        requires at { at.0 < 2 ^ 61 }
         ensures seen { OnOk result (self.new ≡ seen_frame ends.now at (packet_in record.now)
             (frame_in (packet_in record.now)) self.old) }
         ensures text { OnOk result (string_bytes out.new ≡ string_bytes out.old
@@ -188,7 +234,7 @@ impl Link {
         who: Option<End>,
     ) -> Result<(), NoMemory>
         requires few { length frame.now.pdu.now < 2 ^ 32 }
-        requires at { at.0 < 2 ^ 62 }
+        requires at { at.0 < 2 ^ 61 }
         ensures seen { OnOk result (self.new
             ≡ seen_from at (packet_in record.now) (seen_in frame.now) who self.old) }
         ensures text { OnOk result (string_bytes out.new ≡ string_bytes out.old
@@ -215,22 +261,37 @@ impl Link {
         frame: &MrpFrame<'_>,
     ) -> Result<(), NoMemory>
         requires few { length frame.now.pdu.now < 2 ^ 32 }
-        requires at { at.0 < 2 ^ 62 }
+        requires at { at.0 < 2 ^ 61 }
         ensures seen { OnOk result (self.new
             ≡ seen_said at who (packet_in record.now) (seen_in frame.now) self.old) }
         ensures text { OnOk result (string_bytes out.new ≡ string_bytes out.old
             ++ said_text at who (packet_in record.now) (seen_in frame.now) self.old.watched) }
     {
-        let broken = hear(&mut self.watches, out, at, who, record, frame)?;
+        let broken = say(&mut self.watches, out, at, who, record, frame)?;
         self.counts = self.counts.with_frame(broken);
         Ok(())
     }
 }
 
+// Takes that all that is on its way is with the other end at a moment. Says what followed.
+fn arrive(watches: &mut Watches, out: &mut String, caps: &Caps, at: Cs) -> Result<(), NoMemory>
+    requires { at.0 < 2 ^ 62 }
+    ensures watched { OnOk result (watches.new ≡ watched_arriving at watches.old) }
+    ensures text { OnOk result (string_bytes out.new ≡ string_bytes out.old
+        ++ (watched_arriving_text at watches.old
+        ++ followed_text at caps.now watches.old.streams.ways
+        (watched_arriving at watches.old).streams.ways)) }
+{
+    let before = watches.bookings()?;
+    watches.arrives(out, at)?;
+    let after = watches.bookings()?;
+    Ok(write_followed(out, at, caps, &before, &after)?)
+}
+
 // Takes the PDU of a frame of an end, unless the capture has cut it. Answers how much of it is
-// broken.
+// broken in itself.
 #[tactic(auto, unfolding(crate::specs::Seen::after_said, crate::specs::Seen::said_text, crate::specs::Seen::said_broken))]
-fn hear(
+fn say(
     watches: &mut Watches,
     out: &mut String,
     at: Cs,
@@ -239,14 +300,12 @@ fn hear(
     frame: &MrpFrame<'_>,
 ) -> Result<u64, NoMemory>
     requires few { length frame.now.pdu.now < 2 ^ 32 }
-    requires at { at.0 < 2 ^ 62 }
+    requires at { at.0 < 2 ^ 61 }
     ensures watched { OnOk result (watches.new
         ≡ after_said at who (packet_in record.now) (seen_in frame.now) watches.old) }
     ensures text { OnOk result (string_bytes out.new ≡ string_bytes out.old
         ++ said_text at who (packet_in record.now) (seen_in frame.now) watches.old) }
-    ensures count { IfOk result (λ n. n ≡ min
-        (said_broken at who (packet_in record.now) (seen_in frame.now) watches.old)
-        (2 ^ 64 - 1)) }
+    ensures count { IfOk result (λ n. n ≡ said_broken (packet_in record.now) (seen_in frame.now)) }
 {
     let got = record.octets.len();
     let whole = record.whole;
@@ -254,5 +313,5 @@ fn hear(
         write_cut_pdu(out, at, who, frame.app, got, whole)?;
         return Ok(0);
     }
-    watches.hears(out, at, who, frame.app, frame.pdu)
+    watches.says(out, at, who, frame.app, frame.pdu)
 }

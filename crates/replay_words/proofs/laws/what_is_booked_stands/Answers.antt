@@ -1,6 +1,6 @@
 use Rattle.std.proofs.Common.{◌≡◌, ◌∙◌, Bool, true, false, [], refl}
 use Rattle.std.specs.Prelude.{◌||◌, flat_map}
-use Rattle.link_replay.specs.LinkWatch.{way_of}
+use Rattle.link_replay.specs.BothWays.{way_of}
 use Rattle.replay_words.specs.{row_booked, bookings_of}
 use Rattle.replay_words.proofs.laws.what_is_booked_stands.Goals as goal
 

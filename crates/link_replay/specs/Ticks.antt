@@ -1,0 +1,179 @@
+-- Two participants at the ends of a link that go by ticks, as a network of this project does, beside
+-- what is told of the link from their PDUs: in a tick each end takes what the other sent in the one
+-- before, its timers fire, and it sends (IEEE Std 802.1Q-2018, 10.7). Ticks are this project's.
+use Rattle.std.specs.Prelude.{◌≡◌, ℕ, ◌+◌, ◌&&◌, Bool, if◌then◌else◌, List, [], ◌∷◌, ◌++◌, map, fold}
+use Rattle.std.specs.declared.cmp.Ordering.{Ordering}
+use Rattle.srp_base.specs.declared.numbers.Cs.{Cs}
+use Rattle.attribute_propagation.specs.Dirty.{all_marked}
+use Rattle.mrp_participant.specs.State.{State, Messages, AreRows, new_state, declared_state, withdrawn_state, received_state, due_state, is_silent, sent_messages, sent_state}
+use Rattle.link_replay.specs.declared.lines.End.{End}
+use Rattle.link_replay.specs.declared.lines.End.TheVariants.{A, B}
+use Rattle.link_replay.specs.{Moments.cs_cmp, Watch.IsObserved, BothWays.ways_ends_up_to, LinkWatch.LinkState, LinkWatch.unseen_link, LinkWatch.link_saying, LinkWatch.link_arriving, LinkWatch.link_judged, LinkWatch.link_passing, LinkWatch.link_broken}
+
+-- what the user of a participant asks for
+pub data Ask (K C : Type 0) : Type 0 where
+  Declares : K → C → Ask K C
+  Withdraws : K → Ask K C
+
+-- what the user at an end asks for in a tick: before the end takes what came in, and before it sends
+pub record Asks (K C : Type 0) : Type 0 where
+  pub first : List (Ask K C)
+  pub later : List (Ask K C)
+
+-- a tick: its moment, and what is asked for at both ends
+pub record Tick (K C : Type 0) : Type 0 where
+  pub at : Cs
+  pub asks_a : Asks K C
+  pub asks_b : Asks K C
+
+-- the participants at the ends, and what each sent in the tick before
+pub record Pair (K C : Type 0) : Type 0 where
+  pub a : State K C
+  pub b : State K C
+  pub from_a : List (Messages K C)
+  pub from_b : List (Messages K C)
+
+-- two new participants, each with its period of LeaveAll and whether it is periodic; leave timers last
+-- as long at both
+abbrev pub new_pair : {K C : Type 0} → Cs → (a b : Cs × Bool) → Pair K C
+new_pair leave_time a b =
+    record { a = new_state a.0 leave_time a.1; b = new_state b.0 leave_time b.1; from_a = []; from_b = [] }
+
+-- ---- a tick at an end
+
+module _ {K C : Type 0} (base : ℕ) (octets : C → ℕ) (cmp : K → K → Ordering) (eq : C → C → Bool) where
+  -- a participant after something is asked for
+  abbrev pub asked : State K C → Ask K C → State K C
+  asked s (Declares k c) = declared_state cmp eq k c s
+  asked s (Withdraws k) = withdrawn_state cmp k s
+
+  -- after some lists of messages came in, in order
+  abbrev pub took : Cs → State K C → List (Messages K C) → State K C
+  took at s coming = fold (λ s m. received_state cmp at m.leave_all m.events s) s coming
+
+  -- when it comes to send
+  abbrev pub ready : Cs → Asks K C → List (Messages K C) → State K C → State K C
+  ready at asks coming s = fold asked (due_state at (took at (fold asked s asks.first) coming)) asks.later
+
+  -- what it sends then: one list of messages, where there is something to say
+  abbrev pub sent_in_tick : Cs → State K C → List (Messages K C)
+  sent_in_tick at s = if is_silent s then [] else sent_messages base octets cmp at s ∷ []
+
+  -- after it
+  abbrev pub after_tick : Cs → State K C → State K C
+  after_tick at s = if is_silent s then s else sent_state base octets cmp at s
+
+  -- ---- a tick of both ends, and what is told of it
+
+  -- the end a when it comes to send, and the end b
+  abbrev pub ready_a : Tick K C → Pair K C → State K C
+  ready_a t p = ready t.at t.asks_a p.from_b p.a
+
+  abbrev pub ready_b : Tick K C → Pair K C → State K C
+  ready_b t p = ready t.at t.asks_b p.from_a p.b
+
+  -- both ends after a tick
+  abbrev pub pair_after : Pair K C → Tick K C → Pair K C
+  pair_after p t =
+      record {
+        a = after_tick t.at (ready_a t p);
+        b = after_tick t.at (ready_b t p);
+        from_a = sent_in_tick t.at (ready_a t p);
+        from_b = sent_in_tick t.at (ready_b t p);
+      }
+
+  -- a link, from its PDUs, when it comes to a tick: what was said in the one before has arrived, the
+  -- words are judged, and the leave timers have fired
+  abbrev pub told_ready : Cs → LinkState K C → LinkState K C
+  told_ready at l = link_passing at (link_judged (link_arriving cmp at l))
+
+  -- after an end says some lists of messages
+  abbrev pub all_saying : Cs → End → LinkState K C → List (Messages K C) → LinkState K C
+  all_saying at who l sent = fold (λ l m. link_saying cmp at who m l) l sent
+
+  -- after a tick
+  abbrev pub told_after : Pair K C → LinkState K C → Tick K C → LinkState K C
+  told_after p l t =
+      all_saying t.at B (all_saying t.at A (told_ready t.at l) (sent_in_tick t.at (ready_a t p))) (sent_in_tick t.at (ready_b t p))
+
+  -- ---- runs
+
+  -- both ends, and what is told, after some ticks
+  abbrev pub run_after : Pair K C × LinkState K C → List (Tick K C) → Pair K C × LinkState K C
+  run_after x ticks = fold (λ x t. (pair_after x.0 t, told_after x.0 x.1 t)) x ticks
+
+  -- how many words are told as broken in them
+  abbrev pub run_broken : Pair K C × LinkState K C → List (Tick K C) → ℕ
+  run_broken x [] = 0
+  run_broken x (t ∷ ticks) =
+      link_broken cmp (link_arriving cmp t.at x.1) + run_broken (pair_after x.0 t, told_after x.0 x.1 t) ticks
+
+-- The observers hold what the registrars hold; what each end sent in the last tick is on its way; and
+-- no word disagreed with the observer of the end that said it.
+pub record IsTold {K C : Type 0} (cmp : K → K → Ordering) (x : Pair K C × LinkState K C) : Type 0 where
+  pub a_rows : AreRows cmp x.0.a.rows
+  pub b_rows : AreRows cmp x.0.b.rows
+  pub a : IsObserved cmp x.1.ways.from_b.observer x.0.a
+  pub b : IsObserved cmp x.1.ways.from_a.observer x.0.b
+  pub on_way : x.1.on_way ≡ map (λ m. (A, m)) x.0.from_a ++ map (λ m. (B, m)) x.0.from_b
+  pub kept : x.1.kept ≡ []
+
+-- ---- as a replay has it, which sees those ticks alone in which something is said
+
+-- a link, from its PDUs, and the moment of the last of them
+pub record Replayed (K C : Type 0) : Type 0 where
+  pub upto : Cs
+  pub link : LinkState K C
+
+-- no PDU was seen yet
+abbrev pub unseen : {K C : Type 0} → Cs → Replayed K C
+unseen leave_time = record { upto = record { 0 = 0 }; link = unseen_link leave_time }
+
+module _ {K C : Type 0} (base : ℕ) (octets : C → ℕ) (cmp : K → K → Ordering) (eq : C → C → Bool) where
+  -- the leave timers fire that end at some moments, in order
+  abbrev pub all_passing : LinkState K C → List Cs → LinkState K C
+  all_passing l moments = fold (λ l u. link_passing u l) l moments
+
+  -- what was said last is with the other end at the next moment
+  abbrev pub arrived : Replayed K C → LinkState K C
+  arrived r = link_arriving cmp (record { 0 = r.upto.0 + 1 }) r.link
+
+  -- time goes on to a later moment: that, the words are judged, and the leave timers fire that end by
+  -- then, each at its own moment
+  abbrev pub going_on : Cs → Replayed K C → LinkState K C
+  going_on at r = all_passing (link_judged (arrived r)) (all_marked cs_cmp (ways_ends_up_to at (arrived r).ways) [])
+
+  -- whether neither end says anything in a tick
+  abbrev pub is_quiet : Tick K C → Pair K C → Bool
+  is_quiet t p = is_silent (ready_a base octets cmp eq t p) && is_silent (ready_b base octets cmp eq t p)
+
+  -- after a tick in which something is said
+  abbrev pub said_after : Pair K C → Replayed K C → Tick K C → Replayed K C
+  said_after p r t =
+      record {
+        upto = t.at;
+        link = all_saying base octets cmp eq t.at B
+            (all_saying base octets cmp eq t.at A (going_on t.at r) (sent_in_tick base octets cmp eq t.at (ready_a base octets cmp eq t p)))
+            (sent_in_tick base octets cmp eq t.at (ready_b base octets cmp eq t p));
+      }
+
+  -- after a tick
+  abbrev pub replayed_after : Pair K C → Replayed K C → Tick K C → Replayed K C
+  replayed_after p r t = if is_quiet t p then r else said_after p r t
+
+  -- how many words are judged as broken when time goes on from the last PDU, of which there is one more
+  -- or the capture's end
+  abbrev pub broken_then : Replayed K C → ℕ
+  broken_then r = link_broken cmp (arrived r)
+
+  -- how many words a replay tells as broken, of some ticks and of the capture's end
+  abbrev pub replay_broken : Pair K C × Replayed K C → List (Tick K C) → ℕ
+  replay_broken x [] = broken_then x.1
+  replay_broken x (t ∷ ticks) =
+      (if is_quiet t x.0 then 0 else broken_then x.1)
+      + replay_broken (pair_after base octets cmp eq x.0 t, replayed_after x.0 x.1 t) ticks
+
+-- the ticks come one by one, and the first is at this moment
+abbrev pub AreTicksFrom : {K C : Type 0} → Cs → List (Tick K C) → Type 0
+AreTicksFrom at [] = Unit {0}
+AreTicksFrom at (t ∷ ticks) = (t.at ≡ at) × AreTicksFrom (record { 0 = at.0 + 1 }) ticks
