@@ -1,3 +1,4 @@
 pub mod DocumentLemmas
 pub mod SpotLemmas
 pub mod LineLemmas
+pub mod HeaderLemmas

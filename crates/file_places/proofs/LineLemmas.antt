@@ -1,12 +1,12 @@
 -- The first lines of a text, one line after the other.
 use Rattle.std.proofs.Common.{◌≡◌, ℕ, zero, suc, ◌+◌, ◌<◌, ◌≤◌, ◌-◌, Bool, true, false, List, [], ◌∷◌, ◌++◌, length, take, drop, if◌then◌else◌, append-nil, append_assoc, refl, sym, ap, ◌∙◌, inl, inr, arith}
 use Rattle.std.proofs.Math.Seq.{take-add}
-use Rattle.std.proofs.lemmas.{Bool.cases_lt, List.length-append, List.length-take, List.drop-drop, List.drop_all}
-use Rattle.file_places.specs.{first_line, first_lines, has_entries, is_feed}
+use Rattle.std.proofs.lemmas.{List.length-append, List.length-take, List.drop-drop}
+use Rattle.file_places.specs.{first_line, first_lines, is_feed}
 
 -- ---- one line
 
-line_front : (xs : List ℕ) → first_line xs ≡ take (length (first_line xs)) xs
+pub line_front : (xs : List ℕ) → first_line xs ≡ take (length (first_line xs)) xs
 line_front [] = refl
 line_front (c ∷ cs) = by (is_feed c) (line_front cs)
   where
@@ -64,38 +64,3 @@ next_end n end next xs is to =
 
 pub end_front : (n end : ℕ) (xs : List ℕ) → end ≡ length (first_lines n xs) → take end xs ≡ first_lines n xs
 end_front n end xs is = ap (λ (k : ℕ). take k xs) is ∙ sym (lines_front n xs)
-
--- behind the last line there is no more
-no_more : (k n : ℕ) (xs : List ℕ) → length xs ≤ length (first_lines n xs) → first_lines (k + n) xs ≡ first_lines n xs
-no_more zero n xs all = ap (λ (m : ℕ). first_lines m xs) (let e : 0 + n ≡ n = omega arith in e)
-no_more (suc k) n xs all =
-    let same = no_more k n xs all in
-    ap (λ (m : ℕ). first_lines m xs) (let e : suc k + n ≡ suc (k + n) = omega arith in e)
-    ∙ (lines_more (k + n) xs
-    ∙ (ap (λ (t : List ℕ). t ++ first_line (drop (length t) xs)) same
-    ∙ (ap (λ (t : List ℕ). first_lines n xs ++ first_line t) (drop_all (length (first_lines n xs)) xs all) ∙ append-nil (first_lines n xs))))
-
--- so where none of the lines up to the end has the entries, no lines have
-pub none_at_all : (array : List ℕ) (entry n : ℕ) (xs : List ℕ) → length xs ≤ length (first_lines n xs)
-    → ((m : ℕ) → m < n + 1 → has_entries array entry (first_lines m xs) ≡ false)
-    → (m : ℕ) → has_entries array entry (first_lines m xs) ≡ false
-none_at_all array entry n xs all none m =
-    elim (cases_lt m (n + 1)) [
-      | inl less ↦ none m less
-      | inr past ↦ (
-          let k = m - n in
-          let place : m ≡ k + n = omega arith in
-          ap (λ (j : ℕ). has_entries array entry (first_lines j xs)) place
-          ∙ (ap (has_entries array entry) (no_more k n xs all) ∙ none n (omega arith)))
-    ]
-
--- none up to some number, and none at the next
-pub none_more : (array : List ℕ) (entry n : ℕ) (xs : List ℕ) → ((m : ℕ) → m < n → has_entries array entry (first_lines m xs) ≡ false)
-    → has_entries array entry (first_lines n xs) ≡ false → (m : ℕ) → m < n + 1 → has_entries array entry (first_lines m xs) ≡ false
-none_more array entry n xs none here m less =
-    elim (cases_lt m n) [
-      | inl before ↦ none m before
-      | inr past ↦ (
-          let same : m ≡ n = omega arith in
-          ap (λ (j : ℕ). has_entries array entry (first_lines j xs)) same ∙ here)
-    ]

@@ -1,11 +1,11 @@
 -- In which line an entry of an array of tables begins.
-use Rattle.std.specs.Prelude.{◌≡◌, ◌<◌, ℕ, zero, suc, ◌==◌, Bool, true, false, if◌then◌else◌, List, [], ◌∷◌, ◌++◌, drop, length, codes}
+use Rattle.std.specs.Prelude.{ℕ, zero, suc, ◌-◌, ◌==◌, Bool, false, ◌&&◌, if◌then◌else◌, List, [], ◌∷◌, ◌++◌, drop, length, codes, Option, Some, None}
 use Rattle.std.specs.Option.{option_map_or}
 use Rattle.std.specs.Fmt.{decimal}
 use Rattle.srp_base.specs.Text.{whole_of}
 use Rattle.toml.specs.Data.{Members}
 use Rattle.toml_rules.specs.Fields.{tables}
-use Rattle.file_places.specs.{Document.document, Places.is_feed}
+use Rattle.file_places.specs.{Document.document, Headers.header_line, Places.is_feed}
 
 -- the first line of a text, with its line feed where it has one
 abbrev pub first_line : List ℕ → List ℕ
@@ -25,10 +25,21 @@ entries_are array n ms = option_map_or (λ entries. length entries == n) (tables
 abbrev pub has_entries : List ℕ → ℕ → List ℕ → Bool
 has_entries array n octets = option_map_or (entries_are array n) (document octets) false
 
--- so many lines are the fewest of a text that are a TOML document with so many entries
-pub record IsLineOfEntry (array : List ℕ) (entry : ℕ) (octets : List ℕ) (n : ℕ) : Type 0 where
-  pub has : has_entries array entry (first_lines n octets) ≡ true
-  pub least : (m : ℕ) → m < n → has_entries array entry (first_lines m octets) ≡ false
+-- the first lines, so many, are a document in which the array has so many entries, and without the
+-- last of them one in which it has one entry less
+abbrev pub is_begun : List ℕ → ℕ → List ℕ → ℕ → Bool
+is_begun array entry octets n =
+    has_entries array (entry - 1) (first_lines (n - 1) octets) && has_entries array entry (first_lines n octets)
+
+-- the line, where the entry begins with it
+abbrev pub if_begun : List ℕ → ℕ → List ℕ → Option ℕ → Option ℕ
+if_begun array entry octets None = None
+if_begun array entry octets (Some n) = if is_begun array entry octets n then Some n else None
+
+-- The line in which an entry of an array begins: that of its header, where the entry begins with
+-- it. An array that is written inline has no headers
+abbrev pub line_of_entry : List ℕ → ℕ → List ℕ → Option ℕ
+line_of_entry array entry octets = if_begun array entry octets (header_line array entry octets)
 
 -- `line: N`
 abbrev pub entry_line : ℕ → List ℕ

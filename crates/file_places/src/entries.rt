@@ -1,9 +1,10 @@
 //! In which line an entry begins.
 
-ghost use Rattle.std.specs.Prelude.{◌≡◌, ◌≤◌, ◌<◌, ◌+◌, ◌++◌, ℕ, false, drop, take, length, IfOk, IfSome, IfNone, OnOk};
+ghost use Rattle.std.specs.Prelude.{◌≡◌, ◌≤◌, ◌-◌, ◌++◌, take, length, Some, IfOk, OnOk};
 ghost use Rattle.toml.specs.View.{table_view};
-ghost use Rattle.file_places.specs.Entries.{entries_are as entries_are_spec, entry_line, first_line, first_lines, has_entries as has_entries_spec, IsLineOfEntry};
+ghost use Rattle.file_places.specs.Entries.{entries_are as entries_are_spec, entry_line, first_lines, has_entries as has_entries_spec, if_begun as if_begun_spec, is_begun as is_begun_spec, line_of_entry as line_of_entry_spec};
 
+use crate::headers::{Line, header_line};
 use crate::pieces::put;
 use srp_base::NoMemory;
 use std::alloc::Global;
@@ -51,49 +52,59 @@ fn has_until(
     has_entries(alloc, &octets[..end], array, count)
 }
 
-// The end of the line that begins at a place.
-fn line_end(octets: &[u8], from: usize) -> usize
-    requires { from < length octets.now }
-    ensures end { result ≡ from + length (first_line (drop from octets.now)) }
-    ensures further { from < result }
-    ensures within { result ≤ length octets.now }
+// Whether an entry begins with a line, which reads two documents.
+fn is_begun(
+    alloc: Global,
+    octets: &[u8],
+    array: &str,
+    entry: usize,
+    line: Line,
+) -> Result<bool, NoMemory>
+    requires start { line.start ≡ length (first_lines (line.number - 1) octets.now) }
+    requires end { line.end ≡ length (first_lines line.number octets.now) }
+    ensures { IfOk result (λ is. is ≡ is_begun_spec array.now entry octets.now line.number) }
 {
-    for at in from..octets.len() {
-        if octets[at] == b'\n' {
-            return at + 1;
-        }
-    }
-    octets.len()
+    let before = has_until(alloc, octets, line.start, array, entry.saturating_sub(1))?;
+    let with = has_until(alloc, octets, line.end, array, entry)?;
+    Ok(before & with)
 }
 
-/// The line in which an entry of an array of tables begins: the least number of lines that begin
-/// the file and are a TOML document in which the array has so many entries; None exactly where no
-/// number of lines is. It reads the file anew for each line up to there, so a caller does well to
-/// ask it of files of some thousand lines at most.
+// The line, where the entry begins with it.
+fn if_begun(
+    alloc: Global,
+    octets: &[u8],
+    array: &str,
+    entry: usize,
+    line: Line,
+) -> Result<Option<usize>, NoMemory>
+    requires start { line.start ≡ length (first_lines (line.number - 1) octets.now) }
+    requires end { line.end ≡ length (first_lines line.number octets.now) }
+    ensures { IfOk result (λ found. found
+        ≡ if_begun_spec array.now entry octets.now (Some line.number)) }
+{
+    if is_begun(alloc, octets, array, entry, line)? {
+        Ok(Some(line.number))
+    } else {
+        Ok(None)
+    }
+}
+
+/// The line in which an entry of an array of tables begins, both counted from 1: the line of its
+/// header `[[..]]`, where the lines up to it are a TOML document in which the array has so many
+/// entries, and those before it one in which it has one entry less; None where it isn't so, as of
+/// an array that is written inline. It reads two documents at most.
 pub fn line_of_entry(
     alloc: Global,
     octets: &[u8],
     array: &str,
     entry: usize,
 ) -> Result<Option<usize>, NoMemory>
-    ensures some { IfOk result (λ line. IfSome line
-        (IsLineOfEntry array.now entry octets.now)) }
-    ensures none { IfOk result (λ line. IfNone line ((n : ℕ)
-        → has_entries_spec array.now entry (first_lines n octets.now) ≡ false)) }
+    ensures { IfOk result (λ line. line ≡ line_of_entry_spec array.now entry octets.now) }
 {
-    if has_until(alloc, octets, 0, array, entry)? {
-        return Ok(Some(0));
+    match header_line(octets, array.as_bytes(), entry) {
+        Some(line) => if_begun(alloc, octets, array, entry, line),
+        None => Ok(None),
     }
-    let mut lines = 0;
-    let mut end = 0;
-    while end < octets.len() {
-        end = line_end(octets, end);
-        lines += 1;
-        if has_until(alloc, octets, end, array, entry)? {
-            return Ok(Some(lines));
-        }
-    }
-    Ok(None)
 }
 
 /// Puts the line of an entry's line at the end of a text.

@@ -2,26 +2,33 @@
 //! an entry begins that breaks a rule.
 //!
 //! ```text
-//!   octets --> toml's reader --> an error's span --> there: line 12 column 8: ..   toml_place
+//!   octets --> UTF-8? --> toml's reader --> an error's span --> there: line 12 column 8: ..
+//!                |
+//!                +------> the first octet that isn't -------> there: line 1 column 8: ..     toml_place
 //!
-//!   octets, "node", 3 --> the fewest first lines that are
-//!                         a document with 3 tables `node` --> line: 9               line_of_entry
+//!   octets, "node", 3 --> the third line that is a header [[node]] --> line: 9              line_of_entry
+//!                         if the lines up to it are a document with 3 tables `node`,
+//!                         and those before it one with 2
 //! ```
 //!
-//! A place's line is one more than there are line feeds before the start of the span, and its
-//! column one more than there are characters since the last of them (`specs/Places.antt`). That the
-//! span lies in the octets is a clause of the reader; what the words of its message say is not.
-//! They have no octet below 32, so that they stay on one line.
+//! A place's line is one more than there are line feeds before it, and its column one more than
+//! there are characters since the last of them, without the byte order mark (`specs/Places.antt`).
+//! Of octets that are UTF-8 it is the start of the span of the reader's error; that the span lies in
+//! the octets is a clause of the reader, and what the words of its message say is not. They have no
+//! octet below 32, so that they stay on one line. Of other octets it is the end of the longest front
+//! that is UTF-8.
 //!
-//! The line of an entry is the least number of lines that begin the file and are a TOML document in
-//! which the array has so many entries (`specs/Entries.antt`). Where the array is written inline,
-//! with all its entries, no number of lines may be.
+//! The line of an entry is that of its header (`specs/Headers.antt`), where the lines up to it are a
+//! document in which the array has so many entries, and those before it one in which it has one
+//! entry less (`specs/Entries.antt`): a line that only looks like a header, as in a text of several
+//! lines, isn't taken for one. An array that is written inline has no headers, and no line is told.
 //!
 //! A further word of a place is a field of `Place` with a line of `IsPlaceOf`, and a piece of
-//! `place_line`.
+//! `place_line`. A further spelling of a header is a case of `behind_header`.
 #![tactic(auto)]
 
 mod entries;
+mod headers;
 mod pieces;
 mod place;
 

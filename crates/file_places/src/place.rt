@@ -1,9 +1,10 @@
 //! Where a file isn't TOML.
 
-ghost use Rattle.std.specs.Prelude.{◌≡◌, ◌≤◌, ◌<◌, ◌+◌, ◌^◌, ◌++◌, true, None, take, length, All, IfOk, IfSome, IfNone, IsSome, OnOk};
+ghost use Rattle.std.specs.Prelude.{◌≡◌, ◌≤◌, ◌<◌, ◌+◌, ◌-◌, ◌^◌, ◌++◌, true, false, None, take, drop, length, slice_index, All, IfOk, IfSome, IfNone, IsSome, IsUtf8, OnOk};
+ghost use Rattle.std.specs.Str.{is_utf8, IsValidUpTo};
 ghost use Rattle.toml.specs.Errors.{IsMemory, IsWithin};
 ghost use Rattle.file_places.specs.Document.{document};
-ghost use Rattle.file_places.specs.Places.{is_printed as is_printed_spec, place_line, spot_behind as spot_behind_spec, spot_of as spot_of_spec, spot_words, starts_character as starts_character_spec, IsFaultPlace, IsPlaceOf};
+ghost use Rattle.file_places.specs.Places.{hex_digit as hex_digit_spec, is_printed as is_printed_spec, mark_length as mark_length_spec, place_line, spot_at as spot_at_spec, spot_behind as spot_behind_spec, spot_of as spot_of_spec, spot_words, starts_character as starts_character_spec, utf8_words, IsFaultPlace, IsPlaceOf, IsReadPlace, IsUtf8Place};
 
 use crate::pieces::{put, put_octets};
 use srp_base::{NoMemory, Seq};
@@ -70,6 +71,26 @@ fn spot_of(octets: &[u8], end: usize) -> Spot
     spot
 }
 
+/// The byte order mark, which an editor may write before a text and doesn't show.
+const MARK: [u8; 3] = [239, 187, 191];
+
+// How many octets the byte order mark has, where there is one.
+fn mark_length(octets: &[u8]) -> usize
+    ensures length { result ≡ mark_length_spec octets.now }
+    ensures within { result ≤ length octets.now }
+{
+    if octets.starts_with(&MARK) { 3 } else { 0 }
+}
+
+// The place behind the first octets of a text, so many, as an editor counts it.
+fn spot_at(octets: &[u8], end: usize) -> Spot
+    requires { end ≤ length octets.now }
+    ensures { result ≡ spot_at_spec octets.now end }
+{
+    let mark = mark_length(octets);
+    spot_of(&octets[mark..], end.saturating_sub(mark))
+}
+
 // The octets of a text that a line may have.
 fn printed_of(alloc: Global, text: &str) -> Result<Vec<u8>, NoMemory>
     ensures { IfOk result (λ v. All (λ c. is_printed_spec c ≡ true) v.items) }
@@ -94,31 +115,77 @@ fn place_of(alloc: Global, octets: &[u8], error: &Error) -> Result<Place, NoMemo
     };
     let printed = printed_of(alloc, error.message())?;
     Ok(Place {
-        spot: spot_of(octets, span.start),
+        spot: spot_at(octets, span.start),
         message: Seq::from_vec(printed),
     })
 }
 
-// The place of a reader's error, where that isn't want of memory.
-fn fault_place(alloc: Global, octets: &[u8], error: &Error) -> Result<Option<Place>, NoMemory>
+// The place of a reader's error of octets that are UTF-8, where that isn't want of memory.
+fn fault_place(alloc: Global, octets: &[u8], error: &Error) -> Result<Place, NoMemory>
+    requires utf8 { IsUtf8 octets.now }
     requires within { IsWithin octets.now error.now }
     requires refused { ¬ IsMemory error.now → document octets.now ≡ None }
+    ensures { IfOk result (IsFaultPlace octets.now) }
+{
+    let place = place_of(alloc, octets, error)?;
+    Ok(place)
+}
+
+// Where octets that are UTF-8 aren't TOML.
+fn text_place(alloc: Global, octets: &[u8], text: &str) -> Result<Option<Place>, NoMemory>
+    requires utf8 { IsUtf8 octets.now }
+    requires text { text.now ≡ octets.now }
     ensures none { IfOk result (λ place. IfNone place (IsSome (document octets.now))) }
     ensures some { IfOk result (λ place. IfSome place (IsFaultPlace octets.now)) }
 {
-    let place = place_of(alloc, octets, error)?;
-    Ok(Some(place))
+    match toml::table_from_str(alloc, text) {
+        Ok(_table) => Ok(None),
+        Err(error) => Ok(Some(fault_place(alloc, octets, &error)?)),
+    }
 }
 
-/// Where octets aren't TOML, or None exactly where they are a document: the line and the column of
-/// the start of the span of the reader's error, with the words of that error.
+// A hexadecimal digit.
+fn hex_digit(n: u8) -> u8
+    requires { n < 16 }
+    ensures { result ≡ hex_digit_spec n }
+{
+    if n < 10 { 48 + n } else { 87 + n }
+}
+
+// What is said of the first octet that isn't UTF-8.
+fn utf8_message(alloc: Global, octet: u8) -> Result<Vec<u8>, NoMemory>
+    ensures { IfOk result (λ v. v.items ≡ utf8_words octet) }
+{
+    let digits = [hex_digit(octet / 16), hex_digit(octet % 16)];
+    let mut words = Vec::new(alloc);
+    put(&mut words, "the octet 0x")?;
+    put_octets(&mut words, digits.as_slice())?;
+    put(&mut words, " isn't UTF-8")?;
+    Ok(words)
+}
+
+// The place at which octets stop being UTF-8.
+fn utf8_place(alloc: Global, octets: &[u8], valid: usize) -> Result<Place, NoMemory>
+    requires { IsValidUpTo octets.now valid }
+    ensures { IfOk result (IsUtf8Place octets.now) }
+{
+    let message = utf8_message(alloc, octets[valid])?;
+    Ok(Place {
+        spot: spot_at(octets, valid),
+        message: Seq::from_vec(message),
+    })
+}
+
+/// Where octets aren't TOML, or None exactly where they are a document: of octets that are UTF-8
+/// the line and the column of the start of the span of the reader's error, with the words of that
+/// error, and of others those of the first octet that isn't UTF-8.
 pub fn toml_place(alloc: Global, octets: &[u8]) -> Result<Option<Place>, NoMemory>
     ensures none { IfOk result (λ place. IfNone place (IsSome (document octets.now))) }
     ensures some { IfOk result (λ place. IfSome place (IsFaultPlace octets.now)) }
 {
-    match toml::table_from_slice(alloc, octets) {
-        Ok(_table) => Ok(None),
-        Err(error) => fault_place(alloc, octets, &error),
+    match std::str::from_utf8(octets) {
+        Ok(text) => text_place(alloc, octets, text),
+        Err(error) => Ok(Some(utf8_place(alloc, octets, error.valid_up_to())?)),
     }
 }
 

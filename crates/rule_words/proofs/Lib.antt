@@ -1,2 +1,3 @@
 pub mod FaultLemmas
 pub mod ValueLemmas
+pub mod SearchLemmas

@@ -3,7 +3,7 @@
 use Rattle.std.specs.Prelude.{ℕ, Bool, true, false, List, codes}
 use Rattle.rule_words.specs.declared.{forms.ValueForm.ValueForm, keys.Key.Key}
 use Rattle.rule_words.specs.declared.forms.ValueForm.TheVariants as forms
-use Rattle.rule_words.specs.declared.keys.Key.TheVariants.{Ticks, LeaveTime, Periodic, Domains, Nodes, Links, Streams, Events, Frames, Wants, Name, NodeKind, NodeId, NodeDomain, A, B, LinkRate, PortRate, DeltaA, DeltaB, Latency, StreamId, Talker, Dest, StreamOctets, IntervalFrames, StreamVid, Priority, Rank, Tick, EventKind, Station, EventVid, StreamName, From, To, Index, App, PduOctets, FrameOctets, At, Count, Every, WantStream, WantClass, WantTick}
+use Rattle.rule_words.specs.declared.keys.Key.TheVariants.{Ticks, LeaveTime, Periodic, Domains, Nodes, Links, Streams, Events, Frames, Wants, Name, NodeKind, NodeId, NodeDomain, A, B, LinkRate, PortRate, DeltaA, DeltaB, Latency, StreamId, Talker, Dest, StreamOctets, IntervalFrames, StreamVid, Priority, Rank, Tick, EventKind, Station, EventVid, StreamName, From, To, Index, App, PduOctets, FrameOctets, At, Count, Every, WantStream, WantClass, WantTick, GroupEventKind, Mac, Listeners, Channels, RateKhz, Bits, PlanFrames, PlanClass, PlanDest}
 
 -- the word of a key, as it stands in a file
 abbrev pub word_of : Key → List ℕ
@@ -53,6 +53,15 @@ word_of Every = codes "every"
 word_of WantStream = codes "stream"
 word_of WantClass = codes "class"
 word_of WantTick = codes "tick"
+word_of GroupEventKind = codes "kind"
+word_of Mac = codes "mac"
+word_of Listeners = codes "listeners"
+word_of Channels = codes "channels"
+word_of RateKhz = codes "rate_khz"
+word_of Bits = codes "bits"
+word_of PlanFrames = codes "frames"
+word_of PlanClass = codes "class"
+word_of PlanDest = codes "dest"
 
 -- what the value at a key has to be
 abbrev pub form_of : Key → ValueForm
@@ -102,6 +111,15 @@ form_of Every = forms.Number
 form_of WantStream = forms.Digits16
 form_of WantClass = forms.Class
 form_of WantTick = forms.Within 0 11999
+form_of GroupEventKind = forms.GroupKind
+form_of Mac = forms.Digits12
+form_of Listeners = forms.Names
+form_of Channels = forms.Within 1 120
+form_of RateKhz = forms.Khz
+form_of Bits = forms.Bits
+form_of PlanFrames = forms.Within 1 64
+form_of PlanClass = forms.Class
+form_of PlanDest = forms.Digits12
 
 -- whether a key has to be there; the others have a default
 abbrev pub is_needed : Key → Bool
@@ -126,4 +144,8 @@ is_needed Rank = false
 is_needed Count = false
 is_needed Every = false
 is_needed WantTick = false
+is_needed Bits = false
+is_needed PlanFrames = false
+is_needed PlanClass = false
+is_needed PlanDest = false
 is_needed _ = true

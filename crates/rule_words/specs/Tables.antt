@@ -1,7 +1,7 @@
 -- The tables of the files: which keys each may have.
 use Rattle.std.specs.Prelude.{Bool, true, false, List, [], ◌∷◌}
 use Rattle.rule_words.specs.declared.{keys.Key.Key, tables.TableForm.TableForm}
-use Rattle.rule_words.specs.declared.keys.Key.TheVariants.{Ticks, LeaveTime, Periodic, Domains, Nodes, Links, Streams, Events, Frames, Wants, Name, NodeKind, NodeId, NodeDomain, A, B, LinkRate, PortRate, DeltaA, DeltaB, Latency, StreamId, Talker, Dest, StreamOctets, IntervalFrames, StreamVid, Priority, Rank, Tick, EventKind, Station, EventVid, StreamName, From, To, Index, App, PduOctets, FrameOctets, At, Count, Every, WantStream, WantClass, WantTick}
+use Rattle.rule_words.specs.declared.keys.Key.TheVariants.{Ticks, LeaveTime, Periodic, Domains, Nodes, Links, Streams, Events, Frames, Wants, Name, NodeKind, NodeId, NodeDomain, A, B, LinkRate, PortRate, DeltaA, DeltaB, Latency, StreamId, Talker, Dest, StreamOctets, IntervalFrames, StreamVid, Priority, Rank, Tick, EventKind, Station, EventVid, StreamName, From, To, Index, App, PduOctets, FrameOctets, At, Count, Every, WantStream, WantClass, WantTick, GroupEventKind, Mac, Listeners, Channels, RateKhz, Bits, PlanFrames, PlanClass, PlanDest}
 use Rattle.rule_words.specs.declared.tables.TableForm.TheVariants as tables
 
 -- the keys that a table of this form may have, in the order in which they are read
@@ -25,6 +25,15 @@ keys_of tables.Port = PortRate ∷ DeltaA ∷ DeltaB ∷ Wants ∷ []
 keys_of tables.Shares = DeltaA ∷ DeltaB ∷ []
 keys_of tables.WantArray = Wants ∷ []
 keys_of tables.Want = WantStream ∷ WantClass ∷ Rank ∷ IntervalFrames ∷ FrameOctets ∷ WantTick ∷ []
+keys_of tables.Groups = Nodes ∷ Links ∷ Events ∷ Ticks ∷ LeaveTime ∷ Periodic ∷ []
+keys_of tables.Network = Nodes ∷ Links ∷ []
+keys_of tables.GroupTimers = LeaveTime ∷ Periodic ∷ []
+keys_of tables.AnyGroupEvent = Tick ∷ GroupEventKind ∷ []
+keys_of tables.MemberEvent = Tick ∷ GroupEventKind ∷ Station ∷ Mac ∷ []
+keys_of tables.Plan = Nodes ∷ Links ∷ Streams ∷ Domains ∷ []
+keys_of tables.PlanDomains = Domains ∷ []
+keys_of tables.SizedStream = Name ∷ Talker ∷ Listeners ∷ FrameOctets ∷ PlanFrames ∷ PlanClass ∷ StreamVid ∷ Rank ∷ NodeId ∷ PlanDest ∷ []
+keys_of tables.AudioStream = Name ∷ Talker ∷ Listeners ∷ Channels ∷ RateKhz ∷ Bits ∷ PlanFrames ∷ PlanClass ∷ StreamVid ∷ Rank ∷ NodeId ∷ PlanDest ∷ []
 
 -- whether a table of this form has no other keys; of the others only a part is looked at
 abbrev pub is_closed : TableForm → Bool
@@ -33,6 +42,10 @@ is_closed tables.Timers = false
 is_closed tables.AnyEvent = false
 is_closed tables.Shares = false
 is_closed tables.WantArray = false
+is_closed tables.Network = false
+is_closed tables.GroupTimers = false
+is_closed tables.AnyGroupEvent = false
+is_closed tables.PlanDomains = false
 is_closed _ = true
 
 -- the keys whose values, each right by itself, may be wrong together or beside the file's times
@@ -44,6 +57,10 @@ keys_together tables.TalkerEvent = Tick ∷ []
 keys_together tables.ListenerEvent = Tick ∷ []
 keys_together tables.PduEvent = Tick ∷ []
 keys_together tables.ForgeryEvent = Tick ∷ []
+keys_together tables.AnyGroupEvent = Tick ∷ []
+keys_together tables.MemberEvent = Tick ∷ []
+keys_together tables.Plan = Streams ∷ []
+keys_together tables.AudioStream = Channels ∷ RateKhz ∷ Bits ∷ PlanClass ∷ []
 keys_together tables.StreamFrame = At ∷ Count ∷ Every ∷ []
 keys_together tables.PairFrame = At ∷ Count ∷ Every ∷ []
 keys_together tables.Shares = DeltaA ∷ DeltaB ∷ []

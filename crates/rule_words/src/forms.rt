@@ -1,11 +1,12 @@
 //! What the value at a key has to be: a form, whether a value has it, and its words.
 
-ghost use Rattle.std.specs.Prelude.{◌≡◌, ◌++◌, IfOk, OnOk};
+ghost use Rattle.std.specs.Prelude.{◌≡◌, ◌++◌, Some, IfOk, OnOk};
 ghost use Rattle.std.specs.Option.{is_some};
 ghost use Rattle.toml.specs.View.{table_view};
 ghost use Rattle.topology_file.specs.{Entries.kind_of_text, Entries.domain_of_text, Kinds.app_of_text, Kinds.octets_of_text};
-ghost use Rattle.rule_words.specs.Forms.{class_is_known as class_is_known_spec, event_kind_is_known as event_kind_is_known_spec, passes as passes_spec, has_form as has_form_spec, fixed_words as fixed_words_spec, form_words as form_words_spec, range_words};
+ghost use Rattle.rule_words.specs.Forms.{class_is_known as class_is_known_spec, event_kind_is_known as event_kind_is_known_spec, group_kind_is_known as group_kind_is_known_spec, is_one_of, khz_rates, sample_bits, passes as passes_spec, has_form as has_form_spec, fixed_words as fixed_words_spec, form_words as form_words_spec, range_words};
 
+use crate::names::has_names;
 use crate::pieces::put;
 use hex::FromHexError;
 use srp_base::{NoMemory, Rate, read_hex12, read_hex16};
@@ -31,6 +32,10 @@ pub(crate) enum ValueForm {
     App,
     Class,
     Tables,
+    GroupKind,
+    Names,
+    Khz,
+    Bits,
 }
 
 // An end station or a bridge.
@@ -75,6 +80,12 @@ fn event_kind_is_known(word: &str) -> bool
             | "repeat"
             | "forge"
     )
+}
+
+fn group_kind_is_known(word: &str) -> bool
+    ensures { result ≡ group_kind_is_known_spec word.now }
+{
+    matches!(word, "join" | "part" | "lose" | "repeat")
 }
 
 /// The most digits of a PDU.
@@ -185,6 +196,47 @@ fn has_class(table: &Table, key: &str) -> bool
     }
 }
 
+fn has_group_kind(table: &Table, key: &str) -> bool
+    ensures { result ≡ has_form_spec ValueForm.GroupKind key.now (table_view table.now) }
+{
+    match text(table, key) {
+        Some(word) => group_kind_is_known(word),
+        None => false,
+    }
+}
+
+// Whether a rate of samples is one that plans have.
+fn is_khz(khz: u64) -> bool
+    ensures { result ≡ is_one_of khz_rates (Some khz) }
+{
+    khz == 48 || khz == 96 || khz == 192
+}
+
+fn has_khz(table: &Table, key: &str) -> bool
+    ensures { result ≡ has_form_spec ValueForm.Khz key.now (table_view table.now) }
+{
+    match number(table, key) {
+        Some(khz) => is_khz(khz),
+        None => false,
+    }
+}
+
+// Whether a sample may have so many bits.
+fn is_bits(bits: u64) -> bool
+    ensures { result ≡ is_one_of sample_bits (Some bits) }
+{
+    bits == 16 || bits == 24 || bits == 32
+}
+
+fn has_bits(table: &Table, key: &str) -> bool
+    ensures { result ≡ has_form_spec ValueForm.Bits key.now (table_view table.now) }
+{
+    match number(table, key) {
+        Some(bits) => is_bits(bits),
+        None => false,
+    }
+}
+
 /// Whether there is a value of this form at a key.
 pub(crate) fn has_form(
     alloc: Global,
@@ -209,6 +261,10 @@ pub(crate) fn has_form(
         ValueForm::App => Ok(has_app(table, key)),
         ValueForm::Class => Ok(has_class(table, key)),
         ValueForm::Tables => has_tables(alloc, table, key),
+        ValueForm::GroupKind => Ok(has_group_kind(table, key)),
+        ValueForm::Names => Ok(has_names(table, key)),
+        ValueForm::Khz => Ok(has_khz(table, key)),
+        ValueForm::Bits => Ok(has_bits(table, key)),
     }
 }
 
@@ -233,6 +289,12 @@ fn fixed_words(form: ValueForm) -> &'static str
         ValueForm::App => "mvrp or msrp, as a text",
         ValueForm::Class => "A or B, as a text",
         ValueForm::Tables => "an array of tables",
+        ValueForm::GroupKind => "join, part, lose or repeat, as a text",
+        ValueForm::Names => {
+            "an array of at least one text of 1 to 32 characters out of a to z, 0 to 9, - and _"
+        }
+        ValueForm::Khz => "48, 96 or 192",
+        ValueForm::Bits => "16, 24 or 32",
     }
 }
 

@@ -29,6 +29,7 @@ pub(crate) enum Key {
     Name,
     /// The keys of a node.
     NodeKind,
+    /// The identifier of a node, and the StreamID of a plan's stream.
     NodeId,
     /// The SRP domain of a node.
     NodeDomain,
@@ -65,7 +66,7 @@ pub(crate) enum Key {
     Index,
     App,
     PduOctets,
-    /// The octets of a frame, and of the frames of a want.
+    /// The octets of a frame, of the frames of a want, and of those of a plan's stream.
     FrameOctets,
     /// The moments of a frame's copies.
     At,
@@ -75,6 +76,18 @@ pub(crate) enum Key {
     WantStream,
     WantClass,
     WantTick,
+    /// The keys of an event of groups.
+    GroupEventKind,
+    Mac,
+    /// The keys of a plan's stream: who listens.
+    Listeners,
+    /// Its audio.
+    Channels,
+    RateKhz,
+    Bits,
+    PlanFrames,
+    PlanClass,
+    PlanDest,
 }
 
 /// The word of a key, as it stands in a file.
@@ -93,7 +106,7 @@ pub(crate) fn word_of(key: Key) -> &'static str
         Key::Frames => "frame",
         Key::Wants => "want",
         Key::Name => "name",
-        Key::NodeKind | Key::EventKind => "kind",
+        Key::NodeKind | Key::EventKind | Key::GroupEventKind => "kind",
         Key::NodeId | Key::StreamId => "id",
         Key::NodeDomain => "domain",
         Key::A => "a",
@@ -103,9 +116,9 @@ pub(crate) fn word_of(key: Key) -> &'static str
         Key::DeltaB => "delta_b",
         Key::Latency => "latency",
         Key::Talker => "talker",
-        Key::Dest => "dest",
+        Key::Dest | Key::PlanDest => "dest",
         Key::StreamOctets | Key::PduOctets | Key::FrameOctets => "octets",
-        Key::IntervalFrames => "frames",
+        Key::IntervalFrames | Key::PlanFrames => "frames",
         Key::StreamVid | Key::EventVid => "vid",
         Key::Priority => "priority",
         Key::Rank => "rank",
@@ -118,7 +131,12 @@ pub(crate) fn word_of(key: Key) -> &'static str
         Key::At => "at",
         Key::Count => "count",
         Key::Every => "every",
-        Key::WantClass => "class",
+        Key::WantClass | Key::PlanClass => "class",
+        Key::Mac => "mac",
+        Key::Listeners => "listeners",
+        Key::Channels => "channels",
+        Key::RateKhz => "rate_khz",
+        Key::Bits => "bits",
     }
 }
 
@@ -152,7 +170,7 @@ pub(crate) fn form_of(key: Key) -> ValueForm
             low: 0,
             high: 4_294_967_295,
         },
-        Key::Dest => ValueForm::Digits12,
+        Key::Dest | Key::PlanDest | Key::Mac => ValueForm::Digits12,
         Key::StreamOctets | Key::IntervalFrames | Key::Index => ValueForm::Within {
             low: 0,
             high: 65_535,
@@ -175,11 +193,17 @@ pub(crate) fn form_of(key: Key) -> ValueForm
             low: 1,
             high: 100_000,
         },
-        Key::WantClass => ValueForm::Class,
+        Key::WantClass | Key::PlanClass => ValueForm::Class,
         Key::WantTick => ValueForm::Within {
             low: 0,
             high: 11_999,
         },
+        Key::GroupEventKind => ValueForm::GroupKind,
+        Key::Listeners => ValueForm::Names,
+        Key::Channels => ValueForm::Within { low: 1, high: 120 },
+        Key::RateKhz => ValueForm::Khz,
+        Key::Bits => ValueForm::Bits,
+        Key::PlanFrames => ValueForm::Within { low: 1, high: 64 },
     }
 }
 
@@ -208,7 +232,11 @@ pub(crate) fn is_needed(key: Key) -> bool
         | Key::Rank
         | Key::Count
         | Key::Every
-        | Key::WantTick => false,
+        | Key::WantTick
+        | Key::Bits
+        | Key::PlanFrames
+        | Key::PlanClass
+        | Key::PlanDest => false,
         _ => true,
     }
 }

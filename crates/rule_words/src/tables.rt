@@ -46,6 +46,24 @@ pub(crate) enum TableForm {
     WantArray,
     /// A want.
     Want,
+    /// A file of groups.
+    Groups,
+    /// A file of groups or a plan, as far as its nodes and links are arrays.
+    Network,
+    /// A file of groups, as far as the times of MRP go.
+    GroupTimers,
+    /// An event of groups of no known kind.
+    AnyGroupEvent,
+    /// An event of a group at a station.
+    MemberEvent,
+    /// A plan.
+    Plan,
+    /// A plan, as far as its domains go.
+    PlanDomains,
+    /// A plan's stream of so many octets.
+    SizedStream,
+    /// A plan's stream of audio.
+    AudioStream,
 }
 
 const TIMES_KEYS: [Key; 1] = [Key::Ticks];
@@ -142,6 +160,55 @@ const WANT_KEYS: [Key; 6] = [
     Key::WantTick,
 ];
 
+const GROUPS_KEYS: [Key; 6] = [
+    Key::Nodes,
+    Key::Links,
+    Key::Events,
+    Key::Ticks,
+    Key::LeaveTime,
+    Key::Periodic,
+];
+
+const NETWORK_KEYS: [Key; 2] = [Key::Nodes, Key::Links];
+
+const GROUP_TIMERS_KEYS: [Key; 2] = [Key::LeaveTime, Key::Periodic];
+
+const ANY_GROUP_EVENT_KEYS: [Key; 2] = [Key::Tick, Key::GroupEventKind];
+
+const MEMBER_EVENT_KEYS: [Key; 4] = [Key::Tick, Key::GroupEventKind, Key::Station, Key::Mac];
+
+const PLAN_KEYS: [Key; 4] = [Key::Nodes, Key::Links, Key::Streams, Key::Domains];
+
+const PLAN_DOMAINS_KEYS: [Key; 1] = [Key::Domains];
+
+const SIZED_STREAM_KEYS: [Key; 10] = [
+    Key::Name,
+    Key::Talker,
+    Key::Listeners,
+    Key::FrameOctets,
+    Key::PlanFrames,
+    Key::PlanClass,
+    Key::StreamVid,
+    Key::Rank,
+    Key::NodeId,
+    Key::PlanDest,
+];
+
+const AUDIO_STREAM_KEYS: [Key; 12] = [
+    Key::Name,
+    Key::Talker,
+    Key::Listeners,
+    Key::Channels,
+    Key::RateKhz,
+    Key::Bits,
+    Key::PlanFrames,
+    Key::PlanClass,
+    Key::StreamVid,
+    Key::Rank,
+    Key::NodeId,
+    Key::PlanDest,
+];
+
 /// The keys that a table of this form may have, in the order in which they are read.
 pub(crate) fn keys_of(form: TableForm) -> &'static [Key]
     ensures { result.now ≡ keys_of_spec form }
@@ -166,6 +233,15 @@ pub(crate) fn keys_of(form: TableForm) -> &'static [Key]
         TableForm::Shares => SHARES_KEYS.as_slice(),
         TableForm::WantArray => WANT_ARRAY_KEYS.as_slice(),
         TableForm::Want => WANT_KEYS.as_slice(),
+        TableForm::Groups => GROUPS_KEYS.as_slice(),
+        TableForm::Network => NETWORK_KEYS.as_slice(),
+        TableForm::GroupTimers => GROUP_TIMERS_KEYS.as_slice(),
+        TableForm::AnyGroupEvent => ANY_GROUP_EVENT_KEYS.as_slice(),
+        TableForm::MemberEvent => MEMBER_EVENT_KEYS.as_slice(),
+        TableForm::Plan => PLAN_KEYS.as_slice(),
+        TableForm::PlanDomains => PLAN_DOMAINS_KEYS.as_slice(),
+        TableForm::SizedStream => SIZED_STREAM_KEYS.as_slice(),
+        TableForm::AudioStream => AUDIO_STREAM_KEYS.as_slice(),
     }
 }
 
@@ -178,7 +254,11 @@ pub(crate) fn is_closed(form: TableForm) -> bool
         | TableForm::Timers
         | TableForm::AnyEvent
         | TableForm::Shares
-        | TableForm::WantArray => false,
+        | TableForm::WantArray
+        | TableForm::Network
+        | TableForm::GroupTimers
+        | TableForm::AnyGroupEvent
+        | TableForm::PlanDomains => false,
         _ => true,
     }
 }
@@ -188,6 +268,10 @@ const SHARES: [Key; 2] = [Key::DeltaA, Key::DeltaB];
 const MOMENT: [Key; 1] = [Key::Tick];
 
 const COPIES: [Key; 3] = [Key::At, Key::Count, Key::Every];
+
+const STREAMS: [Key; 1] = [Key::Streams];
+
+const AUDIO: [Key; 4] = [Key::Channels, Key::RateKhz, Key::Bits, Key::PlanClass];
 
 const NONE: [Key; 0] = [];
 
@@ -202,8 +286,12 @@ pub(crate) fn keys_together(form: TableForm) -> &'static [Key]
         | TableForm::TalkerEvent
         | TableForm::ListenerEvent
         | TableForm::PduEvent
-        | TableForm::ForgeryEvent => MOMENT.as_slice(),
+        | TableForm::ForgeryEvent
+        | TableForm::AnyGroupEvent
+        | TableForm::MemberEvent => MOMENT.as_slice(),
         TableForm::StreamFrame | TableForm::PairFrame => COPIES.as_slice(),
+        TableForm::Plan => STREAMS.as_slice(),
+        TableForm::AudioStream => AUDIO.as_slice(),
         _ => NONE.as_slice(),
     }
 }

@@ -100,8 +100,8 @@ fn put_integer(out: &mut Vec<u8>, number: i64) -> Result<(), AllocError>
     out.extend_from_slice(digits.as_bytes())
 }
 
-// How many values an array has.
-fn count_of(values: &[Value]) -> u64
+/// How many values an array has.
+pub(crate) fn count_of(values: &[Value]) -> u64
     ensures { result ≡ items_count (items_view values.now) }
 {
     values.len() as u64

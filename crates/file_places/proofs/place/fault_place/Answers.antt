@@ -1,9 +1,5 @@
+use Rattle.file_places.proofs.DocumentLemmas.{text_fault}
 use Rattle.file_places.proofs.place.fault_place.Goals as goal
 
-pub returns-clause-some : goal.returns-clause-some
-returns-clause-some c = record {
-  refused = c.requires.refused c.in_ok-place.ensures.refused;
-  error = c.args.error.now;
-  within = c.requires.within;
-  place_is = c.in_ok-place.ensures.place;
-}
+pub returns : goal.returns
+returns c = text_fault c.args.octets.now c.args.error.now _ c.requires.utf8 c.requires.within (c.requires.refused c.in_ok-place.ensures.refused) c.in_ok-place.ensures.place

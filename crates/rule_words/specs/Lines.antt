@@ -1,0 +1,41 @@
+-- Lines of what is said of a file.
+use Rattle.std.specs.Prelude.{ℕ, ◌-◌, List, [], ◌∷◌, ◌++◌, codes, Option, Some, None}
+use Rattle.std.specs.Fmt.{decimal}
+use Rattle.srp_base.specs.Text.{whole_of}
+use Rattle.toml.specs.Data.{Data, Members, get_member, at, as_table}
+use Rattle.toml_rules.specs.Fields.{◌>>=◌, text}
+use Rattle.rule_words.specs.declared.{kinds.FileKind.FileKind, keys.Key.Key}
+use Rattle.rule_words.specs.{Asked.what_rule_asks, Keys.word_of, Values.quoted, Values.value_words}
+
+-- `rule R entry E`
+abbrev pub rule_line : ℕ → ℕ → List ℕ
+rule_line rule entry = whole_of (codes "rule " ∷ decimal rule ∷ codes " entry " ∷ decimal entry ∷ codes "\n" ∷ [])
+
+-- `asks: ..`
+abbrev pub asks_line : FileKind → ℕ → List ℕ
+asks_line kind rule = whole_of (codes "asks: " ∷ what_rule_asks kind rule ∷ codes "\n" ∷ [])
+
+-- the name of an entry, where it has a text for one
+abbrev pub name_words : Option (List ℕ) → List ℕ
+name_words None = []
+name_words (Some name) = codes " " ++ quoted name
+
+-- `entry: [[node]] 3 "b1"`
+abbrev pub entry_line : Key → ℕ → Members → List ℕ
+entry_line array entry ms = whole_of (
+    codes "entry: [[" ∷ word_of array ∷ codes "]] " ∷ decimal entry ∷ name_words (text (codes "name") ms) ∷ codes "\n" ∷ [])
+
+-- `there: rate = 10`, or `there: no rate`
+abbrev pub there_words : Key → Option Data → List ℕ
+there_words key None = codes "no " ++ word_of key
+there_words key (Some d) = whole_of (word_of key ∷ codes " = " ∷ value_words d ∷ [])
+
+abbrev pub there_line : Members → Key → List ℕ
+there_line ms key = whole_of (codes "there: " ∷ there_words key (get_member (word_of key) ms) ∷ codes "\n" ∷ [])
+
+-- the table that is the entry of this number, from 1 on, of an array
+abbrev pub entry_of : Key → ℕ → Members → Option Members
+entry_of array entry ms = do
+  d ← get_member (word_of array) ms
+  x ← at (entry - 1) d
+  as_table x

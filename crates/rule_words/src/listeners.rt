@@ -1,0 +1,140 @@
+//! The listeners of a plan's stream that aren't stations, or are its talker.
+
+ghost use Rattle.std.specs.Prelude.{◌≡◌, ◌++◌, map, codes, Some, OnOk};
+ghost use Rattle.std.specs.Option.{option_copied};
+ghost use Rattle.toml.specs.Data.{as_str, get_member};
+ghost use Rattle.toml.specs.View.{items_view, table_view, view};
+ghost use Rattle.rule_words.specs.Listeners.{is_talker_line, line_of_listener, lines_of_data, lines_of_items, listener_line, listeners_of, talks_line};
+ghost use Rattle.rule_words.specs.Others.{listeners_lines, plan_stream_lines};
+
+use crate::alike::is_same_text;
+use crate::events::put_unknown;
+use crate::keys::Key;
+use crate::lines::Broken;
+use crate::named::{put_quoted_end, put_station};
+use crate::pieces::put;
+use crate::search::entries_of;
+use srp_base::NoMemory;
+use toml::{Table, Value};
+use toml_rules::{text, value_at};
+
+// A listener that is the talker.
+fn put_talks(out: &mut Vec<u8>, name: &str) -> Result<(), NoMemory>
+    ensures { OnOk result (out.new.items ≡ out.old.items ++ talks_line name.now) }
+{
+    put(out, "other: ")?;
+    put_quoted_end(out, name, " is its talker\n")
+}
+
+// The name of a listener, where it is the talker's.
+fn put_if_talker(out: &mut Vec<u8>, talker: Option<&str>, name: &str) -> Result<(), NoMemory>
+    ensures { OnOk result (out.new.items
+        ≡ out.old.items ++ is_talker_line (option_copied talker.entry) name.now) }
+{
+    if is_same_text(talker, Some(name)) {
+        put_talks(out, name)
+    } else {
+        Ok(())
+    }
+}
+
+// The name of a listener, which has to be another station's.
+fn put_listener(
+    out: &mut Vec<u8>,
+    nodes: &[&Table],
+    talker: Option<&str>,
+    name: &str,
+) -> Result<(), NoMemory>
+    ensures { OnOk result (out.new.items ≡ out.old.items
+        ++ listener_line (map (λ t. table_view t.now) nodes.now) (option_copied talker.entry)
+        name.now) }
+{
+    put_station(out, name, nodes)?;
+    put_if_talker(out, talker, name)
+}
+
+// That of a value.
+fn put_listener_of(
+    out: &mut Vec<u8>,
+    nodes: &[&Table],
+    talker: Option<&str>,
+    value: &Value,
+) -> Result<(), NoMemory>
+    ensures { OnOk result (out.new.items ≡ out.old.items
+        ++ line_of_listener (map (λ t. table_view t.now) nodes.now)
+        (option_copied talker.entry) (as_str (view value.now))) }
+{
+    match value.as_str() {
+        Some(name) => put_listener(out, nodes, talker, name),
+        None => Ok(()),
+    }
+}
+
+// Those of these values.
+fn put_listeners_of(
+    out: &mut Vec<u8>,
+    nodes: &[&Table],
+    talker: Option<&str>,
+    values: &[Value],
+) -> Result<(), NoMemory>
+    ensures { OnOk result (out.new.items ≡ out.old.items
+        ++ lines_of_items (map (λ t. table_view t.now) nodes.now)
+        (option_copied talker.entry) (items_view values.now)) }
+{
+    for value in values {
+        put_listener_of(out, nodes, talker, value)?;
+    }
+    Ok(())
+}
+
+// Those of an array.
+fn put_array(
+    out: &mut Vec<u8>,
+    nodes: &[&Table],
+    talker: Option<&str>,
+    value: &Value,
+) -> Result<(), NoMemory>
+    ensures { OnOk result (out.new.items ≡ out.old.items
+        ++ lines_of_data (map (λ t. table_view t.now) nodes.now)
+        (option_copied talker.entry) (Some (view value.now))) }
+{
+    match value {
+        Value::Array(values) => put_listeners_of(out, nodes, talker, values.as_slice()),
+        _ => Ok(()),
+    }
+}
+
+// Those of a stream.
+fn put_stream_listeners(out: &mut Vec<u8>, nodes: &[&Table], stream: &Table) -> Result<(), NoMemory>
+    ensures { OnOk result (out.new.items ≡ out.old.items
+        ++ listeners_of (map (λ t. table_view t.now) nodes.now) (table_view stream.now)) }
+{
+    match value_at(stream, "listeners") {
+        Some(value) => put_array(out, nodes, text(stream, "talker"), value),
+        None => Ok(()),
+    }
+}
+
+// Those of a stream of a plan.
+fn put_listeners(out: &mut Vec<u8>, table: &Table, stream: &Table) -> Result<(), NoMemory>
+    ensures { OnOk result (out.new.items
+        ≡ out.old.items ++ listeners_lines (table_view table.now) (table_view stream.now)) }
+{
+    let alloc = *out.allocator();
+    let nodes = entries_of(alloc, Key::Nodes, table)?;
+    put_stream_listeners(out, &nodes, stream)
+}
+
+/// Who talks in a stream of a plan and who listens, and isn't a station, or is both.
+pub(crate) fn put_plan_stream(
+    out: &mut Vec<u8>,
+    broken: Broken,
+    table: &Table,
+    stream: &Table,
+) -> Result<(), NoMemory>
+    ensures { OnOk result (out.new.items ≡ out.old.items
+        ++ plan_stream_lines broken (table_view table.now) (table_view stream.now)) }
+{
+    put_unknown(out, broken, table, stream)?;
+    put_listeners(out, table, stream)
+}
