@@ -1,3 +1,7 @@
 mod GrantLemmas
 mod ListLemmas
+mod SinceLemmas
+mod RestLemmas
+mod ScriptLemmas
 mod MomentLemmas
+mod WithinLemmas

@@ -9,7 +9,10 @@ use Rattle.world_core.specs.World.{WorldState}
 use Rattle.network_laws.specs.Streams.{is_listened_at}
 use Rattle.topology_file.specs.declared.entries.StreamEntry.{StreamEntry}
 use Rattle.topology_file.specs.Plan.{Plan}
-use Rattle.wishes.specs.{Wishes.listeners, Wishes.numbered, Doubts.stream_doubts, Doubts.streams_doubts}
+use Rattle.node_core.specs.State.{NodeState}
+use Rattle.wishes.specs.declared.wish.Wish.{Wish}
+use Rattle.wishes.specs.Watching.{behind_node, node_since, nodes_since}
+use Rattle.wishes.specs.{Wishes.listeners, Wishes.numbered, Wishes.stream_wishes, Wishes.wish_of, Wishes.wishes_from, Doubts.stream_doubts, Doubts.streams_doubts}
 
 pub next_part : {X Y : Type 0} (f : X → List Y) (i : ℕ) (out after : List Y) (xs : List X) (x : X) → slice_get xs i ≡ Some x → after ≡ out ++ f x
     → after ++ flat_map f (drop (i + 1) xs) ≡ out ++ flat_map f (drop i xs)
@@ -70,3 +73,47 @@ next_stream plan w i out after streams e below same put =
     ap (λ (text : List ℕ). text ++ later) put
     ∙ (append_assoc out (stream_doubts plan w e) later
     ∙ ap (λ (text : List ℕ). out ++ text) (ap (λ (x : StreamEntry). stream_doubts plan w x ++ later) same ∙ sym all))
+
+-- wishes of stations that are nodes are of nodes
+wishes_at_nodes : (w : WorldState) (place : ℕ) (e : StreamEntry) (ls : List NodeNo) → AllByRecursion (λ (l : NodeNo). HasNode w.tree l.0) ls
+    → AllByRecursion (λ (wish : Wish). HasNode w.tree wish.station.0) (map (wish_of w place e) ls)
+wishes_at_nodes w place e [] h = tt
+wishes_at_nodes w place e (l ∷ ls) h = (h.0, wishes_at_nodes w place e ls h.1)
+
+join_all : {X : Type 0} (P : X → Type 0) (xs ys : List X) → AllByRecursion P xs → AllByRecursion P ys → AllByRecursion P (xs ++ ys)
+join_all P [] ys h k = k
+join_all P (x ∷ xs) ys h k = (h.0, join_all P xs ys h.1 k)
+
+-- all wishes are of nodes
+pub wishers_are_nodes : (w : WorldState) (place : ℕ) (entries : List StreamEntry)
+    → AllByRecursion (λ (wish : Wish). HasNode w.tree wish.station.0) (wishes_from w place entries)
+wishers_are_nodes w place [] = tt
+wishers_are_nodes w place (e ∷ entries) =
+    join_all (λ (wish : Wish). HasNode w.tree wish.station.0) (stream_wishes w place e) (wishes_from w (place + 1) entries)
+    (wishes_at_nodes w place e (listeners w e.id) (listeners_are_nodes w e.id)) (wishers_are_nodes w (place + 1) entries)
+
+-- a node more whose marks are put down
+pub next_node : (streams : List StreamEntry) (rests : List Bool) (i : ℕ) (old out after : List Bool) (nodes : List NodeState) (s : NodeState) → slice_get nodes i ≡ Some s
+    → after ≡ out ++ node_since streams rests old i s
+    → after ++ nodes_since streams rests (behind_node streams old) (i + 1) (drop (i + 1) nodes) ≡ out ++ nodes_since streams rests old i (drop i nodes)
+next_node streams rests i old out after nodes s at put =
+    let later : List Bool = nodes_since streams rests (behind_node streams old) (i + 1) (drop (i + 1) nodes) in
+    let below : i < length nodes = slice_get_within nodes i s at in
+    let here : get_or nodes i s ≡ s = get_or_from_slice_get nodes i s s at in
+    let all : nodes_since streams rests old i (drop i nodes) ≡ node_since streams rests old i (get_or nodes i s) ++ later =
+    at_drop_more (nodes_since streams rests old i) nodes i s below
+    in
+    ap (λ (text : List Bool). text ++ later) put
+    ∙ (append_assoc out (node_since streams rests old i s) later
+    ∙ ap (λ (text : List Bool). out ++ text) (sym (all ∙ ap (λ (x : NodeState). node_since streams rests old i x ++ later) here)))
+
+-- a node more whose flag is put down
+pub next_flag : {X : Type 0} (f : X → Bool) (i : ℕ) (out after : List Bool) (xs : List X) (x : X) → slice_get xs i ≡ Some x → after ≡ out ++ f x ∷ []
+    → after ++ map f (drop (i + 1) xs) ≡ out ++ map f (drop i xs)
+next_flag {X} f i out after xs x at put =
+    let later : List Bool = map f (drop (i + 1) xs) in
+    let below : i < length xs = slice_get_within xs i x at in
+    let here : get_or xs i x ≡ x = get_or_from_slice_get xs i x x at in
+    let all : map f (drop i xs) ≡ f (get_or xs i x) ∷ later = at_drop_more (map f) xs i x below in
+    ap (λ (flags : List Bool). flags ++ later) put
+    ∙ (append_assoc out (f x ∷ []) later ∙ ap (λ (flags : List Bool). out ++ flags) (sym (all ∙ ap (λ (y : X). f y ∷ later) here)))

@@ -1,15 +1,21 @@
 -- What is kept of a run while it goes on is what its ends say.
-use Rattle.std.proofs.Common.{◌≡◌, ℕ, suc, ◌+◌, ◌<◌, ◌≤◌, ◌==◌, Bool, true, false, ◌&&◌, if◌then◌else◌, List, [], ◌∷◌, ◌++◌, Option, Some, None, refl, sym, ap, subst, ◌∙◌, append_assoc, append-nil, arith}
-use Rattle.std.specs.List.{list_all}
-use Rattle.std.specs.Cmp.Lexicographic.{pointwise}
+use Rattle.std.proofs.Common.{◌≡◌, ℕ, suc, ◌+◌, ◌-◌, ◌≤◌, ◌==◌, Bool, true, false, ◌&&◌, if◌then◌else◌, List, [], ◌∷◌, ◌++◌, length, map, Option, Some, None, refl, sym, ap, subst, ◌∙◌, append_assoc, append-nil, arith}
+use Rattle.std.specs.Prelude.{flat_map, option_map, slice_get}
+use Rattle.std.specs.{List.list_all, Option.option_map_or}
+use Rattle.srp_base.proofs.Lists.{get-all, mapped_length, paired}
+use Rattle.srp_base.specs.declared.numbers.EgressPort.{EgressPort}
+use Rattle.tree_topology.specs.Topology.{Topology, link_ports}
 use Rattle.topology_file.specs.declared.entries.StreamEntry.{StreamEntry}
-use Rattle.topology_file.specs.Plan.{Plan}
+use Rattle.topology_file.specs.{Plan.Plan, Scenario.KeepsRules}
+use Rattle.node_core.specs.State.{NodeState}
 use Rattle.world_core.specs.declared.journal.Tick.{Tick}
-use Rattle.world_core.specs.{World.WorldState, World.world_after, Start.world_of, Ticks.tick_events}
+use Rattle.world_core.specs.{World.WorldState, World.world_after, Start.world_of, Ticks.tick_events, Ticks.after_script, Ticks.AreCanonicalTicks, Ticks.IsCanonicalTick, Ticks.IsLegalTick, Ticks.LeadTo}
+use Rattle.world_core.proofs.Runs.{trees_stay}
 use Rattle.srp_schedule.specs.Watch.{ends_from, ends_of, having_seen}
 use Rattle.wishes.specs.declared.moments.{Moments.Moments, Span.Span}
-use Rattle.wishes.specs.RunMoments.{are_same_marks, calm_spans, is_calm, is_same_mark, joined, marks_of, moments_of, one_tick, settled_in, stands_so}
-use Rattle.wishes.specs.Watching.{Watched, after_end, ended, going_on, unwatched}
+use Rattle.wishes.specs.RunMoments.{are_same_marks, calm_spans, is_calm, is_same_mark, joined, marks_of, moments_of, node_marks, one_tick, port_marks, settled_in, stands_so}
+use Rattle.wishes.specs.Watching.{Watched, after_end, all_rest, ended, events_to, going_on, is_disturbed, is_idle, marks_seen, marks_since, resting, rests_at, settled_seen, undisturbed, unwatched}
+use Rattle.wishes.proofs.{RestLemmas.StepLaws, RestLemmas.IsClocked, RestLemmas.count-events, RestLemmas.get-mapped, RestLemmas.node-same, RestLemmas.port-none, RestLemmas.port-same, RestLemmas.streams_at, RestLemmas.tick-streams, ScriptLemmas.AreToCome, ScriptLemmas.all-to-come, ScriptLemmas.do-not-fall, ScriptLemmas.next-to-come, ScriptLemmas.rests-parts, ScriptLemmas.script-leaves, ScriptLemmas.undisturbed-length, SinceLemmas.alike-from, SinceLemmas.marks-exact, SinceLemmas.marks-fresh, SinceLemmas.same-booked, SinceLemmas.same-heard}
 
 -- ---- since when nothing changes
 
@@ -171,9 +177,168 @@ kept_are t past latest (end ∷ later) h g = by (is_calm end.1) (λ p o k. kept_
 
 -- ---- both, over all ends
 
-pub seen_settled : (s : Watched) (ends : List (ℕ × WorldState)) → (having_seen after_end s ends).settled ≡ since s.streams s.marks s.settled ends
-seen_settled s [] = refl
-seen_settled s (end ∷ later) = seen_settled (after_end s end.0 end.1) later
+-- before a tick nothing is known, or which nodes are idle and what stands
+pub data Knows (s : Watched) (v : WorldState) : Type 0 where
+  nothing : s.idle ≡ [] → Knows s v
+  before : s.idle ≡ map is_idle v.nodes → s.marks ≡ marks_of s.streams v → Knows s v
+
+-- what is seen at the end of a tick is what stands, and since when
+abbrev pub Seen : Watched → ℕ → WorldState → Type 0
+Seen s t w =
+    (marks_seen s t w ≡ marks_of s.streams w)
+    × (settled_seen s t w ≡ (if are_same_marks s.marks (marks_of s.streams w) then s.settled else t))
+
+module _ (s : Watched) (t : ℕ) (w : WorldState) where
+  abbrev marks_by : List Bool → List Bool
+  marks_by rests = if all_rest rests then s.marks else marks_since s.streams rests s.marks w
+
+  abbrev settled_by : List Bool → ℕ
+  settled_by rests =
+      if all_rest rests then s.settled
+      else if are_same_marks s.marks (marks_since s.streams rests s.marks w) then s.settled
+      else t
+
+  -- where no node is known to rest
+  fresh_seen : resting s t ≡ [] → Seen s t w
+  fresh_seen h =
+      let now : marks_since s.streams [] s.marks w ≡ marks_of s.streams w = marks-fresh s.streams s.marks w in
+      (ap marks_by h ∙ now, ap settled_by h ∙ ap (λ (ms : List Bool). if are_same_marks s.marks ms then s.settled else t) now)
+
+  -- where some are
+  known_seen : marks_since s.streams (resting s t) s.marks w ≡ marks_of s.streams w
+      → (all_rest (resting s t) ≡ true → s.marks ≡ marks_of s.streams w) → Seen s t w
+  known_seen now same = by (all_rest (resting s t)) refl
+    where
+      by : (b : Bool) → all_rest (resting s t) ≡ b → Seen s t w
+      by true e =
+          let is : s.marks ≡ marks_of s.streams w = same e in
+          let first : marks_by (resting s t) ≡ s.marks = ap (λ (b : Bool). if b then s.marks else marks_since s.streams (resting s t) s.marks w) e in
+          let second : settled_by (resting s t) ≡ s.settled =
+          ap (λ (b : Bool). if b then s.settled else if are_same_marks s.marks (marks_since s.streams (resting s t) s.marks w) then s.settled else t) e
+          in
+          let alike : are_same_marks s.marks (marks_of s.streams w) ≡ true = ap (λ (ms : List Bool). are_same_marks s.marks ms) (sym is) ∙ marks_itself s.marks in
+          (first ∙ is, second ∙ sym (ap (λ (b : Bool). if b then s.settled else t) alike))
+      by false e =
+          let first : marks_by (resting s t) ≡ marks_since s.streams (resting s t) s.marks w =
+          ap (λ (b : Bool). if b then s.marks else marks_since s.streams (resting s t) s.marks w) e
+          in
+          let second : settled_by (resting s t) ≡ (if are_same_marks s.marks (marks_since s.streams (resting s t) s.marks w) then s.settled else t) =
+          ap (λ (b : Bool). if b then s.settled else if are_same_marks s.marks (marks_since s.streams (resting s t) s.marks w) then s.settled else t) e
+          in
+          (first ∙ now, second ∙ ap (λ (ms : List Bool). if are_same_marks s.marks ms then s.settled else t) now)
+
+-- where all rest each does
+each_rests : (rests : List Bool) → all_rest rests ≡ true → list_all (λ b. b) rests ≡ true
+each_rests rests h = by (length rests == 0) h
+  where
+    by : (none : Bool) → (if none then false else list_all (λ b. b) rests) ≡ true → list_all (λ b. b) rests ≡ true
+    by true h = absurd (let no : false ≡ true = h in cc)
+    by false h = h
+
+-- the flag of an idle node
+idle_flag : (nodes : List NodeState) (x : ℕ) (s : NodeState) → slice_get nodes x ≡ Some s → rests_at (map is_idle nodes) x ≡ is_idle s
+idle_flag nodes x s h = ap (λ (o : Option Bool). option_map_or (λ b. b) o false) (get-mapped is_idle nodes x ∙ ap (option_map is_idle) h)
+
+-- a node that is known to rest in a tick is idle, and the events of the tick leave it
+abbrev Rests : Plan → ℕ → WorldState → List Bool → Type 0
+Rests plan t v rests =
+    (x : ℕ) (s : NodeState) → slice_get v.nodes x ≡ Some s → rests_at rests x ≡ true
+    → (is_idle s ≡ true) × (slice_get (after_script plan t v).nodes x ≡ Some s)
+
+module _ (laws : StepLaws) (plan : Plan) (t : ℕ) (v : WorldState) (tick : Tick) (legal : IsLegalTick plan t v tick) (rests : List Bool) (rest : Rests plan t v rests) (streams : List StreamEntry) where
+  abbrev w : WorldState
+  w = world_after (tick_events plan t tick) v
+
+  few : length w.nodes ≡ length v.nodes
+  few = count-events (tick_events plan t tick) v
+
+  clocked : (x : ℕ) (s : NodeState) → slice_get v.nodes x ≡ Some s → rests_at rests x ≡ true → IsClocked (streams_at x w) s.streams
+  clocked x s h r = let known = rest x s h r in tick-streams laws x s known.0 plan t v tick legal known.1
+
+  heard_same : (x : ℕ) (s u : NodeState) → slice_get v.nodes x ≡ Some s → slice_get w.nodes x ≡ Some u → rests_at rests x ≡ true → node_marks streams s ≡ node_marks streams u
+  heard_same x s u h k r = node-same streams x w s u (clocked x s h r) k
+
+  booked_same : (p : EgressPort) (s : NodeState) → slice_get v.nodes (p.node.0 - 1) ≡ Some s → rests_at rests (p.node.0 - 1) ≡ true → port_marks streams v p ≡ port_marks streams w p
+  booked_same p s h r = port-same streams p v w s.streams (ap (option_map (λ (u : NodeState). u.streams)) h) (clocked (p.node.0 - 1) s h r)
+
+  booked_none : (p : EgressPort) → slice_get v.nodes (p.node.0 - 1) ≡ None → port_marks streams v p ≡ port_marks streams w p
+  booked_none p h = port-none streams p v w h (by (slice_get w.nodes (p.node.0 - 1)) refl)
+    where
+      by : (o : Option NodeState) → slice_get w.nodes (p.node.0 - 1) ≡ o → slice_get w.nodes (p.node.0 - 1) ≡ None
+      by None is = is
+      by (Some u) is = let there = paired v.nodes w.nodes (p.node.0 - 1) u (sym few) is in absurd (let no : None ≡ Some there.0 = sym h ∙ there.1 in cc)
+
+  tree_same : w.tree ≡ v.tree
+  tree_same = trees_stay (tick_events plan t tick) v
+
+  by_rests : marks_since streams rests (marks_of streams v) w ≡ marks_of streams w
+  by_rests =
+      marks-exact streams rests v w tree_same
+      (alike-from streams rests 0 v.nodes w.nodes (sym few)
+      (λ i k s u is at_s at_u r. let place : k ≡ i = omega (arith, is) in heard_same i s u at_s at_u (ap (rests_at rests) (sym place) ∙ r)))
+      (λ p r. port p r (slice_get v.nodes (p.node.0 - 1)) refl)
+    where
+      port : (p : EgressPort) → rests_at rests (p.node.0 - 1) ≡ true → (o : Option NodeState) → slice_get v.nodes (p.node.0 - 1) ≡ o
+          → port_marks streams v p ≡ port_marks streams w p
+      port p r None is = booked_none p is
+      port p r (Some s) is = booked_same p s is r
+
+  all_idle : length rests ≡ length v.nodes → all_rest rests ≡ true → marks_of streams v ≡ marks_of streams w
+  all_idle many all =
+      let each : (x : ℕ) (s : NodeState) → slice_get v.nodes x ≡ Some s → rests_at rests x ≡ true =
+      λ x s h.
+      let flag = paired rests v.nodes x s many h in
+      let up : flag.0 ≡ true = get-all (λ (b : Bool). b) rests x flag.0 (each_rests rests all) flag.1 in
+      ap (λ (o : Option Bool). option_map_or (λ b. b) o false) flag.1 ∙ up
+      in
+      let heard : flat_map (node_marks streams) v.nodes ≡ flat_map (node_marks streams) w.nodes =
+      same-heard streams v.nodes w.nodes (sym few) (λ i s u at_s at_u. heard_same i s u at_s at_u (each i s at_s))
+      in
+      let booked : flat_map (port_marks streams v) (link_ports v.tree) ≡ flat_map (port_marks streams w) (link_ports v.tree) =
+      same-booked streams v w (λ p. port each p (slice_get v.nodes (p.node.0 - 1)) refl) (link_ports v.tree)
+      in
+      ap (λ (front : List Bool). front ++ flat_map (port_marks streams v) (link_ports v.tree)) heard
+      ∙ ap (λ (back : List Bool). flat_map (node_marks streams) w.nodes ++ back)
+      (booked ∙ ap (λ (tree : Topology). flat_map (port_marks streams w) (link_ports tree)) (sym tree_same))
+    where
+      port : ((x : ℕ) (s : NodeState) → slice_get v.nodes x ≡ Some s → rests_at rests x ≡ true) → (p : EgressPort) → (o : Option NodeState) → slice_get v.nodes (p.node.0 - 1) ≡ o
+          → port_marks streams v p ≡ port_marks streams w p
+      port each p None is = booked_none p is
+      port each p (Some s) is = booked_same p s is (each (p.node.0 - 1) s is)
+
+module _ (laws : StepLaws) (plan : Plan) where
+  tick_seen : (t : ℕ) (v : WorldState) (tick : Tick) (s : Watched) → IsLegalTick plan t v tick → s.streams ≡ plan.streams → AreToCome plan t s.script → Knows s v
+      → Seen s t (world_after (tick_events plan t tick) v)
+  tick_seen t v tick s legal streams come (nothing idle) =
+      fresh_seen s t (world_after (tick_events plan t tick) v) (ap (λ (flags : List Bool). undisturbed s.streams (events_to t s.script) 0 flags) idle)
+  tick_seen t v tick s legal streams come (before idle marks) =
+      let w' : WorldState = world_after (tick_events plan t tick) v in
+      let many : length (resting s t) ≡ length v.nodes =
+      undisturbed-length s.streams (events_to t s.script) 0 s.idle ∙ (ap (λ (flags : List Bool). length flags) idle ∙ mapped_length is_idle v.nodes)
+      in
+      known_seen s t w'
+      (ap (λ (old : List Bool). marks_since s.streams (resting s t) old w') marks ∙ by_rests laws plan t v tick legal (resting s t) rest s.streams)
+      (λ all. marks ∙ all_idle laws plan t v tick legal (resting s t) rest s.streams many all)
+    where
+      rest : Rests plan t v (resting s t)
+      rest x u h r =
+          let parts = rests-parts s.streams (events_to t s.script) 0 x x s.idle (omega arith) r in
+          let flag : is_idle u ≡ true = sym (idle_flag v.nodes x u h) ∙ (ap (λ (flags : List Bool). rests_at flags x) (sym idle) ∙ parts.0) in
+          let none : is_disturbed plan.streams (events_to t s.script) x ≡ false =
+          ap (λ (es : List StreamEntry). is_disturbed es (events_to t s.script) x) (sym streams) ∙ parts.1
+          in
+          (flag, script-leaves plan t s.script x v come none ∙ h)
+
+  pub seen_settled : (ticks : List Tick) (t : ℕ) (v : WorldState) (last : ℕ) (end : WorldState) (s : Watched) → LeadTo (IsCanonicalTick plan) plan t v ticks last end
+      → s.streams ≡ plan.streams → AreToCome plan t s.script → Knows s v
+      → (having_seen after_end s (ends_from plan t v ticks)).settled ≡ since s.streams s.marks s.settled (ends_from plan t v ticks)
+  seen_settled [] t v last end s lead streams come knows = refl
+  seen_settled (tick ∷ ticks) t v last end s lead streams come knows =
+      let v' : WorldState = world_after (tick_events plan t tick) v in
+      let seen : Seen s t v' = tick_seen t v tick s lead.0.legal streams come knows in
+      seen_settled ticks (suc t) v' last end (after_end s t v') lead.1 streams (next-to-come plan t s.script come) (before refl seen.0)
+      ∙ (ap (λ (ms : List Bool). since s.streams ms (settled_seen s t v') (ends_from plan (suc t) v' ticks)) seen.0
+      ∙ ap (λ (n : ℕ). since s.streams (marks_of s.streams v') n (ends_from plan (suc t) v' ticks)) seen.1)
 
 pub seen_spans : (s : Watched) (ends : List (ℕ × WorldState))
     → ended (having_seen after_end s ends).past (having_seen after_end s ends).latest ≡ kept_spans s.past s.latest ends
@@ -210,15 +375,20 @@ abbrev moments_with : ℕ → List Span → Moments
 moments_with settled quiet = record { settled = settled; quiet = quiet }
 
 -- what one says who has seen all ends is what they say
-pub moments_are : (plan : Plan) (ticks : List Tick) (start end : Watched) (m : Moments) → start ≡ unwatched plan.streams → end ≡ having_seen after_end start (ends_of plan ticks)
+pub moments_are : StepLaws → (plan : Plan) (ticks : List Tick) (last : WorldState) (start end : Watched) (m : Moments) → KeepsRules plan → AreCanonicalTicks plan ticks last
+    → start ≡ unwatched plan.streams plan.events → end ≡ having_seen after_end start (ends_of plan ticks)
     → m.settled ≡ end.settled → m.quiet ≡ ended end.past end.latest → m ≡ moments_of plan ticks
-moments_are plan ticks start end m begins sees settled quiet =
+moments_are laws plan ticks last start end m rules lead begins sees settled quiet =
     let ends : List (ℕ × WorldState) = ends_of plan ticks in
-    let all : end ≡ having_seen after_end (unwatched plan.streams) ends = sees ∙ ap (λ (s : Watched). having_seen after_end s ends) begins in
+    let first : Watched = unwatched plan.streams plan.events in
+    let all : end ≡ having_seen after_end first ends = sees ∙ ap (λ (s : Watched). having_seen after_end s ends) begins in
+    let come = all-to-come plan (do-not-fall plan.events rules.events_order) in
     let one : m.settled ≡ settled_in plan.streams ends =
-    settled ∙ (ap (λ (s : Watched). s.settled) all ∙ (seen_settled (unwatched plan.streams) ends ∙ settled_is plan.streams plan (world_of plan) ticks))
+    settled
+    ∙ (ap (λ (s : Watched). s.settled) all
+    ∙ (seen_settled laws plan ticks 0 (world_of plan) plan.ticks last first lead refl come (nothing refl) ∙ settled_is plan.streams plan (world_of plan) ticks))
     in
     let two : m.quiet ≡ calm_spans ends =
-    quiet ∙ (ap (λ (s : Watched). ended s.past s.latest) all ∙ (seen_spans (unwatched plan.streams) ends ∙ spans_are plan (world_of plan) ticks))
+    quiet ∙ (ap (λ (s : Watched). ended s.past s.latest) all ∙ (seen_spans first ends ∙ spans_are plan (world_of plan) ticks))
     in
     ap (λ (k : ℕ). moments_with k m.quiet) one ∙ ap (λ (ss : List Span). moments_with (settled_in plan.streams ends) ss) two

@@ -1,5 +1,5 @@
 -- What is allowed in a plan and hardly meant, and the lines that say so.
-use Rattle.std.specs.Prelude.{ℕ, ◌+◌, ◌-◌, ◌*◌, ◌==◌, Bool, true, false, not, ◌&&◌, nat_lt, if◌then◌else◌, is_none, List, [], ◌∷◌, ◌++◌, codes, flat_map, length, Option, Some, None, slice_get}
+use Rattle.std.specs.Prelude.{ℕ, ◌+◌, ◌-◌, ◌*◌, ◌==◌, Bool, false, not, ◌&&◌, nat_lt, if◌then◌else◌, is_none, List, [], ◌∷◌, ◌++◌, codes, flat_map, length, Option, Some, None, slice_get}
 use Rattle.std.specs.{Option.option_map_or, Fmt.decimal}
 use Rattle.srp_base.specs.Text.{whole_of}
 use Rattle.srp_base.specs.declared.{bandwidth.Class.Class, bandwidth.Class.TheVariants.A, bandwidth.Class.TheVariants.B, numbers.NodeNo.NodeNo}

@@ -1,10 +1,12 @@
 pub mod Wishes
+pub mod Within
 pub mod Text
 pub mod Doubts
 pub mod RunMoments
 pub mod Watching
 pub mod Outlook
 pub use Wishes.*
+pub use Within.*
 pub use Text.*
 pub use Doubts.*
 pub use RunMoments.*

@@ -1,7 +1,7 @@
 -- The moments of a run: since when nothing that the stations hear or the ports have booked changes,
 -- and in which ticks nothing is pending. Each network is that at the end of a tick, with the tick's
 -- number.
-use Rattle.std.specs.Prelude.{ℕ, ◌+◌, ◌==◌, Bool, true, false, ◌&&◌, if◌then◌else◌, List, [], ◌∷◌, ◌++◌, map, flat_map, codes, Option, Some, None}
+use Rattle.std.specs.Prelude.{ℕ, ◌+◌, ◌==◌, Bool, true, false, ◌&&◌, if◌then◌else◌, List, [], ◌∷◌, ◌++◌, map, flat_map, codes, Option}
 use Rattle.std.specs.{Option.is_some, List.list_all, Cmp.Lexicographic.pointwise, Fmt.decimal}
 use Rattle.srp_base.specs.Text.{whole_of}
 use Rattle.tree_topology.specs.Topology.{link_ports}

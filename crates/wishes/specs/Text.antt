@@ -4,10 +4,11 @@ use Rattle.std.specs.{Option.option_map_or, Fmt.decimal}
 use Rattle.srp_base.specs.Text.{whole_of}
 use Rattle.topology_file.specs.declared.entries.StreamEntry.{StreamEntry}
 use Rattle.topology_file.specs.Plan.{Plan}
+use Rattle.scenario_delays.specs.declared.facts.DelayFacts.{DelayFacts}
 use Rattle.report_words.specs.{Names.name_of, Names.port_name, Words.yes_or_no}
 use Rattle.wishes.specs.declared.wish.{Answer.Answer, Wish.Wish}
 use Rattle.wishes.specs.declared.wish.Answer.TheVariants.{Granted, Refused, Silent}
-use Rattle.wishes.specs.Wishes.{grants, is_silent, refuses}
+use Rattle.wishes.specs.{Wishes.grants, Wishes.is_silent, Wishes.refuses, Within.within_of}
 
 -- ---- the lines
 
@@ -44,14 +45,19 @@ refused_line wish at code short = whole_of (
 abbrev pub silent_line : List ℕ → List ℕ
 silent_line wish = whole_of (codes "silent " ∷ wish ∷ codes "\n" ∷ [])
 
--- ` ports N vlan yes`
-abbrev pub granted_end : ℕ → Bool → List ℕ
-granted_end ports vlan = whole_of (
-    codes " ports " ∷ decimal ports ∷ codes " vlan " ∷ yes_or_no vlan ∷ codes "\n" ∷ [])
+-- ` within T` in ns, where the delay of the stream's frames to the station has a bound
+abbrev pub within_words : Option ℕ → List ℕ
+within_words None = []
+within_words (Some ns) = whole_of (codes " within " ∷ decimal ns ∷ [])
 
--- `granted NAME STATION ports N vlan yes`
-abbrev pub granted_line : List ℕ → ℕ → Bool → List ℕ
-granted_line wish ports vlan = whole_of (codes "granted " ∷ wish ∷ granted_end ports vlan ∷ [])
+-- ` ports N vlan yes within T`
+abbrev pub granted_end : ℕ → Bool → Option ℕ → List ℕ
+granted_end ports vlan within = whole_of (
+    codes " ports " ∷ decimal ports ∷ codes " vlan " ∷ yes_or_no vlan ∷ within_words within ∷ codes "\n" ∷ [])
+
+-- `granted NAME STATION ports N vlan yes within T`
+abbrev pub granted_line : List ℕ → ℕ → Bool → Option ℕ → List ℕ
+granted_line wish ports vlan within = whole_of (codes "granted " ∷ wish ∷ granted_end ports vlan within ∷ [])
 
 -- ---- the wishes
 
@@ -77,10 +83,11 @@ silent_by plan wish (Refused at code short) = []
 silent_by plan wish Silent = silent_line (named_wish plan wish)
 
 -- where it is granted
-abbrev pub granted_by : Plan → Wish → Answer → List ℕ
-granted_by plan wish (Granted ports vlan) = granted_line (named_wish plan wish) ports vlan
-granted_by plan wish (Refused at code short) = []
-granted_by plan wish Silent = []
+abbrev pub granted_by : Plan → DelayFacts → Wish → Answer → List ℕ
+granted_by plan facts wish (Granted ports vlan) =
+    granted_line (named_wish plan wish) ports vlan (within_of plan facts wish)
+granted_by plan facts wish (Refused at code short) = []
+granted_by plan facts wish Silent = []
 
 -- the lines of some wishes that are refused
 abbrev pub refused_lines : Plan → List Wish → List ℕ
@@ -91,8 +98,8 @@ abbrev pub silent_lines : Plan → List Wish → List ℕ
 silent_lines plan wishes = flat_map (λ (wish : Wish). silent_by plan wish wish.answer) wishes
 
 -- of those that are granted
-abbrev pub granted_lines : Plan → List Wish → List ℕ
-granted_lines plan wishes = flat_map (λ (wish : Wish). granted_by plan wish wish.answer) wishes
+abbrev pub granted_lines : Plan → DelayFacts → List Wish → List ℕ
+granted_lines plan facts wishes = flat_map (λ (wish : Wish). granted_by plan facts wish wish.answer) wishes
 
 -- how many of some wishes have an answer that passes a test
 abbrev pub count_that : (Answer → Bool) → List Wish → ℕ
@@ -103,11 +110,11 @@ abbrev pub counts_of : List Wish → List ℕ
 counts_of wishes =
     wishes_line (length wishes) (count_that grants wishes) (count_that refuses wishes) (count_that is_silent wishes)
 
--- the lines of some wishes: how many there are, those that are refused, those of which nothing came,
--- and those that are granted
-abbrev pub lines_of : Plan → List Wish → List ℕ
-lines_of plan wishes = whole_of (
-    counts_of wishes ∷ refused_lines plan wishes ∷ silent_lines plan wishes ∷ granted_lines plan wishes ∷ [])
+-- the lines of some wishes, by what is known of the run's delays: how many there are, those that are
+-- refused, those of which nothing came, and those that are granted
+abbrev pub lines_of : Plan → DelayFacts → List Wish → List ℕ
+lines_of plan facts wishes = whole_of (
+    counts_of wishes ∷ refused_lines plan wishes ∷ silent_lines plan wishes ∷ granted_lines plan facts wishes ∷ [])
 
 -- how many of some wishes aren't granted
 abbrev pub ungranted_in : List Wish → ℕ

@@ -4,7 +4,8 @@
 //!   wishes 3 granted 1 refused 1 silent 1              a wish: a stream and a station that listens to it
 //!   refused s2 l3 at b1>b2 code 1 short 2440000        by which port, why, and by how many bit/s it misses
 //!   silent s3 l1                                       nothing is heard, or the way isn't booked whole
-//!   granted s1 l2 ports 3 vlan yes                     the ports of the way, and whether its VLAN is there
+//!   granted s1 l2 ports 3 vlan yes within 389660       the ports of the way, whether its VLAN is there,
+//!                                                      and in how many ns a frame is through the last
 //!
 //!   doubt l1 listens to stream s3 and doesn't declare its VID 7      what is allowed and hardly meant
 //!   settled 61                                         the tick from whose end on nothing changes
@@ -18,9 +19,11 @@
 //! network, each with what came of it, in the words of network_laws: what a station's application
 //! hears, and whether each egress port of the way from the Talker has booked the stream. So a wish
 //! is granted by what the network does, and none of it is what the file would have one expect.
-//! `lines_of` (`specs/Text.antt`) is their text. `laws` says that in a network at rest a wish is
-//! granted exactly where its application hears Ready, and in any network only where each port of its
-//! way has booked.
+//! `lines_of` (`specs/Text.antt`) is their text. Behind `within` stands the bound of `delays`, from
+//! what is known of the run's delays (`DelayFacts` of scenario_delays; `specs/Within.antt`). `laws`
+//! says that in a network at rest a wish is granted exactly where its application hears Ready, and
+//! in any network only where each port of its way has booked; and that `within` is the number of
+//! `delays`.
 //!
 //! `doubts_text` (`specs/Doubts.antt`) has a line exactly where its fact holds, and `moments_of`
 //! (`specs/RunMoments.antt`) are functions of the networks at the ends of all ticks, of which a run
@@ -35,6 +38,7 @@
 //! `specs/RunMoments.antt`, and what has to be kept for it in `specs/Watching.antt` and `watch.rt`.
 #![tactic(auto)]
 
+mod disturbing;
 mod doubt_lines;
 mod doubts;
 pub mod laws;
@@ -47,6 +51,7 @@ mod text;
 mod watch;
 mod way;
 mod wish;
+mod within;
 
 pub use moments::{Moments, Span, run_with_moments};
 pub use outlook::outlook_text;

@@ -3,7 +3,7 @@
 ghost use Rattle.std.specs.Prelude.{◌≡◌, ◌++◌, option_map, OnOk};
 ghost use Rattle.std.specs.Option.{option_map_or};
 ghost use Rattle.report_words.specs.Names.{port_name as port_name_spec};
-ghost use Rattle.wishes.specs.Text.{at_words, code_words, granted_end, granted_line, named_wish, refused_line, short_words, silent_line, stream_name as stream_name_spec, wish_words, wishes_line};
+ghost use Rattle.wishes.specs.Text.{at_words, code_words, granted_end, granted_line, named_wish, refused_line, short_words, silent_line, stream_name as stream_name_spec, wish_words, wishes_line, within_words};
 
 use crate::wish::Wish;
 use report_words::{node_name, put, put_number, put_octets, put_port_name, yes_or_no};
@@ -144,29 +144,54 @@ pub(crate) fn put_silent(
     put(out, "\n")
 }
 
-// How many ports the way has, and whether the VLAN is there.
-fn put_granted_end(out: &mut Vec<u8>, ports: usize, vlan: bool) -> Result<(), NoMemory>
-    ensures { OnOk result (out.new.items ≡ out.old.items ++ granted_end ports vlan) }
+// In how many ns the stream's frames are at the station.
+fn put_within(out: &mut Vec<u8>, within: Option<u128>) -> Result<(), NoMemory>
+    ensures { OnOk result (out.new.items ≡ out.old.items ++ within_words within) }
+{
+    match within {
+        Some(ns) => put_ns(out, ns),
+        None => Ok(()),
+    }
+}
+
+fn put_ns(out: &mut Vec<u8>, ns: u128) -> Result<(), NoMemory>
+    ensures { OnOk result (out.new.items ≡ out.old.items ++ within_words (Some ns)) }
+{
+    let words = format!(in *out.allocator(); " within {ns}")?;
+    put(out, &words)
+}
+
+// How many ports the way has, whether the VLAN is there, and the bound on the delay.
+fn put_granted_end(
+    out: &mut Vec<u8>,
+    ports: usize,
+    vlan: bool,
+    within: Option<u128>,
+) -> Result<(), NoMemory>
+    ensures { OnOk result (out.new.items ≡ out.old.items ++ granted_end ports vlan within) }
 {
     put(out, " ports ")?;
     put_number(out, ports as u64)?;
     put(out, " vlan ")?;
     put(out, yes_or_no(vlan))?;
+    put_within(out, within)?;
     put(out, "\n")
 }
 
-/// The line of a wish that is granted.
+/// The line of a wish that is granted, with the ports of its way, whether its VLAN is there, and
+/// the bound on its frames' delay in ns, if there is one.
 pub(crate) fn put_granted(
     out: &mut Vec<u8>,
     scenario: &Scenario,
     wish: &Wish,
     ports: usize,
     vlan: bool,
+    within: Option<u128>,
 ) -> Result<(), NoMemory>
     ensures { OnOk result (out.new.items
-        ≡ out.old.items ++ granted_line (named_wish scenario.now wish.now) ports vlan) }
+        ≡ out.old.items ++ granted_line (named_wish scenario.now wish.now) ports vlan within) }
 {
     put(out, "granted ")?;
     put_wish(out, scenario, wish)?;
-    put_granted_end(out, ports, vlan)
+    put_granted_end(out, ports, vlan, within)
 }

@@ -1,17 +1,23 @@
 //! The moments of a run: since when nothing changes that the stations hear or the ports have booked,
 //! and in which ticks nothing is pending.
 
-ghost use Rattle.std.specs.Prelude.{◌≡◌, ◌++◌, flat_map, IfOk, OnOk};
+ghost use Rattle.std.specs.Prelude.{◌≡◌, ◌++◌, ℕ, true, None, flat_map, IfOk, OnOk};
+ghost use Rattle.srp_base.specs.declared.mrp.App.{App};
+ghost use Rattle.node_core.specs.{State.NodeState, State.is_still_node, Step.octets_to_say};
 ghost use Rattle.world_core.specs.{Ticks.AreCanonicalTicks, Timeline.IsTimelineOf};
 ghost use Rattle.wishes.specs.RunMoments.{moments_of, moments_text, settled_line, span_line};
 
 use crate::watch::Watch;
+use mrp_participant::laws::still_is_silent;
+use msrp::MsrpApp;
+use mvrp::MvrpApp;
 use report_words::{put, put_number};
 use srp_base::{NoMemory, Seq};
 use srp_schedule::watched_run;
 use std::alloc::Global;
 use topology_file::Scenario;
 use world_core::Run;
+use world_core::laws::a_step_is_of_its_node_alone;
 
 /// A stretch of ticks.
 #[derive(Clone, Copy, PartialEq, Eq)]
@@ -41,10 +47,22 @@ pub fn run_with_moments(alloc: Global, scenario: &Scenario) -> Result<(Run, Mome
     ensures moments { IfOk result
         (λ made. made.1 ≡ moments_of scenario.now made.0.journal.ticks) }
 {
-    let mut watch = Watch::new(alloc, scenario.streams.as_slice());
+    a_step_is_of_its_node_alone();
+    still_nodes_say_nothing();
+    scenario.keeps_rules();
+    let mut watch = Watch::new(alloc, scenario);
     let run = watched_run(alloc, scenario, &mut watch)?;
     let moments = watch.into_moments()?;
     Ok((run, moments))
+}
+
+// A node at which nothing is pending has nothing to say. It does nothing.
+fn still_nodes_say_nothing()
+    ensures { (s : NodeState) (app : App) (at : ℕ) → is_still_node s ≡ true
+        → octets_to_say app at s ≡ None }
+{
+    still_is_silent::<MvrpApp>();
+    still_is_silent::<MsrpApp>();
 }
 
 /// The lines of a run's moments.

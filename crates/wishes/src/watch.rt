@@ -4,20 +4,26 @@ ghost use Rattle.std.specs.Prelude.{◌≡◌, if◌then◌else◌, Some, None, 
 ghost use Rattle.wishes.specs.RunMoments.{are_same_marks as are_same_marks_spec};
 ghost use Rattle.wishes.specs.Watching.{after_end, ended, going_on as going_on_spec};
 
-use crate::marks::{are_same_marks, marks_of};
+use crate::disturbing::{events_past, events_to, undisturbed};
+use crate::marks::{all_rest, are_same_marks, idle_nodes, marks_since};
 use crate::moments::{Moments, Span};
 use srp_base::{NoMemory, Seq};
 use srp_schedule::RunWatcher;
 use std::alloc::Global;
 use std::marker::Model;
-use topology_file::StreamEntry;
+use topology_file::{EventEntry, Scenario, StreamEntry};
 use world_core::World;
 
 /// What stands, since which tick it does, the stretches of quiet ticks that are over, and the one
-/// that may go on. Contracts see a `Watched`.
+/// that may go on. What a node hears and its ports have booked is looked at only where the node may
+/// have changed it in a tick: where an event of the scenario asks something of it or a PDU is lost,
+/// doubled or forged, where it was busy when the tick began, or sent what it had to say. Contracts
+/// see a `Watched`.
 #[derive(Drop)]
 pub(crate) struct Watch<'a> {
     streams: &'a [StreamEntry],
+    script: &'a [EventEntry],
+    idle: Vec<bool>,
     marks: Vec<bool>,
     settled: u64,
     past: Vec<Span>,
@@ -31,6 +37,8 @@ impl<'a> Model for Watch<'a> {
 
     ghost view = { λ w. record {
       streams = w.streams.now;
+      script = w.script.now;
+      idle = w.idle.items;
       marks = w.marks.items;
       settled = w.settled;
       past = w.past.items;
@@ -39,15 +47,17 @@ impl<'a> Model for Watch<'a> {
 }
 
 impl<'a> Watch<'a> {
-    ghost use Rattle.std.specs.Prelude.{◌≡◌, IfOk};
-    ghost use Rattle.wishes.specs.Watching.{ended, unwatched};
+    ghost use Rattle.std.specs.Prelude.{◌≡◌, IfOk, OnOk};
+    ghost use Rattle.wishes.specs.Watching.{ended, looked, resting, unwatched};
 
     /// Nothing is known yet.
-    pub(crate) fn new(alloc: Global, streams: &'a [StreamEntry]) -> Watch<'a>
-        ensures { result ≡ unwatched streams.now }
+    pub(crate) fn new(alloc: Global, scenario: &'a Scenario) -> Watch<'a>
+        ensures { result ≡ unwatched scenario.now.streams scenario.now.events }
     {
         Watch {
-            streams,
+            streams: scenario.streams.as_slice(),
+            script: scenario.events.as_slice(),
+            idle: Vec::new(alloc),
             marks: Vec::new(alloc),
             settled: 0,
             past: Vec::new(alloc),
@@ -67,6 +77,35 @@ impl<'a> Watch<'a> {
             quiet: Seq::from_vec(quiet),
         })
     }
+
+    // Which nodes are known to rest in a tick.
+    fn resting(&self, alloc: Global, tick: u64) -> Result<Vec<bool>, NoMemory>
+        ensures { IfOk result (λ v. v.items ≡ resting self.now tick) }
+    {
+        let now = events_to(self.script, tick);
+        undisturbed(alloc, self.streams, now, self.idle.as_slice())
+    }
+
+    // Sees what stands at the end of a tick.
+    fn look(&mut self, tick: u64, world: &World) -> Result<(), NoMemory>
+        ensures { OnOk result (self.new ≡ looked self.old tick world.now) }
+    {
+        let alloc = *self.marks.allocator();
+        let rests = self.resting(alloc, tick)?;
+        if all_rest(rests.as_slice()) {
+            return Ok(());
+        }
+        let marks = marks_since(
+            alloc,
+            self.streams,
+            rests.as_slice(),
+            self.marks.as_slice(),
+            world,
+        )?;
+        self.settled = settled_at(self.settled, tick, self.marks.as_slice(), marks.as_slice());
+        self.marks = marks;
+        Ok(())
+    }
 }
 
 impl<'a> RunWatcher for Watch<'a> {
@@ -76,9 +115,9 @@ impl<'a> RunWatcher for Watch<'a> {
         ensures { OnOk result (self.new ≡ after_end self.old tick world.now) }
     {
         let alloc = *self.marks.allocator();
-        let marks = marks_of(alloc, self.streams, world)?;
-        self.settled = settled_at(self.settled, tick, self.marks.as_slice(), marks.as_slice());
-        self.marks = marks;
+        self.look(tick, world)?;
+        self.script = events_past(self.script, tick);
+        self.idle = idle_nodes(alloc, world)?;
         self.latest = see_calm(
             &mut self.past,
             self.latest,

@@ -55,6 +55,16 @@ pub struct Wish {
 /// The wishes in a network for the streams of a scenario, in the order of the file's streams, then
 /// of the nodes, each with what came of it.
 pub fn wishes_in(alloc: Global, scenario: &Scenario, world: &World) -> Result<Vec<Wish>, NoMemory>
+    ensures wishes { IfOk result (λ wishes. wishes.items ≡ wishes_in_spec scenario.now world.now) }
+    ensures stations { IfOk result (λ wishes.
+        AllByRecursion (λ wish. HasNode world.now.tree wish.station.0) wishes.items) }
+{
+    let wishes = all_wishes(alloc, scenario, world)?;
+    Ok(wishes)
+}
+
+// The same, stream by stream.
+fn all_wishes(alloc: Global, scenario: &Scenario, world: &World) -> Result<Vec<Wish>, NoMemory>
     ensures { IfOk result (λ wishes. wishes.items ≡ wishes_in_spec scenario.now world.now) }
 {
     let streams = scenario.streams.as_slice();
