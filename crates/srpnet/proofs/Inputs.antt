@@ -1,8 +1,8 @@
 -- The input of a command that was read to its end.
 use Rattle.std.proofs.Common.{◌≡◌, ℕ, ◌≤◌, Bool, true, false, List, [], ◌++◌, length, append-nil, le-leb, refl, sym, ap, subst, ◌∙◌, inl, inr, Option, Some, None, Ok, Err}
-use Rattle.std.specs.Prelude.{Result, nat_le, not, ◌&&◌}
+use Rattle.std.specs.Prelude.{IfOk, Result, nat_le, not, ◌&&◌}
 use Rattle.std.specs.Io.KnownBytes.{Consumes, IsAtEnd}
-use Rattle.srpnet.specs.{Command, Cause, Done, IsEndingOf, reads_input, EndsBy, IsEndingWhere, IsPlainEnding, is_too_long, most_octets}
+use Rattle.srpnet.specs.{Answer, Command, Cause, Done, IsAnswer, IsEndingOf, IsVerdict, Output, ReadWhole, RunsNothing, reads_input, EndsBy, IsEndingWhere, IsPlainEnding, is_too_long, most_octets}
 
 -- what a source gave up to its end is all that it told
 consumed_all : (before after : Option (List ℕ)) (octets told : List ℕ) → Consumes before after octets → IsAtEnd after → before ≡ Some told → octets ≡ told
@@ -36,3 +36,20 @@ pub ends_read : {X : Type 0} (command : Command) (octets : List ℕ) (answer : R
 ends_read command octets answer before after reads whole few ends told is =
     subst (λ (l : List ℕ). EndsBy (IsPlainEnding command l) answer) (consumed_all before after octets told whole.0 whole.1 is)
     (plain_by command octets reads few answer ends)
+
+-- what is answered for the octets that a source gave whole
+pub answered : (command : Command) (made : Result Answer Cause) (octets given : List ℕ) (before after : Option (List ℕ)) → given ≡ octets
+    → Consumes before after octets × IsAtEnd after → length octets ≤ most_octets command
+    → IfOk made (λ a. Output command given a.journal.ticks a.text) → IfOk made (λ a. IsVerdict command given a.journal.ticks a.cause)
+    → (RunsNothing command → IfOk made (λ a. a.journal.ticks ≡ []))
+    → IfOk made (λ a. IsAnswer command before after a.journal.ticks a.text a.cause)
+answered command (Err why) octets given before after same whole few output verdict no_journal = tt
+answered command (Ok a) octets given before after same whole few output verdict no_journal = record {
+  output = record {
+    octets = given;
+    whole = λ reads. subst (ReadWhole command before after) (sym same) (record { consumed = whole.0; at_end = whole.1; within = few });
+    output = output;
+    no_journal = no_journal;
+  };
+  verdict = verdict;
+}

@@ -1,14 +1,17 @@
 -- How a command ends where its octets are judged: it is done, or they are refused; so where making its output fails, neither
 -- reading nor writing is the cause.
-use Rattle.std.proofs.Common.{◌≡◌, ℕ, true, List, refl, sym, subst, inl, inr, Option, Some, None, Ok, Err}
-use Rattle.std.specs.Prelude.{Result, IfErr}
+use Rattle.std.proofs.Common.{◌≡◌, ℕ, Bool, true, false, List, length, refl, sym, subst, inl, inr, Option, Some, None, Ok, Err}
+use Rattle.std.specs.Prelude.{Result, IfErr, if◌then◌else◌, ◌&&◌, nat_le}
 use Rattle.srp_base.specs.Results.{◌>>=◌}
 use Rattle.toml.specs.Data.{Members}
 use Rattle.toml_rules.specs.declared.{rules.RuleErr.RuleErr, rules.RuleErr.TheVariants.Rule, rules.RuleErr.TheVariants.NoMemory as no_memory}
-use Rattle.srpnet.specs.{Command, Ledger, Check, Explain, ExplainLedger, ExplainAudit, Run, RunJournal, RunBounds, Ports, PortsJournal, Margins, Delays, Audit, AuditLong, Groups, Decode, Capture, Generate, GeneratePlan, Help, Version, Cause, Done, BadWords, ReadFault, TooLong, NotToml, BadScenario, WriteFault, AuditNo, NoMemory, audit_parts, IsAudited, IsAuditedBy, IsAuditedOf, IsEndingOf, reads_input, document, or_not_toml, starts_threads, by_rules, ending, input_of, ledger_file, EndsAs, EndsBy, LacksOutput, scenario_input}
+use Rattle.srpnet.specs.{Command, Ledger, Check, Explain, ExplainLedger, ExplainAudit, Run, RunJournal, RunBounds, RunCapture, Wishes, StrictWishes, Expand, Replay, ExplainGroups, ExplainPlan, Ports, PortsJournal, Margins, Delays, Audit, AuditLong, Groups, Decode, Capture, Generate, GeneratePlan, Help, Version, Cause, Done, BadWords, ReadFault, TooLong, NotToml, BadScenario, WriteFault, AuditNo, NoMemory, NotGranted, NoLink, any_scenario_of, as_cause, link_input, with_link, audit_parts, IsAudited, IsAuditedBy, IsAuditedOf, IsEndingOf, reads_input, document, or_not_toml, starts_threads, by_rules, ending, input_of, ledger_file, EndsAs, EndsBy, LacksOutput, scenario_input}
 use Rattle.srpnet.specs.AuditParts.{AuditParts}
 use Rattle.topology_file.specs.{Plan.Plan, Scenario.scenario_of}
 use Rattle.group_file.specs.Scenario.{group_scenario_of}
+use Rattle.plan_file.specs.Rules.{plan_of}
+use Rattle.replay_words.specs.{Replay.replayed, declared.error.ReplayErr.ReplayErr}
+use Rattle.replay_words.specs.declared.error.ReplayErr.TheVariants as replay
 
 -- the causes with which octets may end that are judged
 abbrev pub IsJudged : Cause → Type 0
@@ -16,11 +19,13 @@ IsJudged Done = Unit {0}
 IsJudged NotToml = Unit {0}
 IsJudged (BadScenario rule entry) = Unit {0}
 IsJudged (AuditNo line why) = Unit {0}
+IsJudged NoLink = Unit {0}
 IsJudged NoMemory = Unit {0}
 IsJudged BadWords = ⊥
 IsJudged ReadFault = ⊥
 IsJudged TooLong = ⊥
 IsJudged (WriteFault written) = ⊥
+IsJudged (NotGranted wishes) = ⊥
 
 rules_judge : {A : Type 0} (r : Result A RuleErr) → IsJudged (ending (by_rules r))
 rules_judge (Ok x) = tt
@@ -46,6 +51,8 @@ audited plan parts NotToml is = tt
 audited plan parts (BadScenario rule entry) is = tt
 audited plan parts (WriteFault written) is = absurd is
 audited plan parts NoMemory is = tt
+audited plan parts (NotGranted wishes) is = absurd is
+audited plan parts NoLink is = tt
 
 audited_by : (parts : AuditParts) (scenario : Result Plan Cause) (cause : Cause) → IsJudged (ending scenario) → IsAuditedBy parts scenario cause → IsJudged cause
 audited_by parts (Ok plan) cause judged is = audited plan parts cause is
@@ -55,6 +62,21 @@ audit_judged : (parts : Option AuditParts) (cause : Cause) → IsAuditedOf parts
 audit_judged None cause is = judged_as cause (AuditNo 0 1) tt is
 audit_judged (Some parts) cause is = audited_by parts (scenario_input parts.scenario) cause (document_judged scenario_of (document parts.scenario)) is
 
+link_judged : (n : ℕ) (plan : Plan) (b : Bool) → IsJudged (ending (if b then Ok plan else Err NoLink))
+link_judged n plan true = tt
+link_judged n plan false = tt
+
+with_link_judged : (n : ℕ) (scenario : Result Plan Cause) → IsJudged (ending scenario) → IsJudged (ending (scenario >>= with_link n))
+with_link_judged n (Ok plan) judged = link_judged n plan (nat_le 1 n && nat_le n (length plan.tree.links))
+with_link_judged n (Err cause) judged = judged
+
+replay_judged : (r : Result (List ℕ) ReplayErr) → IsJudged (ending (as_cause r))
+replay_judged (Ok text) = tt
+replay_judged (Err replay.NoLine) = tt
+replay_judged (Err replay.NotToml) = tt
+replay_judged (Err (replay.Rule rule entry)) = tt
+replay_judged (Err replay.NoMemory) = tt
+
 -- the octets of every command are judged
 pub command_judges : (command : Command) (octets : List ℕ) (cause : Cause) → IsEndingOf command octets cause → IsJudged cause
 command_judges Ledger octets cause is = judged_as cause _ (document_judged ledger_file (document octets)) is
@@ -62,18 +84,26 @@ command_judges Check octets cause is = judged_as cause _ (document_judged scenar
 command_judges Explain octets cause is = judged_as cause Done tt is
 command_judges ExplainLedger octets cause is = judged_as cause Done tt is
 command_judges ExplainAudit octets cause is = judged_as cause Done tt is
+command_judges ExplainGroups octets cause is = judged_as cause Done tt is
+command_judges ExplainPlan octets cause is = judged_as cause Done tt is
 command_judges Run octets cause is = judged_as cause _ (document_judged scenario_of (document octets)) is
 command_judges RunJournal octets cause is = judged_as cause _ (document_judged scenario_of (document octets)) is
 command_judges RunBounds octets cause is = judged_as cause _ (document_judged scenario_of (document octets)) is
+command_judges (RunCapture link) octets cause is =
+    judged_as cause _ (with_link_judged link (scenario_input octets) (document_judged scenario_of (document octets))) is
 command_judges Ports octets cause is = judged_as cause _ (document_judged scenario_of (document octets)) is
 command_judges PortsJournal octets cause is = judged_as cause _ (document_judged scenario_of (document octets)) is
 command_judges Margins octets cause is = judged_as cause _ (document_judged scenario_of (document octets)) is
 command_judges Delays octets cause is = judged_as cause _ (document_judged scenario_of (document octets)) is
+command_judges Wishes octets cause is = judged_as cause _ (document_judged any_scenario_of (document octets)) is
+command_judges StrictWishes octets cause is = judged_as cause _ (document_judged any_scenario_of (document octets)) is
+command_judges Expand octets cause is = judged_as cause _ (document_judged plan_of (document octets)) is
 command_judges Audit octets cause is = audit_judged (audit_parts octets) cause is
 command_judges AuditLong octets cause is = audit_judged (audit_parts octets) cause is
 command_judges Groups octets cause is = judged_as cause _ (document_judged group_scenario_of (document octets)) is
 command_judges (Decode form) octets cause is = judged_as cause Done tt is
 command_judges Capture octets cause is = judged_as cause Done tt is
+command_judges Replay octets cause is = judged_as cause _ (replay_judged (replayed octets)) is
 command_judges (Generate number) octets cause is = judged_as cause Done tt is
 command_judges (GeneratePlan number) octets cause is = judged_as cause Done tt is
 command_judges Help octets cause is = judged_as cause Done tt is
@@ -96,6 +126,8 @@ cause_lacks BadWords judged not_done = absurd judged
 cause_lacks ReadFault judged not_done = absurd judged
 cause_lacks TooLong judged not_done = absurd judged
 cause_lacks (WriteFault written) judged not_done = absurd judged
+cause_lacks (NotGranted wishes) judged not_done = absurd judged
+cause_lacks NoLink judged not_done = tt
 
 -- and if it isn't called done, it lacks an output
 pub lacks_output : {X : Type 0} (answer : Result X Cause) → IfErr answer IsJudged → IfErr answer (λ c. c ≡ Done → ⊥)
@@ -114,18 +146,25 @@ threads_read Check threads = refl
 threads_read Explain threads = refl
 threads_read ExplainLedger threads = refl
 threads_read ExplainAudit threads = refl
+threads_read ExplainGroups threads = refl
+threads_read ExplainPlan threads = refl
 threads_read Run threads = refl
 threads_read RunJournal threads = refl
 threads_read RunBounds threads = refl
+threads_read (RunCapture link) threads = refl
 threads_read Ports threads = refl
 threads_read PortsJournal threads = refl
 threads_read Margins threads = refl
 threads_read Delays threads = refl
+threads_read Wishes threads = refl
+threads_read StrictWishes threads = refl
+threads_read Expand threads = refl
 threads_read Audit threads = refl
 threads_read AuditLong threads = refl
 threads_read Groups threads = refl
 threads_read (Decode form) threads = refl
 threads_read Capture threads = refl
+threads_read Replay threads = refl
 threads_read (Generate number) threads = threads
 threads_read (GeneratePlan number) threads = threads
 threads_read Help threads = threads

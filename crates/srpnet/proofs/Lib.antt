@@ -12,6 +12,7 @@ pub mod AccountLemmas
 pub mod Inputs
 pub mod RunLemmas
 pub mod DelayLemmas
+pub mod PlanLemmas
 pub mod EndingLemmas
 pub mod WhyLemmas
 pub mod PartingLemmas

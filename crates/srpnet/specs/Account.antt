@@ -9,7 +9,8 @@ use Rattle.audit_words.specs.{Slips.slip_of, Slips.slip_words, Words.unformed_te
 use Rattle.srp_report.specs.Report.{report_text}
 use Rattle.srpnet.specs.declared.{audit.account.Account.Account, outcome.Cause.Cause, outcome.Cause.TheVariants.Done, outcome.Cause.TheVariants.AuditNo}
 use Rattle.srpnet.specs.declared.audit.account.Account.TheVariants.{Approved, Unformed, Illegal, Differing}
-use Rattle.srpnet.specs.{AuditParts.AuditParts, AuditParts.audit_parts, AuditParts.behind_cut, AuditText.IsAudited, AuditText.IsRunOf, ExplainText.explanation, ExplainText.table_in, Input.ending, ScenarioInput.scenario_input}
+use Rattle.rule_words.specs.declared.kinds.FileKind.TheVariants.{Scenario as ScenarioFile}
+use Rattle.srpnet.specs.{AuditParts.AuditParts, AuditParts.audit_parts, AuditParts.behind_cut, AuditText.IsAudited, AuditText.IsRunOf, ExplainText.IsExplained, Input.ending, ScenarioInput.scenario_input}
 
 -- how an audit ends that finds this
 abbrev pub cause_of : Account → Cause
@@ -69,11 +70,16 @@ pub record IsAccounted (octets : List ℕ) (plan : Plan) (parts : AuditParts) (t
 abbrev pub refused_words : List ℕ
 refused_words = codes "audit no\nthe plan is refused, as explain says of it:\n"
 
+-- what is said of the octets of a scenario that is refused: what `explain` says of it
+pub record IsRefusalTold (scenario text : List ℕ) : Type 0 where
+  pub words : List ℕ
+  pub explained : IsExplained ScenarioFile (ending (scenario_input scenario)) scenario words
+  pub text_is : text ≡ refused_words ++ words
+
 -- of the parts of an input whose scenario is this or is refused
 abbrev pub IsAccountedBy : List ℕ → AuditParts → Result Plan Cause → List ℕ → Type 0
 IsAccountedBy octets parts (Ok plan) text = IsAccounted octets plan parts text
-IsAccountedBy octets parts (Err refusal) text =
-    text ≡ refused_words ++ explanation (ending (scenario_input parts.scenario)) (table_in parts.scenario)
+IsAccountedBy octets parts (Err refusal) text = IsRefusalTold parts.scenario text
 
 -- of an input with these parts, or without a line that parts it
 abbrev pub IsAccountOf : List ℕ → Option AuditParts → List ℕ → Type 0

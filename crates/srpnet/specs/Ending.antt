@@ -3,7 +3,7 @@ use Rattle.std.specs.Prelude.{◌≡◌, ℕ, ◌⊎◌, List, [], Option, Some,
 use Rattle.srp_io.specs.{Faults.Rose, Whole.TookAtMost, Whole.TookPast}
 use Rattle.srpnet.specs.declared.{words.Command.Command, outcome.Cause.Cause}
 use Rattle.srpnet.specs.declared.outcome.Cause.TheVariants.{Done, BadWords, ReadFault, TooLong, WriteFault, NoMemory}
-use Rattle.srpnet.specs.{Commands.most_octets, Outcomes.IsRefusedInput, Outcomes.IsWriteFault, Outcomes.WritesNothing, TopCall.Wrote, TopCall.WrotePart, TopCall.WroteUntilNoMemory, TopCall.WroteNothing, TopCall.Gave, TopCall.Refuses, TopCall.ReadsNothing, TopCall.IsPlainEnding}
+use Rattle.srpnet.specs.{Commands.most_octets, Outcomes.IsRefusedInput, Outcomes.IsWriteFault, Outcomes.WritesNothing, Outcomes.WentOut, Outcomes.but_verdict, TopCall.Wrote, TopCall.WrotePart, TopCall.WroteUntilNoMemory, TopCall.WroteNothing, TopCall.Gave, TopCall.Refuses, TopCall.ReadsNothing, TopCall.IsPlainEnding}
 use Rattle.world_core.specs.declared.journal.Tick.{Tick}
 
 -- A command is carried out on a source of the type I and an out sink of the type O, before the call
@@ -12,8 +12,9 @@ use Rattle.world_core.specs.declared.journal.Tick.{Tick}
 pub record CarriedOut {I O : Type 0} (left : I → Option (List ℕ)) (in_faults : I → ℕ)
     (held : O → Option (List ℕ)) (out_faults : O → ℕ)
     (command : Command) (source source' : I) (out out' : O) (cause : Cause) (ticks : List Tick) : Type 0 where
-  -- done: the input was read to its end, and the output that belongs to it went out whole
-  pub done : cause ≡ Done → Wrote command (left source) (left source') (held out) (held out') ticks
+  -- done, or the output says no: the input was read to its end, and the output that belongs to it
+  -- went out whole
+  pub done : WentOut cause → Wrote command (left source) (left source') (held out) (held out') ticks cause
   -- a write fault: exactly the first octets of that output went out, as many as the cause says
   pub part : (written : ℕ) → cause ≡ WriteFault written
       → WrotePart command (left source) (left source') (held out) (held out') ticks written
@@ -40,10 +41,11 @@ pub record CarriedOut {I O : Type 0} (left : I → Option (List ℕ)) (in_faults
   -- the words were good
   pub good_words : cause ≡ BadWords → ⊥
   -- where neither the source nor the out sink fails in this call, the ending is the expected one
-  -- for the octets that the source tells, or want of memory
+  -- for the octets that the source tells, or want of memory; whether the output says no is told
+  -- where it went out
   pub ends : (octets : List ℕ) → left source ≡ Some octets
       → (Rose (in_faults source) (in_faults source') → ⊥) → (Rose (out_faults out) (out_faults out') → ⊥)
-      → IsPlainEnding command octets cause ⊎ (cause ≡ NoMemory)
+      → IsPlainEnding command octets (but_verdict cause) ⊎ (cause ≡ NoMemory)
   -- a command that reads no input leaves the source as it was, and goes out whatever the source is:
   -- no cause of bad input comes, so that it ends as done, by a write fault, or for want of memory
   pub unread : ReadsNothing command → source' ≡ source

@@ -25,6 +25,10 @@ pub mod ScenarioInput
 pub mod TopCall
 pub mod Words
 pub mod BoundsText
+pub mod PlanInput
+pub mod WishesText
+pub mod CaptureText
+pub mod ReplayText
 pub use Account.*
 pub use AuditParts.*
 pub use AuditText.*
@@ -52,8 +56,13 @@ pub use ScenarioInput.*
 pub use TopCall.*
 pub use Words.*
 pub use BoundsText.*
+pub use PlanInput.*
+pub use WishesText.*
+pub use CaptureText.*
+pub use ReplayText.*
+pub use Rattle.srpnet.specs.declared.commands.Answer.{Answer}
 pub use Rattle.srpnet.specs.declared.commands.CommandOutput.{CommandOutput}
 pub use Rattle.srpnet.specs.declared.outcome.Cause.{Cause}
-pub use Rattle.srpnet.specs.declared.outcome.Cause.TheVariants.{AuditNo, BadScenario, BadWords, Done, NoMemory, NotToml, ReadFault, TooLong, WriteFault}
+pub use Rattle.srpnet.specs.declared.outcome.Cause.TheVariants.{AuditNo, BadScenario, BadWords, Done, NoLink, NoMemory, NotGranted, NotToml, ReadFault, TooLong, WriteFault}
 pub use Rattle.srpnet.specs.declared.words.Command.{Command}
-pub use Rattle.srpnet.specs.declared.words.Command.TheVariants.{Audit, AuditLong, Capture, Check, Decode, Explain, ExplainAudit, ExplainLedger, Generate, GeneratePlan, Groups, Help, Ledger, Margins, Ports, PortsJournal, Run, RunBounds, RunJournal, Version, Delays}
+pub use Rattle.srpnet.specs.declared.words.Command.TheVariants.{Audit, AuditLong, Capture, Check, Decode, Delays, Expand, Explain, ExplainAudit, ExplainGroups, ExplainLedger, ExplainPlan, Generate, GeneratePlan, Groups, Help, Ledger, Margins, Ports, PortsJournal, Replay, Run, RunBounds, RunCapture, RunJournal, StrictWishes, Version, Wishes}

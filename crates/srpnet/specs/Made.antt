@@ -2,15 +2,15 @@
 use Rattle.std.specs.Prelude.{◌≡◌, ◌<◌, ℕ, List, [], length, take, Option, Some, Result, Ok, Err, IfOk, IfErr}
 use Rattle.std.specs.Io.KnownBytes.{Appends}
 use Rattle.srp_io.specs.{Faults.Rose, Whole.TookAtMost, Whole.TookPast}
-use Rattle.srpnet.specs.declared.{commands.CommandOutput.CommandOutput, outcome.Cause.Cause, words.Command.Command}
+use Rattle.srpnet.specs.declared.{commands.Answer.Answer, outcome.Cause.Cause, words.Command.Command}
 use Rattle.world_core.specs.declared.journal.Tick.{Tick}
 use Rattle.srpnet.specs.declared.outcome.Cause.TheVariants.{Done, ReadFault, TooLong, WriteFault, NoMemory}
-use Rattle.srpnet.specs.{Commands.most_octets, Outcomes.EndsAs, Outcomes.EndsBy, Outcomes.EndsWriting, Outcomes.IsRefusedInput, Outcomes.IsWriteFault, Outcomes.LacksOutput, TopCall.IsPlainEnding, TopCall.IsOutput, TopCall.Gave, TopCall.Refuses, TopCall.ReadsNothing, TopCall.PartOf}
+use Rattle.srpnet.specs.{Commands.most_octets, Outcomes.EndsAs, Outcomes.EndsBy, Outcomes.ended, Outcomes.EndsWriting, Outcomes.IsRefusedInput, Outcomes.IsWriteFault, Outcomes.LacksOutput, TopCall.IsPlainEnding, TopCall.IsAnswer, TopCall.Gave, TopCall.Refuses, TopCall.ReadsNothing, TopCall.PartOf}
 
 -- A command's output was made of what a source gave, or why there is none.
 pub record IsMade {I : Type 0} (left : I → Option (List ℕ)) (faults : I → ℕ) (command : Command) (source source' : I)
-    (made : Result CommandOutput Cause) : Type 0 where
-  pub output : IfOk made (λ o. IsOutput command (left source) (left source') o.journal.ticks o.text)
+    (made : Result Answer Cause) : Type 0 where
+  pub answer : IfOk made (λ a. IsAnswer command (left source) (left source') a.journal.ticks a.text a.cause)
   pub only : IfErr made LacksOutput
   pub given : Gave (left source) (left source')
   pub read_fault : made ≡ Err ReadFault → Rose (faults source) (faults source')
@@ -34,8 +34,16 @@ pub record IsPrinted {O : Type 0} (held : O → Option (List ℕ)) (faults : O �
   pub memory : cause ≡ NoMemory → PartOf (held out) (held out') text
   pub only : EndsWriting cause
 
--- What was made was let out, with the ticks of its run; or nothing was, for the cause for which
--- there is none.
-abbrev pub IsLetOut : {O : Type 0} → (O → Option (List ℕ)) → (O → ℕ) → O → O → Result CommandOutput Cause → Cause → List Tick → Type 0
-IsLetOut held faults out out' (Ok made) cause ticks = IsPrinted held faults out out' made.text cause × (ticks ≡ made.journal.ticks)
+-- An answer was let out, with the ticks of its run: its text, and where that is out the call ends as
+-- the answer says.
+pub record IsSaid {O : Type 0} (held : O → Option (List ℕ)) (faults : O → ℕ) (out out' : O) (made : Answer) (cause : Cause) (ticks : List Tick)
+    : Type 0 where
+  pub written : Cause
+  pub printed : IsPrinted held faults out out' made.text written
+  pub cause_is : cause ≡ ended written made.cause
+  pub ticks_are : ticks ≡ made.journal.ticks
+
+-- What was made was let out; or nothing was, for the cause for which there is none.
+abbrev pub IsLetOut : {O : Type 0} → (O → Option (List ℕ)) → (O → ℕ) → O → O → Result Answer Cause → Cause → List Tick → Type 0
+IsLetOut held faults out out' (Ok made) cause ticks = IsSaid held faults out out' made cause ticks
 IsLetOut held faults out out' (Err why) cause ticks = (cause ≡ why) × (ticks ≡ []) × (out' ≡ out)

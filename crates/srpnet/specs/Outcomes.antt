@@ -7,7 +7,7 @@ use Rattle.srp_io.specs.declared.whole.ReadErr.{ReadErr}
 use Rattle.srp_io.specs.declared.whole.ReadErr.TheVariants.{Fault as fault, TooLong as too_long, NoMemory as no_memory_to_read}
 use Rattle.toml_rules.specs.declared.{rules.RuleErr.RuleErr, rules.RuleErr.TheVariants.Rule, rules.RuleErr.TheVariants.NoMemory as no_memory}
 use Rattle.srpnet.specs.declared.outcome.Cause.{Cause}
-use Rattle.srpnet.specs.declared.outcome.Cause.TheVariants.{Done, BadWords, ReadFault, TooLong, NotToml, BadScenario, WriteFault, AuditNo, NoMemory}
+use Rattle.srpnet.specs.declared.outcome.Cause.TheVariants.{Done, BadWords, ReadFault, TooLong, NotToml, BadScenario, WriteFault, AuditNo, NoMemory, NotGranted, NoLink}
 
 -- where in the call a cause comes up
 pub data Place : Type 0 where
@@ -21,6 +21,8 @@ pub data Place : Type 0 where
   judging : Place
   -- while the output goes out
   writing : Place
+  -- behind the output: it went out whole, and says no
+  verdict : Place
   -- anywhere after the words: memory runs out
   anywhere : Place
 
@@ -34,6 +36,8 @@ place_of_cause NotToml = judging
 place_of_cause (BadScenario rule entry) = judging
 place_of_cause (WriteFault written) = writing
 place_of_cause (AuditNo line why) = judging
+place_of_cause (NotGranted wishes) = verdict
+place_of_cause NoLink = judging
 place_of_cause NoMemory = anywhere
 
 -- the exit status
@@ -47,6 +51,8 @@ status_of (BadScenario rule entry) = 6
 status_of (WriteFault written) = 7
 status_of (AuditNo line why) = 8
 status_of NoMemory = 9
+status_of (NotGranted wishes) = 10
+status_of NoLink = 11
 
 -- the text of a cause that is the same at each time
 abbrev pub fixed_text : Cause → List ℕ
@@ -58,15 +64,18 @@ fixed_text NotToml = codes "srpnet: not TOML\n"
 fixed_text (BadScenario rule entry) = []
 fixed_text (WriteFault written) = codes "srpnet: write fault\n"
 fixed_text (AuditNo line why) = []
+fixed_text (NotGranted wishes) = []
+fixed_text NoLink = codes "srpnet: no such link\n"
 fixed_text NoMemory = codes "srpnet: no memory\n"
 
--- the text of a cause; a broken rule is named by its number and its first failing entry, and what
--- an audit refuses by its line and by why
+-- the text of a cause; a broken rule is named by its number and its first failing entry, what an
+-- audit refuses by its line and by why, and wishes that aren't granted by how many they are
 abbrev pub err_text : Cause → List ℕ
 err_text (BadScenario rule entry) = whole_of (
     codes "srpnet: rule " ∷ decimal rule ∷ codes " entry " ∷ decimal entry ∷ codes "\n" ∷ [])
 err_text (AuditNo line why) = whole_of (
     codes "srpnet: audit line " ∷ decimal line ∷ codes " why " ∷ decimal why ∷ codes "\n" ∷ [])
+err_text (NotGranted wishes) = whole_of (codes "srpnet: " ∷ decimal wishes ∷ codes " wishes aren't granted\n" ∷ [])
 err_text cause = fixed_text cause
 
 -- ---- Facts of causes, by their places
@@ -86,6 +95,7 @@ IsBeforeWriting words = Unit {0}
 IsBeforeWriting reading = Unit {0}
 IsBeforeWriting judging = Unit {0}
 IsBeforeWriting writing = ⊥
+IsBeforeWriting verdict = ⊥
 IsBeforeWriting anywhere = ⊥
 
 -- nothing is written
@@ -99,6 +109,7 @@ IsBeforeOutput words = ⊥
 IsBeforeOutput reading = Unit {0}
 IsBeforeOutput judging = Unit {0}
 IsBeforeOutput writing = ⊥
+IsBeforeOutput verdict = ⊥
 IsBeforeOutput anywhere = Unit {0}
 
 -- why a command has no output
@@ -112,11 +123,37 @@ IsOfWriting words = ⊥
 IsOfWriting reading = ⊥
 IsOfWriting judging = ⊥
 IsOfWriting writing = Unit {0}
+IsOfWriting verdict = ⊥
 IsOfWriting anywhere = Unit {0}
 
 -- the causes with which writing ends
 abbrev pub EndsWriting : Cause → Type 0
 EndsWriting cause = IsOfWriting (place_of_cause cause)
+
+-- the places at which the whole output has gone out
+abbrev pub IsBehindOutput : Place → Type 0
+IsBehindOutput finish = Unit {0}
+IsBehindOutput words = ⊥
+IsBehindOutput reading = ⊥
+IsBehindOutput judging = ⊥
+IsBehindOutput writing = ⊥
+IsBehindOutput verdict = Unit {0}
+IsBehindOutput anywhere = ⊥
+
+-- the whole output went out
+abbrev pub WentOut : Cause → Type 0
+WentOut cause = IsBehindOutput (place_of_cause cause)
+
+-- how a call ends that has written for the one cause, where its output says the other: as the output
+-- says, where it is out
+abbrev pub ended : Cause → Cause → Cause
+ended Done found = found
+ended written found = written
+
+-- a cause, but that an output that says no is an output
+abbrev pub but_verdict : Cause → Cause
+but_verdict (NotGranted wishes) = Done
+but_verdict cause = cause
 
 -- an answer ends by a cause that is right, or memory ran out
 abbrev pub EndsBy : {X : Type 0} → (Cause → Type 0) → Result X Cause → Type 0

@@ -2,7 +2,7 @@
 use Rattle.std.specs.Prelude.{◌≡◌, ℕ, ◌<◌, ◌≤◌, ◌+◌, nat_le, Bool, true, false, not, ◌&&◌, List, [], length, take, Option}
 use Rattle.std.specs.Io.KnownBytes.{Appends, Consumes, IsAtEnd}
 use Rattle.srpnet.specs.declared.{words.Command.Command, outcome.Cause.Cause, outcome.Cause.TheVariants.Done, outcome.Cause.TheVariants.TooLong}
-use Rattle.srpnet.specs.{Outcomes.EndsWriting, Commands.reads_input, Commands.most_octets, Commands.Output, Commands.RunsNothing, Commands.IsEndingOf}
+use Rattle.srpnet.specs.{Outcomes.EndsWriting, Commands.reads_input, Commands.most_octets, Commands.Output, Commands.IsVerdict, Commands.RunsNothing, Commands.IsEndingOf}
 use Rattle.world_core.specs.declared.journal.Tick.{Tick}
 
 -- ---- Reading
@@ -37,10 +37,16 @@ pub record IsOutput (command : Command) (before after : Option (List ℕ)) (tick
   pub output : Output command octets ticks text
   pub no_journal : RunsNothing command → ticks ≡ []
 
--- the whole output of a command went out
-pub record Wrote (command : Command) (before after held now : Option (List ℕ)) (ticks : List Tick) : Type 0 where
-  pub text : List ℕ
+-- a command's output, and how the command ends where it is out
+pub record IsAnswer (command : Command) (before after : Option (List ℕ)) (ticks : List Tick) (text : List ℕ) (cause : Cause)
+    : Type 0 where
   pub output : IsOutput command before after ticks text
+  pub verdict : IsVerdict command output.octets ticks cause
+
+-- the whole output of a command went out, and it ends so behind it
+pub record Wrote (command : Command) (before after held now : Option (List ℕ)) (ticks : List Tick) (cause : Cause) : Type 0 where
+  pub text : List ℕ
+  pub answer : IsAnswer command before after ticks text cause
   pub appended : Appends held now text
 
 -- exactly the first octets of a command's output went out, fewer than all

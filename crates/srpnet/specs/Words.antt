@@ -5,7 +5,7 @@ use Rattle.mrpdu_codec.specs.declared.form.AppForm.{AppForm}
 use Rattle.mrpdu_codec.specs.declared.form.AppForm.TheVariants.{Mvrp, Msrp, Mmrp}
 use Rattle.report_words.specs.Number.{number_of_word}
 use Rattle.srpnet.specs.declared.words.Command.{Command}
-use Rattle.srpnet.specs.declared.words.Command.TheVariants.{Ledger, Check, Explain, ExplainLedger, ExplainAudit, Run, RunJournal, RunBounds, Ports, PortsJournal, Margins, Audit, AuditLong, Groups, Decode, Capture, Generate, GeneratePlan, Help, Version, Delays}
+use Rattle.srpnet.specs.declared.words.Command.TheVariants.{Ledger, Check, Explain, ExplainLedger, ExplainAudit, Run, RunJournal, RunBounds, Ports, PortsJournal, Margins, Audit, AuditLong, Groups, Decode, Capture, Generate, GeneratePlan, Help, Version, Delays, Wishes, StrictWishes, Expand, RunCapture, Replay, ExplainGroups, ExplainPlan}
 
 -- the rows of one word
 abbrev pub command_of_word : List ℕ → Option Command
@@ -20,7 +20,12 @@ command_of_word word =
     else if pointwise nat_eq word (codes "audit") then Some Audit
     else if pointwise nat_eq word (codes "groups") then Some Groups
     else if pointwise nat_eq word (codes "capture") then Some Capture
+    else if pointwise nat_eq word (codes "replay") then Some Replay
+    else if pointwise nat_eq word (codes "plan") then Some Wishes
+    else if pointwise nat_eq word (codes "expand") then Some Expand
     else if pointwise nat_eq word (codes "--help") then Some Help
+    else if pointwise nat_eq word (codes "-h") then Some Help
+    else if pointwise nat_eq word (codes "help") then Some Help
     else if pointwise nat_eq word (codes "--version") then Some Version
     else None
 
@@ -44,6 +49,10 @@ generation_of_word word = option_map Generate (number_of_word word)
 abbrev pub generated_plan_of_word : List ℕ → Option Command
 generated_plan_of_word word = option_map GeneratePlan (number_of_word word)
 
+-- the capture of a link, by its number
+abbrev pub capture_of_word : List ℕ → Option Command
+capture_of_word word = option_map RunCapture (number_of_word word)
+
 -- the rows of two words
 abbrev pub command_of_pair : List ℕ → List ℕ → Option Command
 command_of_pair first second =
@@ -57,8 +66,14 @@ command_of_pair first second =
     then Some ExplainLedger
     else if pointwise nat_eq first (codes "explain") && pointwise nat_eq second (codes "audit")
     then Some ExplainAudit
+    else if pointwise nat_eq first (codes "explain") && pointwise nat_eq second (codes "groups")
+    then Some ExplainGroups
+    else if pointwise nat_eq first (codes "explain") && pointwise nat_eq second (codes "plan")
+    then Some ExplainPlan
     else if pointwise nat_eq first (codes "audit") && pointwise nat_eq second (codes "long")
     then Some AuditLong
+    else if pointwise nat_eq first (codes "plan") && pointwise nat_eq second (codes "strict")
+    then Some StrictWishes
     else if pointwise nat_eq first (codes "decode") then decoding_of_word second
     else if pointwise nat_eq first (codes "gen") then generation_of_word second
     else None
@@ -68,6 +83,8 @@ abbrev pub command_of_triple : List ℕ → List ℕ → List ℕ → Option Com
 command_of_triple first second third =
     if pointwise nat_eq first (codes "gen") && pointwise nat_eq third (codes "plan")
     then generated_plan_of_word second
+    else if pointwise nat_eq first (codes "run") && pointwise nat_eq second (codes "capture")
+    then capture_of_word third
     else None
 
 -- the command of some words, where they match a row
@@ -84,18 +101,25 @@ starts_threads Check = false
 starts_threads Explain = false
 starts_threads ExplainLedger = false
 starts_threads ExplainAudit = false
+starts_threads ExplainGroups = false
+starts_threads ExplainPlan = false
 starts_threads Run = false
 starts_threads RunJournal = false
 starts_threads RunBounds = false
+starts_threads (RunCapture link) = false
 starts_threads Ports = true
 starts_threads PortsJournal = true
 starts_threads Margins = false
 starts_threads Delays = false
+starts_threads Wishes = false
+starts_threads StrictWishes = false
+starts_threads Expand = false
 starts_threads Audit = false
 starts_threads AuditLong = false
 starts_threads Groups = false
 starts_threads (Decode form) = false
 starts_threads Capture = false
+starts_threads Replay = false
 starts_threads (Generate number) = false
 starts_threads (GeneratePlan number) = false
 starts_threads Help = false

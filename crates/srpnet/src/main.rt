@@ -10,13 +10,16 @@
 //! |- run     a network and its frames through the ticks of a scenario, with its journal or without: text
 //! |- ports   the same with a thread for each port that has something to do
 //! |- bounds  the same as run, with how long class B waits at each port: limits, text
+//! |- plan    which wishes of a plan are granted, and what it takes to grant the rest: text
+//! |- captures what goes over a link in a run, as a capture file
 //! |- margins what each port has left at the end of a run
 //! |- audit   whether a journal and a report are those of a legal run: parts, where two texts differ, what is found, and what is said of it
 //! |- groups  a network that runs MMRP through the ticks of a group scenario: input, text
 //! |- decode  what captured PDUs say, in a text or in a capture file
+//! |- replay  what stood at the ends of a captured link, what was owed there, and what was broken
 //! |- generator  the scenario of a number, its run in short, or the scenario as a file
 //! '- pages   --help and --version
-//! scenario   the input of the commands that read a scenario
+//! scenario   the input of the commands that read a scenario, or a plan that stands for one
 //! document   octets to a TOML table
 //! outcome    causes, their statuses and their texts
 //! ```
@@ -26,13 +29,14 @@
 //!
 //! To add a command: a module with its input, its text and its `output`, as `ledger` has; a row of
 //! the table in `words`; an arm in `reads_input` and `output` of `commands`; and a line in each
-//! definition of `specs/Words.antt` and `specs/Commands.antt`. A new cause has a line in
-//! `place_of_cause`, `status_of` and `err_text` of `specs/Outcomes.antt`, and in `status_of` and
-//! `tell` of `outcome`.
+//! definition of `specs/Words.antt` and `specs/Commands.antt`; a command whose output may say no has
+//! one in `IsVerdict` too. A new cause has a line in `place_of_cause`, `status_of` and `err_text` of
+//! `specs/Outcomes.antt`, and in `status_of` and `tell` of `outcome`.
 #![tactic(auto)]
 
 mod audit;
 mod bounds;
+mod captures;
 mod check;
 mod commands;
 mod decode;
@@ -45,7 +49,9 @@ mod ledger;
 mod margins;
 mod outcome;
 mod pages;
+mod plan;
 mod ports;
+mod replay;
 mod run;
 mod scenario;
 mod top;

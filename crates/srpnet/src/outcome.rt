@@ -3,7 +3,7 @@
 ghost use Rattle.std.specs.Prelude.{◌≡◌, [], take, IfOk, string_bytes};
 ghost use Rattle.std.specs.Io.KnownBytes.{Appends};
 ghost use Rattle.srpnet.specs.Outcomes.{status_of as status_of_spec, err_text as err_text_spec, fixed_text as fixed_text_spec, cause_of_rules, cause_of_reading};
-ghost use Rattle.srpnet.specs.declared.outcome.Cause.TheVariants.{BadScenario, AuditNo, NoMemory as no_memory};
+ghost use Rattle.srpnet.specs.declared.outcome.Cause.TheVariants.{BadScenario, AuditNo, NotGranted, NoMemory as no_memory};
 
 use srp_base::{NoMemory, Seq};
 use srp_io::{ReadErr, Sink, WriteErr, write_whole};
@@ -36,6 +36,10 @@ pub enum Cause {
     AuditNo { line: u64, why: u8 },
     /// Want of memory. Status 9.
     NoMemory,
+    /// The output went out whole, and says that so many wishes aren't granted. Status 10.
+    NotGranted { wishes: u64 },
+    /// The scenario has no link of the number that the words name. Status 11.
+    NoLink,
 }
 
 impl From<AllocError> for Cause {
@@ -131,6 +135,8 @@ pub fn status_of(cause: Cause) -> u8
         Cause::WriteFault { .. } => 7,
         Cause::AuditNo { .. } => 8,
         Cause::NoMemory => 9,
+        Cause::NotGranted { .. } => 10,
+        Cause::NoLink => 11,
     }
 }
 
@@ -148,6 +154,8 @@ fn fixed_text(cause: Cause) -> &'static str
         Cause::WriteFault { .. } => "srpnet: write fault\n",
         Cause::AuditNo { .. } => "",
         Cause::NoMemory => "srpnet: no memory\n",
+        Cause::NotGranted { .. } => "",
+        Cause::NoLink => "srpnet: no such link\n",
     }
 }
 
@@ -163,6 +171,13 @@ fn audit_text(alloc: Global, line: u64, why: u8) -> Result<String, AllocError>
     ensures { IfOk result (λ s. string_bytes s ≡ err_text_spec (AuditNo line why)) }
 {
     format!(in alloc; "srpnet: audit line {line} why {why}\n")
+}
+
+/// The text that says how many wishes aren't granted.
+fn wishes_text(alloc: Global, wishes: u64) -> Result<String, AllocError>
+    ensures { IfOk result (λ s. string_bytes s ≡ err_text_spec (NotGranted wishes)) }
+{
+    format!(in alloc; "srpnet: {wishes} wishes aren't granted\n")
 }
 
 /// Writes what it can of a text, and says how many octets went out.
@@ -186,6 +201,10 @@ pub fn tell<E: Sink>(alloc: Global, err: &mut E, cause: Cause) -> usize
             Err(_) => 0,
         },
         Cause::AuditNo { line, why } => match audit_text(alloc, line, why) {
+            Ok(text) => put(err, text.as_bytes()),
+            Err(_) => 0,
+        },
+        Cause::NotGranted { wishes } => match wishes_text(alloc, wishes) {
             Ok(text) => put(err, text.as_bytes()),
             Err(_) => 0,
         },

@@ -36,6 +36,19 @@ srpnet: the Stream Reservation Protocol (IEEE Std 802.1Q-2018) over a file
   srpnet run bounds
                     prints the report, and then how long class B waits at each
                     port: at most, and at worst in this run
+  srpnet run capture N
+                    prints what went over link N of the run, counted from 1 in
+                    the order of the file, as a capture file: Wireshark reads it
+  srpnet plan       reads a plan file on standard input, a network and the
+                    streams that are wanted in it, or a scenario file, runs it,
+                    and prints which wishes are granted, which are refused, at
+                    which port and why, what the network needs to grant them
+                    all, and what may have been overlooked
+  srpnet plan strict
+                    prints the same, and ends with status 10 where some wish
+                    isn't granted
+  srpnet expand     reads a plan file on standard input and prints the scenario
+                    that it stands for
   srpnet margins    reads and runs a scenario file too, and prints what is left
                     at each port, by how much each refused stream misses, and
                     the shapers of the classes as tc-cbs(8) takes them
@@ -70,10 +83,15 @@ srpnet: the Stream Reservation Protocol (IEEE Std 802.1Q-2018) over a file
                     it, and prints the run in short; reads no input
   srpnet gen N plan prints that scenario as a file, so that its run can be
                     audited
-  srpnet --help     this page
+  srpnet --help     this page; so do -h and help
   srpnet --version  the version
 
-The input files, the printed lines and the statuses stand in docs/FILES.md.
+Statuses: 0 done; 2 bad words; 3 the input couldn't be read; 4 it is too long;
+5 it isn't TOML; 6 it breaks a rule, which explain tells in words; 7 the output
+couldn't be written; 8 the answer of an audit is no; 9 no memory; 10 some wish
+isn't granted; 11 the scenario has no such link.
+
+The input files and the printed lines stand in docs/FILES.md.
 ";
 
 /// The page of `--version`.

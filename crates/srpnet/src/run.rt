@@ -4,6 +4,7 @@
 pub mod text;
 
 ghost use Rattle.std.specs.Prelude.{◌≡◌, List, IfOk, IfErr};
+ghost use Rattle.frame_flow.specs.declared.result.PortFlow.{PortFlow};
 ghost use Rattle.frame_flow.specs.Flow.{IsFlow};
 ghost use Rattle.scenario_frames.specs.Setting.{setting_of};
 ghost use Rattle.topology_file.specs.{Plan.Plan, Scenario.KeepsRules};
@@ -90,13 +91,28 @@ pub fn with_flow(alloc: Global, scenario: &Scenario, run: Run) -> Result<RunWith
         (λ r. HoldsThroughout scenario.now run.journal.ticks r.flow.ports) }
 {
     slopes_stay_within_limits();
+    scenario.keeps_rules();
+    what_holds_of(scenario, &run);
+    let flow = flow_of(alloc, scenario, &run.timeline)?;
+    Ok(RunWithFlow { run, flow })
+}
+
+/// What holds of every legal run of a scenario, whatever flow its frames have. It does nothing.
+pub fn what_holds_of(scenario: &Scenario, run: &Run)
+    requires legal { AreLegalTicks scenario.now run.now.journal.ticks run.now.world }
+    requires timeline { IsTimelineOf scenario.now run.now.journal.ticks
+        run.now.timeline.changes }
+    ensures { (flows : List PortFlow)
+        → IsFlow (setting_of scenario.now run.now.timeline.changes) flows
+        → HoldsThroughout scenario.now run.now.journal.ticks flows }
+{
+    let _ = &run.world;
+    slopes_stay_within_limits();
     what_holds_of_every_run();
     every_window_stays_within();
     class_b_stays_within_at_every_port();
     each_class_gets_its_bandwidth_at_every_port();
     scenario.keeps_rules();
-    let flow = flow_of(alloc, scenario, &run.timeline)?;
-    Ok(RunWithFlow { run, flow })
 }
 
 // What holds at every moment of every legal run of a scenario, as the laws of networks say it. It

@@ -3,13 +3,13 @@
 ghost use Rattle.std.specs.Prelude.{◌≡◌, ℕ, ◌<◌, ◌+◌, true, List, length, take, Some, Err, IfOk, IfErr, IfSome, OnOk};
 ghost use Rattle.std.specs.Io.KnownBytes.{Appends};
 ghost use Rattle.srp_io.specs.{Faults.Rose, Whole.TookAtMost, Whole.TookPast};
-ghost use Rattle.srpnet.specs.Outcomes.{status_of as status_of_spec, err_text, EndsAs, EndsWriting, IsRefusedInput, IsWriteFault, LacksOutput};
+ghost use Rattle.srpnet.specs.Outcomes.{status_of as status_of_spec, ended as ended_spec, err_text, EndsAs, EndsWriting, IsRefusedInput, IsWriteFault, LacksOutput};
 ghost use Rattle.srpnet.specs.Ending.{CarriedOut, IsEnding};
 ghost use Rattle.srpnet.specs.Made.{IsMade, IsLetOut, IsPrinted};
 ghost use Rattle.srpnet.specs.TopCall.{PartOf, StoppedIn, StopsWriting, GainsFront};
 ghost use Rattle.srpnet.specs.Words.{command_of as command_of_spec, plain_command_of as plain_command_of_spec, starts_threads, IsPlain};
 
-use crate::commands::{CommandOutput, most_octets, output, output_by_threads, reads_input};
+use crate::commands::{Answer, most_octets, output, output_by_threads, reads_input};
 use crate::outcome::{Cause, Ending, Outcome, status_of, tell};
 use crate::words::{Command, plain_command_of, threads_command_of};
 use srp_base::Seq;
@@ -20,12 +20,8 @@ use std::sync::Wait;
 use std::thread::Threads;
 
 /// Reads the input of a command that starts no thread to its end, where it reads one, and makes the
-/// command's output.
-fn read_output<I: Source>(
-    alloc: Global,
-    command: Command,
-    source: &mut I,
-) -> Result<CommandOutput, Cause>
+/// command's answer.
+fn read_output<I: Source>(alloc: Global, command: Command, source: &mut I) -> Result<Answer, Cause>
     requires { IsPlain command }
     ensures { IsMade I.left I.faults command source.old source.new result }
 {
@@ -36,13 +32,13 @@ fn read_output<I: Source>(
     output(alloc, command, octets.as_slice())
 }
 
-/// Reads the input of a command that starts threads to its end, and makes the command's output.
+/// Reads the input of a command that starts threads to its end, and makes the command's answer.
 fn read_output_by_threads<R: Threads + Wait + Sync, I: Source>(
     rt: &R,
     alloc: Global,
     command: Command,
     source: &mut I,
-) -> Result<CommandOutput, Cause>
+) -> Result<Answer, Cause>
     requires { starts_threads command ≡ true }
     ensures { IsMade I.left I.faults command source.old source.new result }
 {
@@ -106,16 +102,30 @@ fn print_piece<O: Sink>(out: &mut O, written: u64, piece: &[u8]) -> Result<u64, 
     }
 }
 
-/// Lets the output of a command go out, or ends as it was made.
-fn let_out<O: Sink>(alloc: Global, made: Result<CommandOutput, Cause>, out: &mut O) -> Ending
+/// How a call ends that has written for a cause, where its answer says another: as the answer says
+/// where the text is out.
+fn ended(written: Cause, found: Cause) -> Cause
+    ensures { result ≡ ended_spec written found }
+{
+    match written {
+        Cause::Done => found,
+        cause => cause,
+    }
+}
+
+/// Lets the answer of a command go out, or ends as it was made.
+fn let_out<O: Sink>(alloc: Global, made: Result<Answer, Cause>, out: &mut O) -> Ending
     ensures { IsLetOut O.held O.faults out.old out.new made result.cause
         result.journal.ticks }
 {
     match made {
-        Ok(made) => Ending {
-            cause: print(out, made.text),
-            journal: made.journal,
-        },
+        Ok(made) => {
+            let written = print(out, made.text);
+            Ending {
+                cause: ended(written, made.cause),
+                journal: made.journal,
+            }
+        }
         Err(cause) => Ending::without_run(alloc, cause),
     }
 }

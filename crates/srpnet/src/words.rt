@@ -1,7 +1,7 @@
 //! The words of the command line.
 
 ghost use Rattle.std.specs.Prelude.{◌≡◌, true, Some, None, IfSome};
-ghost use Rattle.srpnet.specs.Words.{command_of as command_of_spec, plain_command_of as plain_command_of_spec, plain_of, starts_threads as starts_threads_spec, IsPlain, command_of_pair, command_of_triple, command_of_word, form_of_word, decoding_of_word, generated_plan_of_word, generation_of_word};
+ghost use Rattle.srpnet.specs.Words.{command_of as command_of_spec, plain_command_of as plain_command_of_spec, plain_of, starts_threads as starts_threads_spec, IsPlain, command_of_pair, command_of_triple, command_of_word, form_of_word, decoding_of_word, capture_of_word, generated_plan_of_word, generation_of_word};
 
 use mrpdu_codec::AppForm;
 use report_words::number_of_word;
@@ -22,6 +22,10 @@ pub enum Command {
     /// `explain audit`: reads what `audit` reads and prints where the answer is no, why, and what
     /// would be right there.
     ExplainAudit,
+    /// `explain groups`: does what `explain` does of a file of groups.
+    ExplainGroups,
+    /// `explain plan`: does it of a plan file.
+    ExplainPlan,
     /// `run`: reads a scenario, runs the network through its ticks and prints the report.
     Run,
     /// `run journal`: does the same, and prints what happened behind the report.
@@ -29,6 +33,9 @@ pub enum Command {
     /// `run bounds`: does the same, and prints how long class B waits at each port behind the
     /// report.
     RunBounds,
+    /// `run capture N`: reads a scenario, runs it, and prints what went over the link of a number,
+    /// counted from 1 in the order of the file, as a capture file.
+    RunCapture(u32),
     /// `ports`: does what `run` does, with a thread for each port that has something to do.
     Ports,
     /// `ports journal`: does the same, and prints what happened behind the report.
@@ -36,6 +43,13 @@ pub enum Command {
     /// `delays`: reads a scenario, runs it, and prints how long frames of its streams wait and take at
     /// most.
     Delays,
+    /// `plan`: reads a plan or a scenario, runs it, and prints which wishes are granted, what the
+    /// network needs for the rest, and what may be overlooked.
+    Wishes,
+    /// `plan strict`: does the same, and ends with a no where some wish isn't granted.
+    StrictWishes,
+    /// `expand`: reads a plan and prints the scenario that it stands for.
+    Expand,
     /// `margins`: reads a scenario, runs it, and prints what each port has left at its end.
     Margins,
     /// `audit`: reads a scenario and what was printed of a run of it with its journal, and prints
@@ -52,11 +66,14 @@ pub enum Command {
     Decode(AppForm),
     /// `capture`: reads a capture file and prints what each of its frames of MRP says.
     Capture,
+    /// `replay`: reads the captured PDUs of a link behind a head of TOML, and prints what stood at its
+    /// ends, what was owed there, and what was broken.
+    Replay,
     /// `gen N`: makes the scenario of a number, runs it and prints the summary of its run.
     Generate(u32),
     /// `gen N plan`: makes the scenario of a number and prints it as a file.
     GeneratePlan(u32),
-    /// `--help`: prints a page of help.
+    /// `--help`, `-h` or `help`: prints a page of help.
     Help,
     /// `--version`: prints the version.
     Version,
@@ -143,7 +160,17 @@ fn command_of_word(word: &[u8]) -> Option<Command>
         Some(Command::Groups)
     } else if word == b"capture".as_slice() {
         Some(Command::Capture)
+    } else if word == b"replay".as_slice() {
+        Some(Command::Replay)
+    } else if word == b"plan".as_slice() {
+        Some(Command::Wishes)
+    } else if word == b"expand".as_slice() {
+        Some(Command::Expand)
     } else if word == b"--help".as_slice() {
+        Some(Command::Help)
+    } else if word == b"-h".as_slice() {
+        Some(Command::Help)
+    } else if word == b"help".as_slice() {
         Some(Command::Help)
     } else if word == b"--version".as_slice() {
         Some(Command::Version)
@@ -165,8 +192,14 @@ fn command_of_pair(first: &[u8], second: &[u8]) -> Option<Command>
         Some(Command::ExplainLedger)
     } else if first == b"explain".as_slice() && second == b"audit".as_slice() {
         Some(Command::ExplainAudit)
+    } else if first == b"explain".as_slice() && second == b"groups".as_slice() {
+        Some(Command::ExplainGroups)
+    } else if first == b"explain".as_slice() && second == b"plan".as_slice() {
+        Some(Command::ExplainPlan)
     } else if first == b"audit".as_slice() && second == b"long".as_slice() {
         Some(Command::AuditLong)
+    } else if first == b"plan".as_slice() && second == b"strict".as_slice() {
+        Some(Command::StrictWishes)
     } else if first == b"decode".as_slice() {
         decoding_of_word(second)
     } else if first == b"gen".as_slice() {
@@ -215,8 +248,20 @@ fn command_of_triple(first: &[u8], second: &[u8], third: &[u8]) -> Option<Comman
 {
     if first == b"gen".as_slice() && third == b"plan".as_slice() {
         generated_plan_of_word(second)
+    } else if first == b"run".as_slice() && second == b"capture".as_slice() {
+        capture_of_word(third)
     } else {
         None
+    }
+}
+
+// The link that is to be captured, by its number.
+fn capture_of_word(word: &[u8]) -> Option<Command>
+    ensures { result ≡ capture_of_word word.now }
+{
+    match number_of_word(word) {
+        Some(number) => Some(Command::RunCapture(number)),
+        None => None,
     }
 }
 

@@ -3,10 +3,8 @@
 
 ghost use Rattle.std.specs.Prelude.{◌≡◌, ◌≤◌, ◌<◌, ◌+◌, ◌^◌, ◌++◌, Some, None, IfOk, IfErr};
 ghost use Rattle.audit_words.specs.Slips.{slip_of, slip_words as slip_words_spec};
-ghost use Rattle.srpnet.specs.Account.{account_text as account_text_spec, refused_words, stands_at as stands_at_spec, HasLine, IsAccounted, IsAccountedBy, IsAccountOf, IsAuditExplained, IsLineNumber};
+ghost use Rattle.srpnet.specs.Account.{account_text as account_text_spec, stands_at as stands_at_spec, HasLine, IsAccounted, IsAccountedBy, IsAccountOf, IsAuditExplained, IsLineNumber, IsRefusalTold};
 ghost use Rattle.srpnet.specs.AuditParts.{audit_parts as audit_parts_spec, behind_cut as behind_cut_spec};
-ghost use Rattle.srpnet.specs.ExplainText.{explanation, table_in};
-ghost use Rattle.srpnet.specs.Input.{ending};
 ghost use Rattle.srpnet.specs.Outcomes.{EndsAs};
 ghost use Rattle.srpnet.specs.ScenarioInput.{scenario_input as scenario_input_spec};
 
@@ -65,8 +63,7 @@ fn parts_told(alloc: Global, octets: &[u8], parts: &AuditParts<'_>) -> Result<Se
 
 // What is said of a scenario that is refused.
 fn refused(alloc: Global, scenario: &[u8]) -> Result<Seq<u8>, Cause>
-    ensures words { IfOk result (λ text. text ≡ refused_words
-        ++ explanation (ending (scenario_input_spec scenario.now)) (table_in scenario.now)) }
+    ensures words { IfOk result (IsRefusalTold scenario.now) }
     ensures memory { IfErr result (λ c. c ≡ Cause.NoMemory) }
 {
     let words = explain::output(alloc, scenario)?;

@@ -3,5 +3,5 @@ use Rattle.srpnet.proofs.top.carry_out.Goals as goal
 
 pub returns : goal.returns
 returns g c =
-    carried g.I.Source.left g.I.Source.faults g.O.Sink.held g.O.Sink.faults c.args.command _ _ _ _ _ c.read_output-made.result _
+    carried g.I.Source.left g.I.Source.faults g.O.Sink.held g.O.Sink.faults c.args.command _ _ _ _ c.read_output-made.result _ _
     c.read_output-made.ensures c.let_out.ensures

@@ -1,22 +1,30 @@
-use Rattle.std.proofs.Common.{rules}
-use Rattle.srpnet.specs.{ReadFault, TooLong, IsEndingOf}
-use Rattle.srpnet.proofs.Judged.{command_judges, judged_err, lacks_output, not_reading}
+use Rattle.std.proofs.Common.{rules, ◌≡◌, ℕ, ◌≤◌, true, List, length, subst}
+use Rattle.srpnet.specs.{ReadFault, TooLong, IsEndingOf, EndsBy, reads_input}
+use Rattle.srpnet.proofs.{Inputs.answered, Inputs.ends_read, Judged.command_judges, Judged.judged_err, Judged.lacks_output, Judged.not_reading}
 use Rattle.srpnet.proofs.top.read_output.Goals as goal
 
 pub returns : goal.returns
 returns g c =
+    let command = c.args.command in
     let octets = c.as_slice-2.result.now in
-    let judged = judged_err (IsEndingOf c.args.command octets) c.output-2.result (command_judges c.args.command octets) c.output-2.ensures.ends in
+    let made = c.output-2 in
+    let whole = c.in_ok-octets.octets.items in
+    let few = subst (λ (most : ℕ). length whole ≤ most) c.most_octets.ensures.most c.in_ok-octets.ensures.within in
+    let judged = judged_err (IsEndingOf command octets) made.result (command_judges command octets) made.ensures.ends in
+    let reads : reads_input command ≡ true = search rules in
     record {
-      output = search rules;
-      only = lacks_output c.output-2.result judged c.output-2.ensures.not_done;
+      answer = answered command made.result whole octets _ _ c.as_slice-2.ensures.value c.in_ok-octets.ensures.whole few made.ensures.output
+          made.ensures.verdict made.ensures.no_journal;
+      only = lacks_output made.result judged made.ensures.not_done;
       given = search rules;
-      read_fault = λ is. absurd (not_reading ReadFault c.output-2.result judged is);
-      in_time = λ is. absurd (not_reading ReadFault c.output-2.result judged is);
+      read_fault = λ is. absurd (not_reading ReadFault made.result judged is);
+      in_time = λ is. absurd (not_reading ReadFault made.result judged is);
       counts = search rules;
-      too_long = λ is. absurd (not_reading TooLong c.output-2.result judged is);
+      too_long = λ is. absurd (not_reading TooLong made.result judged is);
       refused = search rules;
-      ends = search rules;
+      ends = λ told is no_fault.
+          ends_read command whole made.result _ _ reads c.in_ok-octets.ensures.whole few
+          (subst (λ (os : List ℕ). EndsBy (IsEndingOf command os) made.result) c.as_slice-2.ensures.value made.ensures.ends) told is;
       unread = search rules;
       unread_ends = search rules;
     }
