@@ -2,12 +2,13 @@
 use Rattle.std.proofs.Common.{◌≡◌, ℕ, zero, suc, ◌+◌, ◌-◌, ◌*◌, ◌≤◌, Bool, true, false, ◌||◌, if◌then◌else◌, List, [], ◌∷◌, ◌++◌, map, filter, refl, sym, ap, subst, ◌∙◌, arith}
 use Rattle.std.specs.Prelude.{slice_get, slice_set, Option, Some, None, option_map, ◌==◌}
 use Rattle.std.specs.Option.{option_map_or}
-use Rattle.srp_base.proofs.Lists.{at_each, within}
+use Rattle.std.specs.List.{AllByRecursion}
+use Rattle.srp_base.proofs.{Options.one_some, Lists.at_each, Lists.within}
 use Rattle.srp_base.specs.declared.{numbers.Cs.Cs, numbers.BridgeId.BridgeId, bandwidth.Class.Class, bandwidth.Class.TheVariants.A, bandwidth.Class.TheVariants.B, ports.PortSetup.PortSetup, mrp.App.App, mrp.App.TheVariants.Mvrp, mrp.App.TheVariants.Msrp}
 use Rattle.stream_importance.specs.declared.slope.Caps.{Caps}
 use Rattle.port_ledger.specs.Book.{Book, IsKept as IsKeptBook, booked_slope}
 use Rattle.tree_topology.specs.Topology.{HasPort}
-use Rattle.topology_file.specs.declared.entries.LinkEntry.{LinkEntry}
+use Rattle.topology_file.specs.declared.entries.{LinkEntry.LinkEntry, NodeEntry.NodeEntry}
 use Rattle.topology_file.specs.Plan.{Plan}
 use Rattle.attribute_propagation.specs.Ports.{place_of}
 use Rattle.attribute_propagation.proofs.Lists.{set_at}
@@ -24,8 +25,15 @@ abbrev caps_in : NodeState → List Caps
 caps_in s = map (λ (c : Setup). c.caps) (port_setups s)
 
 -- the ports of the node at a place are those of its links
+abbrev pub HasCapsOfLinks : Plan → ℕ → List Setup → Type 0
+HasCapsOfLinks plan x setups = map (λ (c : Setup). c.caps) setups ≡ map caps_of_link (links_of (x + 1) plan)
+
+-- the ports of the node at a place are set up so
+abbrev pub AreSetUp : (ℕ → List Setup → Type 0) → ℕ → NodeState → Type 0
+AreSetUp how x s = how x (port_setups s)
+
 abbrev pub IsSetUp : Plan → ℕ → NodeState → Type 0
-IsSetUp plan x s = caps_in s ≡ map caps_of_link (links_of (x + 1) plan)
+IsSetUp plan = AreSetUp (HasCapsOfLinks plan)
 
 -- ---- it stays
 
@@ -46,19 +54,19 @@ spoilt_setups Msrp at s =
     ap (map port_setup) (spoilt_is at s.streams)
     ∙ map_set_at port_setup at (calling unsound) s.streams.ports (λ p. refl)
 
-pub set_up_sides : (plan : Plan) → IsOfSides (IsSetUp plan)
-set_up_sides plan =
-    record { boxes = λ x s ins outs h. h; marks = λ app at x s h. ap (map (λ (c : Setup). c.caps)) (spoilt_setups app at s) ∙ h }
+pub set_up_sides : (how : ℕ → List Setup → Type 0) → IsOfSides (AreSetUp how)
+set_up_sides how =
+    record { boxes = λ x s ins outs h. h; marks = λ app at x s h. subst (how x) (sym (spoilt_setups app at s)) h }
 
 -- the steps of a node leave its ports set up
-pub set_up_own : ((event : NodeEvent) (s : NodeState) → port_setups (node_step event s).0 ≡ port_setups s) → (plan : Plan) (e : WorldEvent) (w : WorldState) → KeepsOwn (IsSetUp plan) e w
-set_up_own same plan (Request n request) w = λ s is h. ap (map (λ (c : Setup). c.caps)) (same (node_events.Request request) s) ∙ h
-set_up_own same plan (PortEvent n port step) w = λ s is h. ap (map (λ (c : Setup). c.caps)) (same (node_events.Port port step) s) ∙ h
-set_up_own same plan (Lose p index) w = tt
-set_up_own same plan (Repeat p index) w = tt
-set_up_own same plan (Forge p index wire) w = tt
-set_up_own same plan (Carry p) w = tt
-set_up_own same plan Clock w = λ x s is h. ap (map (λ (c : Setup). c.caps)) (same node_events.Clock s) ∙ h
+pub set_up_own : ((event : NodeEvent) (s : NodeState) → port_setups (node_step event s).0 ≡ port_setups s) → (how : ℕ → List Setup → Type 0) (e : WorldEvent) (w : WorldState) → KeepsOwn (AreSetUp how) e w
+set_up_own same how (Request n request) w = λ s is h. subst (how (n.0 - 1)) (sym (same (node_events.Request request) s)) h
+set_up_own same how (PortEvent n port step) w = λ s is h. subst (how (n.0 - 1)) (sym (same (node_events.Port port step) s)) h
+set_up_own same how (Lose p index) w = tt
+set_up_own same how (Repeat p index) w = tt
+set_up_own same how (Forge p index wire) w = tt
+set_up_own same how (Carry p) w = tt
+set_up_own same how Clock w = λ x s is h. subst (how x) (sym (same node_events.Clock s)) h
 
 -- ---- at the start
 
@@ -142,3 +150,24 @@ within_limits laws plan w tree kept set_up p has =
     let cap_a = ap (λ (c : Caps). c.class_a) caps in
     let cap_both = ap (λ (c : Caps). c.both) caps in
     record { class_a = omega (arith, a, first, cap_a); both = omega (arith, a, b, second, cap_both) }
+
+-- ---- at every moment
+
+-- a port of a new node declares the Domain values of its word
+domains_of : (domain : DomainSet) (bridge : BridgeId) (leave_time : Cs) (periodic : Bool) (ports : List PortSetup)
+    → AllByRecursion (λ (c : Setup). c.domain ≡ domain) (map port_setup (map (new_port bridge leave_time periodic domain) ports))
+domains_of domain bridge leave_time periodic [] = tt
+domains_of domain bridge leave_time periodic (p ∷ ports) = (refl, domains_of domain bridge leave_time periodic ports)
+
+-- the ports of a node declare those of its entry's word
+abbrev pub HasDomainsOfWord : Plan → ℕ → List Setup → Type 0
+HasDomainsOfWord plan x setups =
+    (entry : NodeEntry) → slice_get plan.nodes x ≡ Some entry → AllByRecursion (λ (c : Setup). c.domain ≡ domain_set plan.domains entry.domain) setups
+
+pub domains_start : (plan : Plan) → AllNodes (AreSetUp (HasDomainsOfWord plan)) (world_of plan)
+domains_start plan x s get entry there =
+    let new = new_at plan plan.nodes 1 x s get in
+    let same : new.entry ≡ entry = one_some (slice_get plan.nodes x) new.entry entry new.at there in
+    subst (λ (e : NodeEntry). AllByRecursion (λ (c : Setup). c.domain ≡ domain_set plan.domains e.domain) (port_setups s)) same
+    (subst (λ (r : NodeState). AllByRecursion (λ (c : Setup). c.domain ≡ domain_set plan.domains new.entry.domain) (port_setups r)) (sym new.is)
+    (domains_of (domain_set plan.domains new.entry.domain) new.entry.id plan.leave_time plan.periodic (setups_from 1 new.number plan.links)))

@@ -1,10 +1,11 @@
 //! What every network keeps, whatever happens in it: laws over the states that contracts see. Each
 //! is a function that does nothing; calling it brings the law to a proof.
 
-ghost use Rattle.std.specs.Prelude.{◌≡◌, ◌≢◌, ◌<◌, ◌-◌, ◌^◌, ◌++◌, ◌∷◌, [], ℕ, suc, List, map, take, drop, slice_get, Some, IfSome, false};
+ghost use Rattle.std.specs.Prelude.{◌≡◌, ◌≢◌, ◌<◌, ◌+◌, ◌-◌, ◌^◌, ◌++◌, ◌∷◌, [], ℕ, suc, List, map, take, drop, slice_get, Some, IfSome, false};
 ghost use Rattle.srp_base.specs.declared.{numbers.NodeNo.NodeNo, numbers.PortNo.PortNo};
 ghost use Rattle.node_core.specs.declared.{types.NodeStep.NodeStep, types.PortStep.PortStep, types.NodeEvent.TheVariants.Port as port_step};
-ghost use Rattle.node_core.specs.{Proper.IsProperNode, State.NodeState, Step.node_step};
+ghost use Rattle.msrp.specs.Proper.{Setup};
+ghost use Rattle.node_core.specs.{Proper.IsProperNode, Proper.port_setups, State.NodeState, Step.node_step};
 ghost use Rattle.std.specs.List.{AllByRecursion};
 ghost use Rattle.tree_topology.specs.Topology.{Topology, link_ports};
 ghost use Rattle.topology_file.specs.declared.{entries.EventKind.EventKind, entries.NodeEntry.NodeEntry};
@@ -15,14 +16,14 @@ ghost use Rattle.world_core.specs.declared.events.WorldReply.TheVariants.{Step a
 ghost use Rattle.world_core.specs.declared.journal.NodeSteps.{NodeSteps};
 ghost use Rattle.world_core.specs.declared.journal.Tick.{Tick};
 ghost use Rattle.world_core.specs.World.{WorldState, CanHappen, CanAllHappen, IsEventInRange, node_at, world_step, world_after, replies_to};
-ghost use Rattle.world_core.specs.Start.{world_of, domain_rows, IsAtStart};
+ghost use Rattle.world_core.specs.Start.{world_of, domain_rows, domain_set, IsAtStart};
 ghost use Rattle.world_core.specs.Kept.{IsKeptWorld, IsWhole};
 ghost use Rattle.world_core.specs.Apart.{events_of, replies_of, HaveOwnReplies, after_own, after_nodes, AreMadeApart};
 ghost use Rattle.world_core.specs.Ticks.{event_of, script_at, step_events, step_replies, after_steps, LeadTo, AreLegalTicks, AreCanonicalTicks, IsLegalTick, IsCanonicalTick, tick_events};
 ghost use Rattle.world_core.specs.During.{IsDuring, IsAllowed, NamesNeighbours};
 ghost use Rattle.world_core.specs.Carrying.{NothingWaits, has_send};
 ghost use Rattle.world_core.specs.Moments.{IsMoment, events_from};
-ghost use Rattle.world_core.specs.Limits.{IsWithinLimits};
+ghost use Rattle.world_core.specs.Limits.{IsWithinLimits, caps_of_link, links_of};
 ghost use Rattle.world_core.specs.Talks.{AreTalksOfPlan, HasOneTalker};
 
 use mrp_participant::duty_laws::spoiling_keeps_duties;
@@ -198,6 +199,24 @@ pub fn every_moment_is_within_limits()
 {
     every_list_of_events_keeps_limits();
     every_event_of_a_run_may_happen();
+}
+
+/// At every moment of every run each link port of a node is set up by the scenario: the caps of its
+/// ledger are those of its link's entry, and it declares the Domain values of its node's word (IEEE
+/// Std 802.1Q-2018, 34.3, 35.2.2.9).
+pub fn every_moment_is_set_up_by_the_plan()
+    ensures caps { (plan : Plan) (ticks : List Tick) (w : WorldState) (x : ℕ) (s : NodeState)
+        → IsMoment plan ticks w → slice_get w.nodes x ≡ Some s
+        → map (λ (setup : Setup). setup.caps) (port_setups s)
+        ≡ map caps_of_link (links_of (x + 1) plan) }
+    ensures domains { (plan : Plan) (ticks : List Tick) (w : WorldState) (x : ℕ) (s : NodeState)
+        (entry : NodeEntry)
+        → IsMoment plan ticks w → slice_get w.nodes x ≡ Some s
+        → slice_get plan.nodes x ≡ Some entry
+        → AllByRecursion (λ (setup : Setup). setup.domain ≡ domain_set plan.domains entry.domain)
+        (port_setups s) }
+{
+    a_port_stays_set_up();
 }
 
 /// At every moment of a legal run the stations talk only what the scenario has them talk, so that
