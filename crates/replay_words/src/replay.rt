@@ -25,7 +25,7 @@ use std::fmt::Write;
 /// capture: by moment, in the order of the frames, what stands at the ends of the link, what is owed
 /// there, and what is broken; then where the capture breaks off, if it does, and the counts. Of
 /// octets that are no capture, or that have an interface of a link type whose frames aren't read, a
-/// line says so.
+/// line says so. The file has fewer than 2^32 octets.
 ///
 /// # Errors
 ///
