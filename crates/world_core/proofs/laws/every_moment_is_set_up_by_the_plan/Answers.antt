@@ -1,5 +1,4 @@
-use Rattle.std.proofs.Common.{Unit}
-use Rattle.world_core.specs.events_from
+use Rattle.world_core.specs.{events_from}
 use Rattle.world_core.proofs.{Limits.HasCapsOfLinks, Limits.HasDomainsOfWord, Limits.AreSetUp, Limits.set_up_sides, Limits.set_up_own, Limits.set_up_start, Limits.domains_start, Runs.at_moment, Runs.each_event}
 use Rattle.world_core.proofs.laws.every_moment_is_set_up_by_the_plan.Goals as goal
 
