@@ -1,2 +1,3 @@
 pub mod CaptureLemmas
+pub mod DumpLemmas
 pub mod MomentLemmas

@@ -1,6 +1,6 @@
 -- What a capture gives: lines of hexadecimal digits, the octets of a PDU in a line.
-use Rattle.std.specs.Prelude.{ℕ, ◌/◌, Bool, true, not, ◌==◌, ◌&&◌, ◌||◌, if◌then◌else◌, nat_lt, List, [], ◌∷◌, filter, length, slice_index, Option, None, is_some}
-use Rattle.std.specs.{List.list_any, Result.result_ok}
+use Rattle.std.specs.Prelude.{ℕ, ◌/◌, Bool, true, not, ◌==◌, ◌&&◌, ◌||◌, if◌then◌else◌, List, [], ◌∷◌, filter, length, slice_index, Option, None}
+use Rattle.std.specs.Result.{result_ok}
 use Rattle.hex.specs.Hex.{decode_sized}
 
 -- a character in front of the first of some lines
@@ -43,20 +43,3 @@ is_remark line = slice_index line 0 == 35
 -- a line that has no PDU: it is empty, or a remark
 abbrev pub is_passed_over : List ℕ → Bool
 is_passed_over line = is_remark line || length (digits_of line) == 0
-
--- whether a line has a PDU's octets
-abbrev pub has_octets : List ℕ → Bool
-has_octets line = not (is_passed_over line) && is_some (octets_in line)
-
--- whether a character stands in no text: a control character that is no tab, line feed or carriage
--- return
-abbrev pub is_control : ℕ → Bool
-is_control c = nat_lt c 32 && not (c == 9 || c == 10 || c == 13)
-
--- whether some lines have something, and none of them octets
-abbrev pub are_without_octets : List (List ℕ) → Bool
-are_without_octets lines = list_any (λ line. not (is_passed_over line)) lines && not (list_any has_octets lines)
-
--- whether a file is no text of octets: it isn't text, or none of its lines has octets
-abbrev pub is_no_text : List ℕ → Bool
-is_no_text file = list_any is_control file || are_without_octets (lines_of file)

@@ -1,8 +1,8 @@
 //! The lines of a capture, and the digits in them.
 
-ghost use Rattle.std.specs.Prelude.{◌≡◌, ◌<◌, ◌≤◌, ◌==◌, [], ◌∷◌, length, option_map, IfOk, IfSome};
-ghost use Rattle.std.specs.List.{list_all, list_any};
-ghost use Rattle.pdu_words.specs.Capture.{lines_of, is_between as is_between_spec, digits_of as digits_of_spec, is_paired as is_paired_spec, octets_of as octets_of_spec, octets_in as octets_in_spec, is_remark as is_remark_spec, is_passed_over as is_passed_over_spec, has_octets as has_octets_spec, is_control as is_control_spec, are_without_octets as are_without_octets_spec, is_no_text as is_no_text_spec};
+ghost use Rattle.std.specs.Prelude.{◌≡◌, ◌<◌, ◌≤◌, ◌+◌, ◌==◌, [], ◌∷◌, length, option_map, IfOk, IfSome};
+ghost use Rattle.std.specs.List.{list_all};
+ghost use Rattle.pdu_words.specs.Capture.{lines_of, is_between as is_between_spec, digits_of as digits_of_spec, is_paired as is_paired_spec, octets_of as octets_of_spec, octets_in as octets_in_spec, is_remark as is_remark_spec, is_passed_over as is_passed_over_spec};
 
 use memchr::memchr;
 use std::alloc::{AllocError, Global};
@@ -11,7 +11,7 @@ use std::alloc::{AllocError, Global};
 pub(crate) fn first_line(text: &[u8]) -> (&[u8], &[u8])
     requires { 0 < length text.now }
     ensures lines { lines_of text.now ≡ result.0.now ∷ lines_of result.1.now }
-    ensures within { length result.0.now ≤ length text.now }
+    ensures within { length result.0.now + length result.1.now ≤ length text.now }
     ensures shorter { length result.1.now < length text.now }
 {
     match memchr(b'\n', text) {
@@ -115,55 +115,4 @@ pub(crate) fn is_passed_over(line: &[u8]) -> bool
 {
     let none = has_no_digits(line);
     is_remark(line) || none
-}
-
-// Whether a line has a PDU's octets.
-fn has_octets(alloc: Global, line: &[u8]) -> Result<bool, AllocError>
-    ensures { IfOk result (λ has. has ≡ has_octets_spec line.now) }
-{
-    if is_passed_over(line) {
-        return Ok(false);
-    }
-    Ok(octets_in(alloc, line)?.is_some())
-}
-
-// Whether the lines of a text have something, and none of them octets.
-fn are_without_octets(alloc: Global, text: &[u8]) -> Result<bool, AllocError>
-    ensures { IfOk result (λ without. without ≡ are_without_octets_spec (lines_of text.now)) }
-{
-    let mut rest = text;
-    let mut some = false;
-    while !rest.is_empty() {
-        let (line, behind) = first_line(rest);
-        if has_octets(alloc, line)? {
-            return Ok(false);
-        }
-        some = some || !is_passed_over(line);
-        rest = behind;
-    }
-    Ok(some)
-}
-
-// Whether a character stands in no text.
-fn is_control(c: u8) -> bool
-    ensures { result ≡ is_control_spec c }
-{
-    c < 32 && !(c == b'\t' || c == b'\n' || c == b'\r')
-}
-
-// Whether any character of a file stands in no text.
-fn has_control(file: &[u8]) -> bool
-    ensures { result ≡ list_any is_control_spec file.now }
-{
-    file.iter().any(|c| is_control(*c))
-}
-
-/// Whether a file is no text of octets: it isn't text, or none of its lines has octets.
-pub(crate) fn is_no_text(alloc: Global, file: &[u8]) -> Result<bool, AllocError>
-    ensures { IfOk result (λ none. none ≡ is_no_text_spec file.now) }
-{
-    if has_control(file) {
-        return Ok(true);
-    }
-    are_without_octets(alloc, file)
 }
