@@ -8,3 +8,6 @@ pub mod BookingLaw
 pub mod StreamLaw
 pub mod StreamRest
 pub mod Refusals
+pub mod Listeners
+pub mod Wanted
+pub mod SetUp

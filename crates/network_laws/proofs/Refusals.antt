@@ -14,7 +14,7 @@ use Rattle.attribute_propagation.specs.Ports.{place_of}
 use Rattle.node_core.specs.State.{NodeState, fit_of}
 use Rattle.world_core.specs.{World.WorldState, World.node_at, Talks.HasOneTalker}
 use Rattle.network_laws.specs.{Refusal, IsTalkedOnce, is_talked_at, talking_node, failure_at, slope_of_reg, refusal_of, refusal_in, refusal_at, first_refusal, refusal_named, refusal_to, IsNamedAt, IsRefusalTo}
-use Rattle.network_laws.proofs.{StreamNode.KeptWants, StreamNet.AreStreamsStill, StreamLaw.shown, StreamLaw.fit-there, StreamLaw.moment-is}
+use Rattle.network_laws.proofs.{StreamNode.KeptWants, StreamNode.too-little-booked, StreamNet.AreStreamsStill, StreamLaw.failed-at-node, StreamLaw.shown, StreamLaw.reason-there, StreamLaw.named-there, StreamLaw.fit-there, StreamLaw.moment-is}
 
 -- ---- the first along some ports
 
@@ -248,8 +248,10 @@ module _ (w : WorldState) (still : AreStreamsStill w) (stream : StreamId) (kept 
   -- a failure for want of bandwidth names a refusal
   pub is-named : (l : ℕ) (f : Failure) → HasNode w.tree l → failure_at w stream l ≡ Some f → is_some (refusal_to w stream l) ≡ true
   is-named l f node h =
-      let d = shown w still stream kept once l f node h in
+      let g = failed-at-node w still stream kept once l f h in
+      let d = shown w still stream kept once l g.0 f node g.1 in
       let r = d.refusing in
+      let u = too-little-booked f g.2 (reason-there w still stream kept once d) in
       named-shown w stream l r.p (record {
         failure = f;
         failure_is = h;
@@ -259,11 +261,11 @@ module _ (w : WorldState) (still : AreStreamsStill w) (stream : StreamId) (kept 
         on_path = r.on;
         node = r.a.s;
         node_is = r.a.node;
-        named = sym (still.named (r.p.node.0 - 1) r.a.s (place_of r.p.port) r.a.port r.a.node r.a.has) ∙ sym r.refuses.bridge;
-        more = r.refuses.more;
-        cap = r.refuses.cap;
+        named = named-there w still stream kept once d;
+        more = u.more;
+        cap = u.cap;
         fit = ap (λ o. option_map_or (λ (port : PortState). fit_at r.a.s.clock.0 (place_of r.p.port) port.ledger (talkers_of r.a.s.streams.talks r.a.s.streams.ports stream)) o None) r.a.has
-            ∙ fit-there w still stream kept once l f d r.a.s.clock.0 (moment-is w still stream kept once r.p r.a);
+            ∙ fit-there w still stream kept once l f d r.a.s.clock.0 (moment-is w still stream kept once r.p r.a) u;
       })
 
   pub some-shown : (l : ℕ) → HasNode w.tree l → IsSome (failure_at w stream l) → IsSome (refusal_to w stream l)

@@ -1,25 +1,26 @@
 -- The laws of streams in a network at rest, in the words of their definitions.
 use Rattle.std.proofs.Common.{◌≡◌, ◌≢◌, ◌⊎◌, inl, inr, ℕ, zero, suc, ◌+◌, ◌-◌, ◌<◌, ◌≤◌, Bool, true, false, ◌&&◌, List, [], ◌∷◌, ◌++◌, length, refl, sym, ap, subst, ◌∙◌, arith}
-use Rattle.std.specs.Prelude.{slice_get, Option, Some, None, find, option_and_then, ◌↔◌, ◌==◌}
+use Rattle.std.specs.Prelude.{slice_get, Option, Some, None, filter, find, option_and_then, ◌↔◌, ◌==◌}
 use Rattle.std.specs.{Option.option_map_or, List.AllByRecursion, List.list_all, List.range_with_len}
 use Rattle.std.proofs.lemmas.{Bool.and_parts, Bool.eqb-true, Bool.Decides.nat_tests}
 use Rattle.std.proofs.lemmas.Option.{slice_get_within}
 use Rattle.srp_base.proofs.{Lists.within as get-some, Arithmetic.is_other as other-port}
 use Rattle.srp_base.specs.declared.{numbers.EgressPort.EgressPort, numbers.StreamId.StreamId, streams.Failure.Failure, streams.Talker.Talker, streams.TalkerReg.TalkerReg}
 use Rattle.srp_base.specs.declared.streams.TalkerReg.TheVariants.{Absent, Advertise, Failed}
-use Rattle.stream_importance.specs.declared.{entry.Want.Want, entry.Fit.Fit, entry.Fit.TheVariants.Fits, entry.Fit.TheVariants.TooLittle}
+use Rattle.stream_importance.specs.declared.{slope.Caps.Caps, entry.Entry.Entry, entry.Want.Want, entry.Fit.Fit, entry.Fit.TheVariants.Fits, entry.Fit.TheVariants.TooLittle}
 use Rattle.stream_importance.specs.Bandwidth.{cap_of}
-use Rattle.port_ledger.specs.{Decision.above, Decision.booked_of, Decision.does_fit, Book.Book, Book.fit_for, Book.tested_entry, Book.code_of}
+use Rattle.port_ledger.specs.{Decision.above, Decision.booked_of, Decision.does_fit, Book.is_normal, Book.Book, Book.fit_for, Book.tested_entry, Book.code_of}
 use Rattle.tree_topology.specs.{Topology.HasNode, Topology.HasPort, Ports.neighbours, Ports.peer_of, Ports.far_node, Ports.LiesBehind, Ports.IsPortPath, Walk.is_behind, Walk.path_between, Refusal.is_station}
 use Rattle.mrp_participant.specs.State.{registered_at}
 use Rattle.msrp_codec.specs.declared.pdu.MsrpKey.TheVariants as keys
-use Rattle.msrp_talker.specs.TalkerOut.{talker_in}
-use Rattle.msrp.specs.{PortState.PortState, Part.registered_talker, Part.registered_listener, Part.key_cmp, Part.talker_reg_of, Stream.Registrations, Stream.is_present, Stream.is_advertised, Stream.is_number, Stream.talker_port, Stream.is_talker_port, Stream.is_ready, Stream.talk_of, Stream.first_talker, Stream.listener_at, Stream.fit_at, Stream.want_of_talker, Stream.heard_by, Stream.heard_from as heard_in, Side.seen_by, Side.has_listen, Side.heard_of}
+use Rattle.msrp_talker.specs.TalkerOut.{check_of, talker_in}
+use Rattle.msrp.specs.{PortState.PortState, Part.registered_talker, Part.registered_listener, Part.key_cmp, Part.talker_reg_of, Stream.Registrations, Stream.is_present, Stream.is_advertised, Stream.is_number, Stream.talker_port, Stream.is_talker_port, Stream.is_ready, Stream.talk_of, Stream.first_talker, Stream.edge_at, Stream.listener_at, Stream.fit_at, Stream.want_of_talker, Stream.heard_by, Stream.heard_from as heard_in, Side.seen_by, Side.has_listen, Side.heard_of}
 use Rattle.attribute_propagation.specs.Ports.{place_of}
 use Rattle.node_core.specs.State.{NodeState}
 use Rattle.world_core.specs.World.{WorldState, node_at}
-use Rattle.network_laws.specs.{talker_at_place, is_talker_registered, is_talked_at, IsTalkedOnce, HasTalkerBehind, TalkersMatch, talking_node, has_booked, is_path_booked, IsPathBooked, is_ready_heard, hears_ready, is_listened_at, AreReadyOnPath, bandwidth_failure, failure_at, want_at, IsPushedOut, IsRefusedAt, IsOnPath, AreRefusalsShown}
-use Rattle.network_laws.proofs.{StreamNode.IsTalkers, StreamNode.port-of-present, StreamNode.is-port, StreamNode.same-port, StreamNode.KeptWants, StreamNode.booked-advertises, StreamNode.advertised-booked, StreamNode.IsOfBandwidth, StreamNode.listens, StreamNet.AreStreamsStill, StreamNet.At, StreamNet.at-port, StreamNet.reg, StreamNet.reg-is, StreamNet.regs, StreamNet.wanted, StreamNet.far-listener, StreamNet.near-talker, StreamNet.test, StreamNet.Talks, StreamNet.registered-behind, StreamNet.Sibling, StreamNet.towards, StreamNet.other-side, StreamNet.behind-registered, StreamNet.booked-is, StreamNet.path-booked, StreamNet.path-last, StreamNet.port-kept, StreamNet.kind-is, StreamNet.Refusing, StreamNet.refused, StreamNet.TalkersAt, StreamNet.at-app, StreamNet.at-link, StreamNet.talkers-at, StreamNet.get-map, StreamNet.is-not}
+use Rattle.network_laws.specs.{talker_at_place, is_talker_registered, is_talked_at, IsTalkedOnce, HasTalkerBehind, TalkersMatch, talking_node, has_booked, is_path_booked, IsPathBooked, is_ready_heard, hears_ready, is_listened_at, AreReadyOnPath, bandwidth_failure, failure_at, node_of, want_at, is_bandwidth_code, IsPushedOut, IsRefusedAt, AreRefusalsShown, talk_at, talker_at_node, HasCause}
+use Rattle.network_laws.specs.Causes as causes
+use Rattle.network_laws.proofs.{StreamNode.IsTalkers, StreamNode.port-of-present, StreamNode.is-port, StreamNode.same-port, StreamNode.KeptWants, StreamNode.booked-advertises, StreamNode.advertised-booked, StreamNode.IsOfBandwidth, StreamNode.check-codes, StreamNode.not-eight, StreamNode.stated-want, StreamNode.stated-check, StreamNode.Refuses, StreamNode.Reason, StreamNode.checked, StreamNode.bounded, StreamNode.too-little, StreamNode.reason, StreamNode.listens, StreamNet.AreStreamsStill, StreamNet.At, StreamNet.at-port, StreamNet.reg, StreamNet.reg-is, StreamNet.regs, StreamNet.wanted, StreamNet.far-listener, StreamNet.near-talker, StreamNet.test, StreamNet.Talks, StreamNet.registered-behind, StreamNet.Sibling, StreamNet.towards, StreamNet.other-side, StreamNet.behind-registered, StreamNet.booked-is, StreamNet.path-booked, StreamNet.path-last, StreamNet.port-kept, StreamNet.kind-is, StreamNet.Refusing, StreamNet.refused, StreamNet.stated_by, StreamNet.TalkersAt, StreamNet.at-app, StreamNet.at-link, StreamNet.talkers-at, StreamNet.get-map, StreamNet.is-not}
 
 -- a node lies behind a port by its walk exactly where the test says so; the egress ports of the walk are the path
 abbrev pub WalkBehind : WorldState → Type 0
@@ -80,7 +81,7 @@ advertised-present Absent h = cc
 advertised-present (Advertise u) h = refl
 advertised-present (Failed u f) h = refl
 
-heard-from : (r : Registrations) → r.listens ≡ true → is_talker_port 0 r.talkers ≡ false → is_advertised (first_talker r.talkers) ≡ true → is_ready_heard (heard_by r) ≡ true
+pub heard-from : (r : Registrations) → r.listens ≡ true → is_talker_port 0 r.talkers ≡ false → is_advertised (first_talker r.talkers) ≡ true → is_ready_heard (heard_by r) ≡ true
 heard-from r l e a = rw l (rw e (advertised-heard (first_talker r.talkers) a))
 
 heard-parts : (r : Registrations) → is_ready_heard (heard_by r) ≡ true → (r.listens ≡ true) × (is_talker_port 0 r.talkers ≡ false) × (is_advertised (first_talker r.talkers) ≡ true)
@@ -91,6 +92,11 @@ heard-parts r h = by r.listens (is_talker_port 0 r.talkers) refl refl
     by true true e f = let off : is_ready_heard (heard_by r) ≡ false = rw e (rw f refl) in cc
     by true false e f = let here : is_ready_heard (heard_by r) ≡ is_ready_heard (heard_in (first_talker r.talkers)) =
         rw e (rw f refl) in (e, f, heard-advertised (first_talker r.talkers) (sym here ∙ h))
+
+-- the application isn't the Talker's port where a link port is
+pub not-zero : (n : ℕ) (o : Option ℕ) → is_number (suc n) o ≡ true → is_number 0 o ≡ false
+not-zero n None h = refl
+not-zero n (Some m) h = other-port m 0 (λ e. absurd (omega (arith, e, eqb-true m (suc n) h)))
 
 -- a failure for want of bandwidth
 failure-parts : (x : TalkerReg) (f : Failure) → bandwidth_failure x ≡ Some f → (u : Talker) × (x ≡ Failed u f) × IsOfBandwidth f.code
@@ -121,9 +127,20 @@ pushed-out now book want more cap code h = by (does_fit now book.caps (booked_of
         (code_of now book.caps (booked_of book.entries) (tested_entry book.entries want)) = rw e refl in
         record { passes = grind (arith, nat_tests, e); code_is = ap code_in (sym h ∙ not_) }
 
--- the failure of what stands at a station's port, or at a node
-abbrev registered_in : StreamId → Option PortState → Option Failure
-registered_in stream o = bandwidth_failure (talker_reg_of (option_map_or (λ (x : PortState). registered_at key_cmp (keys.Talker stream) x.part) o None))
+-- the code of what doesn't fit is one of bandwidth
+of-bandwidth : (now : ℕ) (caps : Caps) (set : List Entry) (x : Entry) → is_bandwidth_code (code_of now caps set x) ≡ true
+of-bandwidth now caps set x = by (is_normal x && does_fit now caps (filter is_normal set) x) refl
+  where
+    by : (b : Bool) → (is_normal x && does_fit now caps (filter is_normal set) x) ≡ b → is_bandwidth_code (code_of now caps set x) ≡ true
+    by true e = rw e refl
+    by false e = rw e refl
+
+-- what stands at a node's first port, at a node, and the failure there
+abbrev registered_in : StreamId → Option PortState → TalkerReg
+registered_in stream o = talker_reg_of (option_map_or (λ (x : PortState). registered_at key_cmp (keys.Talker stream) x.part) o None)
+
+abbrev first_in : StreamId → Option NodeState → TalkerReg
+first_in stream o = option_map_or (talker_at_place stream 0) o Absent
 
 abbrev failure_in : StreamId → Option NodeState → Option Failure
 failure_in stream o = option_and_then (λ (s : NodeState). bandwidth_failure (talker_at_place stream 0 s)) o
@@ -151,7 +168,7 @@ module _ (w : WorldState) (still : AreStreamsStill w) (stream : StreamId) (kept 
     found : (t : ℕ) → talking_node w stream ≡ Some t → Talks w still stream kept t
     found t e = let r = find-range (is_talked_at w stream) (length w.tree.kinds) 1 t e in record { node = (r.0, omega (arith, r.1)); talks = r.2 }
 
-    lowest : (y : ℕ) → Talks w still stream kept y → talking_node w stream ≡ Some y
+    pub lowest : (y : ℕ) → Talks w still stream kept y → talking_node w stream ≡ Some y
     lowest y k =
         let r = find-some (is_talked_at w stream) (length w.tree.kinds) 1 y k.node.0 (omega (arith, k.node.1)) k.talks in
         let t = found r.0 r.1 in
@@ -178,10 +195,6 @@ module _ (w : WorldState) (still : AreStreamsStill w) (stream : StreamId) (kept 
 
     path-is : (l t : ℕ) → talking_node w stream ≡ Some t → is_path_booked w stream l ≡ list_all (has_booked w stream) (path_between w.tree.links t l)
     path-is l t e = ap (λ o. option_map_or (λ t. list_all (has_booked w stream) (path_between w.tree.links t l)) o false) e
-
-    not-zero : (n : ℕ) (o : Option ℕ) → is_number (suc n) o ≡ true → is_number 0 o ≡ false
-    not-zero n None h = refl
-    not-zero n (Some m) h = other-port m 0 (λ e. absurd (omega (arith, e, eqb-true m (suc n) h)))
 
     -- where the path has booked, a listening application hears Ready
     from-path : (l : ℕ) → HasNode w.tree l → is_talked_at w stream l ≡ false → ListensAt l → is_path_booked w stream l ≡ true → hears_ready w stream l ≡ true
@@ -330,40 +343,37 @@ module _ (w : WorldState) (still : AreStreamsStill w) (stream : StreamId) (kept 
       pub node : node_at (record { 0 = t }) w ≡ Some s
       pub refusing : Refusing w still stream kept once t talks l f s
 
-    node-of : (t : ℕ) → HasNode w.tree t → (s : NodeState) × (node_at (record { 0 = t }) w ≡ Some s)
+    pub node-of : (t : ℕ) → HasNode w.tree t → (s : NodeState) × (node_at (record { 0 = t }) w ≡ Some s)
     node-of t h = let lt : t - 1 < length w.nodes = omega (arith, h.0, h.1, still.many) in get-some w.nodes (t - 1) lt
 
-    -- a station's port with a failure, and what is registered there
-    record FailedAt (l : ℕ) (f : Failure) : Type 0 where
+    -- a node's first port with a failure
+    record FailedAt (l : ℕ) (u : Talker) (f : Failure) : Type 0 where
       q : EgressPort
       port : HasPort w.tree q
       node_is : q.node.0 ≡ l
-      u : Talker
       failed : reg w still stream kept q ≡ Failed u f
-      code : IsOfBandwidth f.code
 
-    failed-port : (l : ℕ) → HasNode w.tree l → (f : Failure) → failure_at w stream l ≡ Some f → FailedAt l f
-    failed-port l node f h = by-node (node_at (record { 0 = l }) w) refl
+    failed-port : (l : ℕ) → HasNode w.tree l → (u : Talker) (f : Failure) → talker_at_node w stream l ≡ Failed u f → FailedAt l u f
+    failed-port l node u f h = by-node (node_at (record { 0 = l }) w) refl
       where
-        by-port : (s : NodeState) → node_at (record { 0 = l }) w ≡ Some s → (o : Option PortState) → slice_get s.streams.ports 0 ≡ o → FailedAt l f
-        by-port s e None g = let none : failure_at w stream l ≡ None = ap (failure_in stream) e ∙ ap (registered_in stream) g in cc
+        by-port : (s : NodeState) → node_at (record { 0 = l }) w ≡ Some s → (o : Option PortState) → slice_get s.streams.ports 0 ≡ o → FailedAt l u f
+        by-port s e None g = let none : talker_at_node w stream l ≡ Absent = ap (first_in stream) e ∙ ap (registered_in stream) g in cc
         by-port s e (Some x) g =
             let up : l - 1 + 1 ≡ l = omega (arith, node.0) in
             let ports : length s.streams.ports ≡ length (neighbours w.tree.links l) = still.ports (l - 1) s e ∙ ap (λ y. length (neighbours w.tree.links y)) up in
             let q : EgressPort = record { node = record { 0 = l }; port = record { 0 = 1 } } in
             let hq : HasPort w.tree q = (node, omega arith, omega (arith, slice_get_within s.streams.ports 0 x g, ports)) in
             let b : At w still stream kept q = record { s = s; node = e; port = x; has = g } in
-            let is : bandwidth_failure (registered_talker stream x.part) ≡ Some f = sym (ap (failure_in stream) e ∙ ap (registered_in stream) g) ∙ h in
-            let parts = failure-parts (registered_talker stream x.part) f is in
-            record { q = q; port = hq; node_is = refl; u = parts.0; failed = reg-is w still stream kept q b ∙ parts.1; code = parts.2 }
+            let is : registered_talker stream x.part ≡ Failed u f = sym (ap (first_in stream) e ∙ ap (registered_in stream) g) ∙ h in
+            record { q = q; port = hq; node_is = refl; failed = reg-is w still stream kept q b ∙ is }
 
-        by-node : (o : Option NodeState) → node_at (record { 0 = l }) w ≡ o → FailedAt l f
-        by-node None e = let none : failure_at w stream l ≡ None = ap (failure_in stream) e in cc
+        by-node : (o : Option NodeState) → node_at (record { 0 = l }) w ≡ o → FailedAt l u f
+        by-node None e = let none : talker_at_node w stream l ≡ Absent = ap (first_in stream) e in cc
         by-node (Some s) e = by-port s e (slice_get s.streams.ports 0) refl
 
-    pub shown : (l : ℕ) (f : Failure) → HasNode w.tree l → failure_at w stream l ≡ Some f → Shown l f
-    shown l f node h =
-        let d = failed-port l node f h in
+    pub shown : (l : ℕ) (u : Talker) (f : Failure) → HasNode w.tree l → talker_at_node w stream l ≡ Failed u f → Shown l f
+    shown l u f node h =
+        let d = failed-port l node u f h in
         let q = d.q in
         let hq = d.port in
         let y = registered-behind w still stream kept q hq (ap is_present d.failed) in
@@ -371,8 +381,8 @@ module _ (w : WorldState) (still : AreStreamsStill w) (stream : StreamId) (kept 
         let hp = still.laws.peer_port q hq in
         let off = other-side w still stream kept once y.0 y.1 q hq y.2 in
         let s = node-of y.0 y.1.node in
-        let back : reg w still stream kept (peer_of w.tree.links p) ≡ Failed d.u f = ap (reg w still stream kept) (still.laws.peer_twice q hq) ∙ d.failed in
-        let r = refused w still stream kept once y.0 y.1 p hp off s.0 s.1 d.u f back d.code in
+        let back : reg w still stream kept (peer_of w.tree.links p) ≡ Failed u f = ap (reg w still stream kept) (still.laws.peer_twice q hq) ∙ d.failed in
+        let r = refused w still stream kept once y.0 y.1 p hp off s.0 s.1 u f back in
         record {
           t = y.0;
           talks = y.1;
@@ -382,45 +392,123 @@ module _ (w : WorldState) (still : AreStreamsStill w) (stream : StreamId) (kept 
           refusing = subst (λ z. Refusing w still stream kept once y.0 y.1 z f s.0) (still.laws.peer_back q hq ∙ d.node_is) r;
         }
 
+    -- what is registered there, at the port that refuses
+    abbrev pub first_there : {l : ℕ} {f : Failure} → Shown l f → TalkerReg
+    first_there d = first_talker (regs w still stream kept d.refusing.a).talkers
+
+    -- why that port refuses
+    abbrev pub ReasonThere : {l : ℕ} {f : Failure} → Shown l f → Type 0
+    ReasonThere {f = f} d =
+        Reason d.refusing.a.port.config d.refusing.a.port.ledger (edge_at d.refusing.a.port (regs w still stream kept d.refusing.a).talkers) (first_there d) f
+
+    pub reason-there : {l : ℕ} {f : Failure} (d : Shown l f) → ReasonThere d
+    reason-there {f = f} d =
+        let r = d.refusing in
+        let talkers = (regs w still stream kept r.a).talkers in
+        reason r.a.port.config r.a.port.ledger (edge_at r.a.port talkers) talkers f r.refuses
+
     -- a port's ledger stands at the moment of the node's clock
     pub moment-is : (p : EgressPort) (a : At w still stream kept p) → a.port.ledger.moment ≡ a.s.clock.0
     moment-is p a = (port-kept w still stream kept p a).moment ∙ still.moment (p.node.0 - 1) a.s a.node
 
-    pub are-refusals-shown : WalkPath w → AreRefusalsShown w stream
-    are-refusals-shown walk l f node mute h =
-        let d = shown l f node h in
+    -- the BridgeID of the port that refuses
+    pub named-there : {l : ℕ} {f : Failure} (d : Shown l f) → d.refusing.a.s.bridge ≡ f.bridge
+    named-there d =
+        let r = d.refusing in
+        sym (still.named (r.p.node.0 - 1) r.a.s (place_of r.p.port) r.a.port r.a.node r.a.has) ∙ sym r.refuses.3
+
+    -- bookings there leave no place for what the station asks
+    refused-at : {l : ℕ} {f : Failure} (d : Shown l f) → Refuses d.refusing.a.port.config d.refusing.a.port.ledger (first_there d) f
+        → IsRefusedAt w stream d.t f d.refusing.p
+    refused-at {f = f} d u =
+        let r = d.refusing in
+        let here : want_of_talker u.talker ≡ option_and_then want_of_talker (stated_by w still stream kept once d.t d.talks d.s) =
+        ap (λ reg. option_and_then want_of_talker (talker_in reg)) (sym u.advertised)
+        ∙ (sym (stated-want (talker_in (first_there d))) ∙ ap (option_and_then want_of_talker) r.states_it) in
+        let asks : want_of_talker u.talker ≡ want_at w stream d.t =
+        here
+        ∙ (stated-want (talk_of stream d.s.streams.talks)
+        ∙ sym (ap (λ o. option_and_then (λ (s : NodeState). option_and_then want_of_talker (talk_of stream s.streams.talks)) o) d.node)) in
+        let moment : r.a.port.ledger.moment ≡ r.a.s.clock.0 = moment-is r.p r.a in
+        let fit : fit_for r.a.s.clock.0 r.a.port.ledger u.want ≡ TooLittle u.more u.cap f.code = ap (λ m. fit_for m r.a.port.ledger u.want) (sym moment) ∙ u.fit in
+        record {
+          node = r.a.s;
+          node_is = r.a.node;
+          named = named-there d;
+          port = r.a.port;
+          port_is = r.a.has;
+          want = u.want;
+          want_is = sym asks ∙ u.wants;
+          refused = pushed-out r.a.s.clock.0 r.a.port.ledger u.want u.more u.cap f.code fit;
+        }
+
+    -- what no port can serve is what the station talks
+    checked-at : {l : ℕ} {f : Failure} (d : Shown l f) (u : Talker) → first_there d ≡ Advertise u → check_of u ≡ Some f.code
+        → option_and_then check_of (talk_at w stream d.t) ≡ Some f.code
+    checked-at d u a e =
+        ap (λ o. option_and_then check_of (option_and_then (λ (s : NodeState). talk_of stream s.streams.talks) o)) d.node
+        ∙ (sym (stated-check (talk_of stream d.s.streams.talks))
+        ∙ (ap (option_and_then check_of) (sym d.refusing.states_it)
+        ∙ (stated-check (talker_in (first_there d)) ∙ (ap (λ reg. option_and_then check_of (talker_in reg)) a ∙ e))))
+
+    refuses-there : {l : ℕ} {f : Failure} (d : Shown l f) → ReasonThere d → causes.HasReason w stream d.t f d.refusing.p d.refusing.a.s d.refusing.a.port
+    refuses-there d (checked u a e) = causes.at_each_port (checked-at d u a e)
+    refuses-there d (bounded e code) = causes.at_boundary code e
+    refuses-there d (too-little u) =
+        let at = refused-at d u in
+        let book = at.port.ledger in
+        causes.for_bandwidth (ap is_bandwidth_code at.refused.code_is ∙ of-bandwidth at.node.clock.0 book.caps (booked_of book.entries) (tested_entry book.entries at.want)) at
+
+    -- each failure has its cause
+    pub caused : WalkPath w → (l : ℕ) (u : Talker) (f : Failure) → HasNode w.tree l → talker_at_node w stream l ≡ Failed u f → HasCause w stream l f
+    caused walk l u f node h =
+        let d = shown l u f node h in
         let r = d.refusing in
         let path = path_between w.tree.links d.t l in
-        let on : IsOnPath w d.t l r.p = (path, r.i, (walk d.t l path d.talks.node node).1 refl, r.on) in
-        (d.t, d.lowest_is, (r.p, on, refused-at d))
+        record {
+          t = d.t;
+          talker = d.lowest_is;
+          p = r.p;
+          on_path = (path, r.i, (walk d.t l path d.talks.node node).1 refl, r.on);
+          node = r.a.s;
+          node_is = r.a.node;
+          named = named-there d;
+          port = r.a.port;
+          port_is = r.a.has;
+          reason = refuses-there d (reason-there d);
+        }
+
+    pub failed-at-node : (l : ℕ) (f : Failure) → failure_at w stream l ≡ Some f → (u : Talker) × (talker_at_node w stream l ≡ Failed u f) × IsOfBandwidth f.code
+    failed-at-node l f h = by (node_of l w) refl
       where
-        refused-at : (d : Shown l f) → IsRefusedAt w stream d.t f d.refusing.p
-        refused-at d =
-            let r = d.refusing in
-            let u = r.refuses in
-            let asks : want_of_talker u.talker ≡ want_at w stream d.t =
-            ap (λ reg. option_and_then want_of_talker (talker_in reg)) (sym u.advertised)
-            ∙ (r.wants ∙ sym (ap (λ o. option_and_then (λ (s : NodeState). option_and_then want_of_talker (talk_of stream s.streams.talks)) o) d.node)) in
-            let moment : r.a.port.ledger.moment ≡ r.a.s.clock.0 = moment-is r.p r.a in
-            let fit : fit_for r.a.s.clock.0 r.a.port.ledger u.want ≡ TooLittle u.more u.cap f.code = ap (λ m. fit_for m r.a.port.ledger u.want) (sym moment) ∙ u.fit in
-            record {
-              node = r.a.s;
-              node_is = r.a.node;
-              named = sym (still.named (r.p.node.0 - 1) r.a.s (place_of r.p.port) r.a.port r.a.node r.a.has) ∙ sym u.bridge;
-              port = r.a.port;
-              port_is = r.a.has;
-              want = u.want;
-              want_is = sym asks ∙ u.wants;
-              refused = pushed-out r.a.s.clock.0 r.a.port.ledger u.want u.more u.cap f.code fit;
-            }
+        by : (o : Option NodeState) → node_of l w ≡ o → (u : Talker) × (talker_at_node w stream l ≡ Failed u f) × IsOfBandwidth f.code
+        by None e = let none : failure_at w stream l ≡ None = ap (failure_in stream) e in cc
+        by (Some s) e =
+            let parts = failure-parts (talker_at_place stream 0 s) f (sym (ap (failure_in stream) e) ∙ h) in
+            (parts.0, ap (first_in stream) e ∙ parts.1, parts.2)
+
+    pub are-refusals-shown : WalkPath w → AreRefusalsShown w stream
+    are-refusals-shown walk l f node mute h =
+        let g = failed-at-node l f h in
+        let c = caused walk l g.0 f node g.1 in
+        (c.t, c.talker, (c.p, c.on_path, by g.2 c c.reason))
+      where
+        by : IsOfBandwidth f.code → (c : HasCause w stream l f) → causes.HasReason w stream c.t f c.p c.node c.port → IsRefusedAt w stream c.t f c.p
+        by code c (causes.for_bandwidth e r) = r
+        by code c (causes.at_boundary e edge) = absurd (not-eight f.code (sym e) code)
+        by code c (causes.at_each_port e) = absurd (no-check (talk_at w stream c.t) e)
+          where
+            no-check : (o : Option Talker) → option_and_then check_of o ≡ Some f.code → ⊥
+            no-check None e = cc
+            no-check (Some u) e = check-codes u f.code e code
 
     -- what the node's own test of the fit says there
     pub fit-there : (l : ℕ) (f : Failure) (d : Shown l f) (now : ℕ) → d.refusing.a.port.ledger.moment ≡ now
-        → fit_at now (place_of d.refusing.p.port) d.refusing.a.port.ledger (regs w still stream kept d.refusing.a).talkers ≡ Some (TooLittle d.refusing.refuses.more d.refusing.refuses.cap f.code)
-    fit-there l f d now e =
+        → (u : Refuses d.refusing.a.port.config d.refusing.a.port.ledger (first_there d) f)
+        → fit_at now (place_of d.refusing.p.port) d.refusing.a.port.ledger (regs w still stream kept d.refusing.a).talkers ≡ Some (TooLittle u.more u.cap f.code)
+    fit-there l f d now e u =
         let r = d.refusing in
-        let u = r.refuses in
-        let wants : option_and_then want_of_talker (talker_in (first_talker (regs w still stream kept r.a).talkers)) ≡ Some u.want =
+        let wants : option_and_then want_of_talker (talker_in (first_there d)) ≡ Some u.want =
         ap (λ reg. option_and_then want_of_talker (talker_in reg)) u.advertised ∙ u.wants in
         let here : fit_at now (place_of r.p.port) r.a.port.ledger (regs w still stream kept r.a).talkers ≡ Some (fit_for now r.a.port.ledger u.want) =
         rw r.elsewhere (rw wants refl) in

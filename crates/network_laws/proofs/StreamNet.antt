@@ -17,14 +17,14 @@ use Rattle.port_ledger.specs.Book.{entry_of, since_of, want_of}
 use Rattle.msrp_codec.specs.declared.pdu.MsrpKey.{MsrpKey}
 use Rattle.msrp_codec.specs.declared.pdu.MsrpKey.TheVariants as keys
 use Rattle.msrp_listener.specs.declared.port_listener.PortListener.{PortListener}
-use Rattle.msrp.specs.{PortState.PortState, Part.key_cmp, Part.registered_talker, Part.registered_listener, Part.talker_reg_of, Part.listener_kind_of, Stream.Registrations, Stream.advertise_of, Stream.talk_of, Stream.is_present, Stream.is_advertised, Stream.is_talker_port, Stream.is_ready, Stream.listener_row, Stream.first_talker, Stream.edge_at, Stream.talker_at, Stream.listener_at, Stream.wanted_at, Stream.want_of_talker, Side.Streams, Side.IsKept, Side.IsPort, Side.IsSettled, Side.has_talk, Side.seen_by}
-use Rattle.msrp_talker.specs.TalkerOut.{talker_in}
+use Rattle.msrp.specs.{PortState.PortState, Part.key_cmp, Part.registered_talker, Part.registered_listener, Part.talker_reg_of, Part.listener_kind_of, Stream.Registrations, Stream.advertise_of, Stream.talk_of, Stream.is_present, Stream.is_advertised, Stream.is_talker_port, Stream.is_ready, Stream.listener_row, Stream.first_talker, Stream.edge_at, Stream.talker_at, Stream.listener_at, Stream.wanted_at, Side.Streams, Side.IsKept, Side.IsPort, Side.IsSettled, Side.has_talk, Side.seen_by}
+use Rattle.msrp_talker.specs.TalkerOut.{statement_of, talker_in, IsCarriedOn, IsOfPort}
 use Rattle.attribute_propagation.specs.Ports.{place_of}
 use Rattle.attribute_propagation.proofs.Lists.{get-empty}
-use Rattle.node_core.specs.State.{NodeState, if_booked, booked_at}
+use Rattle.node_core.specs.{Proper.IsIdleBridge, State.NodeState, State.if_booked, State.booked_at}
 use Rattle.world_core.specs.World.{WorldState, node_at}
 use Rattle.network_laws.specs.{is_talked_at, IsTalkedOnce, has_booked}
-use Rattle.network_laws.proofs.StreamNode.{IsTalkers, first-is, port-of, port-of-present, is-port, same-port, declares, declared-present, present-declared, out-wants, reg-content, kind-content, KeptWants, Wants, booked-wants, advertised-booked, fit_of_reg, IsOfBandwidth, Refuses, failed-at, can_have, forwards}
+use Rattle.network_laws.proofs.StreamNode.{IsTalkers, first-is, port-of, port-of-present, is-port, same-port, declares, declared-present, present-declared, out-states, reg-content, kind-content, KeptWants, Wants, booked-wants, advertised-booked, fit_of_reg, failed-at, can_have, forwards}
 
 -- what MSRP keeps of a port
 abbrev pub stream_port : EgressPort → WorldState → Option PortState
@@ -39,11 +39,11 @@ pub record AreStreamsStill (w : WorldState) : Type 0 where
   pub none_await : (x : ℕ) (s : NodeState) → slice_get w.nodes x ≡ Some s → list_all (λ (keys : List MsrpKey). length keys == 0) s.streams.awaiting ≡ true
   pub moment : (x : ℕ) (s : NodeState) → slice_get w.nodes x ≡ Some s → s.streams.moment ≡ s.clock.0
   pub named : (x : ℕ) (s : NodeState) (i : ℕ) (port : PortState) → slice_get w.nodes x ≡ Some s → slice_get s.streams.ports i ≡ Some port → port.config.bridge ≡ s.bridge
-  pub idle : (x : ℕ) (s : NodeState) → slice_get w.nodes x ≡ Some s → s.kind ≡ Bridge → s.streams.talks ≡ []
+  pub idle : (x : ℕ) (s : NodeState) → slice_get w.nodes x ≡ Some s → IsIdleBridge s
   pub linked : (p : EgressPort) → HasPort w.tree p → (a b : PortState) → stream_port p w ≡ Some a → stream_port (peer_of w.tree.links p) w ≡ Some b
       → (key : MsrpKey) → registered_at key_cmp key a.part ≡ declared_at key_cmp key b.part
 
-map-get : {X Y : Type 0} (f : X → Y) (xs : List X) (j : ℕ) (x : X) → slice_get xs j ≡ Some x → slice_get (map f xs) j ≡ Some (f x)
+pub map-get : {X Y : Type 0} (f : X → Y) (xs : List X) (j : ℕ) (x : X) → slice_get xs j ≡ Some x → slice_get (map f xs) j ≡ Some (f x)
 map-get f [] j x h = cc
 map-get f (y ∷ xs) zero x h = let same : y ≡ x = cc in ap (λ z. Some (f z)) same
 map-get f (y ∷ xs) (suc j) x h = map-get f xs j x h
@@ -69,7 +69,7 @@ are-both true = inl refl
 are-both false = inr refl
 
 -- a Talker of the application is registered exactly where it talks
-talks-present : (o : Option Talker) → is_present (advertise_of o) ≡ is_some o
+pub talks-present : (o : Option Talker) → is_present (advertise_of o) ≡ is_some o
 talks-present None = refl
 talks-present (Some t) = refl
 
@@ -106,7 +106,7 @@ module _ (w : WorldState) (still : AreStreamsStill w) (stream : StreamId) (kept-
   abbrev q_of : EgressPort → EgressPort
   q_of p = peer_of w.tree.links p
 
-  ports-are : (p : EgressPort) (s : NodeState) → HasPort w.tree p → node_at p.node w ≡ Some s → length s.streams.ports ≡ length (neighbours w.tree.links p.node.0)
+  pub ports-are : (p : EgressPort) (s : NodeState) → HasPort w.tree p → node_at p.node w ≡ Some s → length s.streams.ports ≡ length (neighbours w.tree.links p.node.0)
   ports-are p s h e =
       let one : p.node.0 - 1 + 1 ≡ p.node.0 = omega (arith, h.0.0) in
       still.ports (p.node.0 - 1) s e ∙ ap (λ n. length (neighbours w.tree.links n)) one
@@ -144,7 +144,7 @@ module _ (w : WorldState) (still : AreStreamsStill w) (stream : StreamId) (kept-
   side-kept : (p : EgressPort) (a : At p) → IsKept a.s.streams
   side-kept p a = still.kept (p.node.0 - 1) a.s a.node
 
-  settled : (p : EgressPort) (a : At p) → IsSettled (place_of p.port) a.port [] (seen_by a.s.streams)
+  pub settled : (p : EgressPort) (a : At p) → IsSettled (place_of p.port) a.port [] (seen_by a.s.streams)
   settled p a =
       let side = side-kept p a in
       let lt : place_of p.port < length a.s.streams.awaiting = omega (arith, side.sets, slice_get_within a.s.streams.ports (place_of p.port) a.port a.has) in
@@ -188,10 +188,10 @@ module _ (w : WorldState) (still : AreStreamsStill w) (stream : StreamId) (kept-
   own-is : (p : EgressPort) (a : At p) → own p.node.0 ≡ (is_station a.s.kind && has_talk stream a.s.streams)
   own-is p a = ap (λ o. option_map_or (λ (s : NodeState). is_station s.kind && has_talk stream s.streams) o false) a.node
 
-  own-from : (p : EgressPort) (a : At p) → has_talk stream a.s.streams ≡ true → own p.node.0 ≡ true
-  own-from p a t = own-is p a ∙ station-talk stream a.s.kind a.s.streams (still.idle (p.node.0 - 1) a.s a.node) t
+  pub own-from : (p : EgressPort) (a : At p) → has_talk stream a.s.streams ≡ true → own p.node.0 ≡ true
+  own-from p a t = own-is p a ∙ station-talk stream a.s.kind a.s.streams (λ k. (still.idle (p.node.0 - 1) a.s a.node k).talks) t
 
-  own-talk : (p : EgressPort) (a : At p) → own p.node.0 ≡ true → has_talk stream a.s.streams ≡ true
+  pub own-talk : (p : EgressPort) (a : At p) → own p.node.0 ≡ true → has_talk stream a.s.streams ≡ true
   own-talk p a t = (and_parts (is_station a.s.kind) (has_talk stream a.s.streams) (sym (own-is p a) ∙ t)).1
 
   -- another link port of a port's node
@@ -508,51 +508,61 @@ module _ (w : WorldState) (still : AreStreamsStill w) (stream : StreamId) (kept-
     pub path-booked : (p : EgressPort) → HasPort w.tree p → behind p t ≡ false → booked p ≡ true → list_all booked (path_between w.tree.links t (far p)) ≡ true
     path-booked p h off k = all-booked (suc (count (q_of p))) p h (omega arith) off k
 
-    -- ---- what the station asks
+    -- ---- what the station states
 
-    abbrev pub asked : TalkerReg → Option Want
-    asked x = option_and_then want_of_talker (talker_in x)
+    abbrev pub stated : TalkerReg → Option Talker
+    stated x = statement_of (talker_in x)
 
-    abbrev pub wants_of : NodeState → Option Want
-    wants_of s = option_and_then want_of_talker (talk_of stream s.streams.talks)
+    abbrev pub stated_by : NodeState → Option Talker
+    stated_by s = statement_of (talk_of stream s.streams.talks)
 
-    advertised-asks : (o : Option Talker) → asked (advertise_of o) ≡ option_and_then want_of_talker o
-    advertised-asks None = refl
-    advertised-asks (Some u) = refl
+    advertised-states : (o : Option Talker) → stated (advertise_of o) ≡ statement_of o
+    advertised-states None = refl
+    advertised-states (Some u) = refl
 
-    asks-there : (p : EgressPort) (h : HasPort w.tree p) (a : At p) → p.node.0 ≡ t → (s : NodeState) → node_at (record { 0 = t }) w ≡ Some s
-        → asked (first_talker (regs a).talkers) ≡ wants_of s
-    asks-there p h a e s f =
+    states-there : (p : EgressPort) (h : HasPort w.tree p) (a : At p) → p.node.0 ≡ t → (s : NodeState) → node_at (record { 0 = t }) w ≡ Some s
+        → stated (first_talker (regs a).talkers) ≡ stated_by s
+    states-there p h a e s f =
         let same : a.s ≡ s = one (node_at p.node w) a.s s a.node (ap (λ (n : ℕ). node_at (record { 0 = n }) w) e ∙ f) in
-        ap asked (at-station p h a e) ∙ (advertised-asks (talk_of stream a.s.streams.talks) ∙ ap wants_of same)
+        ap stated (at-station p h a e) ∙ (advertised-states (talk_of stream a.s.streams.talks) ∙ ap stated_by same)
 
-    -- wherever the Talker is registered it asks for what the station's application asks for
+    -- wherever the Talker is registered it states what the station's application states
     states : (n : ℕ) (p : EgressPort) (h : HasPort w.tree p) → count p < n → behind p t ≡ true → (s : NodeState) → node_at (record { 0 = t }) w ≡ Some s
-        → asked (reg p) ≡ wants_of s
+        → stated (reg p) ≡ stated_by s
     states zero p h lt k s e = absurd (omega arith)
     states (suc n) p h lt k s e =
         let hq = laws.peer_port p h in
         let b = at-port (q_of p) hq in
         let parts = declared-present (place_of (q_of p).port) b.port (regs b).talkers (sym (ap is_present (near-talker p h b)) ∙ behind-registered p h k) in
-        ap asked (near-talker p h b ∙ declares (place_of (q_of p).port) b.port (regs b).talkers parts.0)
-        ∙ (out-wants (first_talker (regs b).talkers) b.port.config (edge_at b.port (regs b).talkers) (fit_of_reg b.port.ledger (first_talker (regs b).talkers))
+        ap stated (near-talker p h b ∙ declares (place_of (q_of p).port) b.port (regs b).talkers parts.0)
+        ∙ (out-states (first_talker (regs b).talkers) b.port.config (edge_at b.port (regs b).talkers) (fit_of_reg b.port.ledger (first_talker (regs b).talkers))
         ∙ by b (step-back (q_of p) hq b (other-side p h k)) (λ r hr less b. states n r hr less b s e))
       where
         by : (b : At (q_of p)) → ((q_of p).node.0 ≡ t) ⊎ ((r : EgressPort) × Towards (q_of p) b r)
-            → ((r : EgressPort) (hr : HasPort w.tree r) → count r < n → behind r t ≡ true → asked (reg r) ≡ wants_of s) → asked (first_talker (regs b).talkers) ≡ wants_of s
-        by b (inl f) further = asks-there (q_of p) (laws.peer_port p h) b f s e
+            → ((r : EgressPort) (hr : HasPort w.tree r) → count r < n → behind r t ≡ true → stated (reg r) ≡ stated_by s) → stated (first_talker (regs b).talkers) ≡ stated_by s
+        by b (inl f) further = states-there (q_of p) (laws.peer_port p h) b f s e
         by b (inr r) further =
             let hr = r.1.sib.port in
             let node : r.0.node.0 ≡ far p = ap (λ x. x.0) r.1.sib.node in
             let less : count r.0 < n = omega (arith, laws.ahead_falls p r.0 h hr node r.1.differs, lt) in
-            ap asked r.1.is_reg ∙ further r.0 hr less r.1.leads
+            ap stated r.1.is_reg ∙ further r.0 hr less r.1.leads
 
-    pub states-the-same : (p : EgressPort) (h : HasPort w.tree p) → behind p t ≡ true → (s : NodeState) → node_at (record { 0 = t }) w ≡ Some s → asked (reg p) ≡ wants_of s
+    pub states-the-same : (p : EgressPort) (h : HasPort w.tree p) → behind p t ≡ true → (s : NodeState) → node_at (record { 0 = t }) w ≡ Some s → stated (reg p) ≡ stated_by s
     states-the-same p h k s e = states (suc (count p)) p h (omega arith) k s e
+
+    -- so it does at each port's node
+    pub states-at : (p : EgressPort) (h : HasPort w.tree p) (a : At p) → (s : NodeState) → node_at (record { 0 = t }) w ≡ Some s
+        → stated (first_talker (regs a).talkers) ≡ stated_by s
+    states-at p h a s e = by (towards p h a)
+      where
+        by : (p.node.0 ≡ t) ⊎ ((r : EgressPort) × Sibling p a r × (behind r t ≡ true) × (is_talker_port (suc (place_of r.port)) (regs a).talkers ≡ true) × (first_talker (regs a).talkers ≡ reg r))
+            → stated (first_talker (regs a).talkers) ≡ stated_by s
+        by (inl f) = states-there p h a f s e
+        by (inr r) = ap stated r.4 ∙ states-the-same r.0 r.1.port r.2 s e
 
     -- ---- failures
 
-    -- a port of the path to a node refuses what the station asks, with this failure
+    -- a port of the path to a node refuses what the station states, with this failure
     pub record Refusing (l : ℕ) (f : Failure) (s : NodeState) : Type 0 where
       pub p : EgressPort
       pub port : HasPort w.tree p
@@ -560,8 +570,8 @@ module _ (w : WorldState) (still : AreStreamsStill w) (stream : StreamId) (kept-
       pub i : ℕ
       pub on : slice_get (path_between w.tree.links t l) i ≡ Some p
       pub elsewhere : is_talker_port (suc (place_of p.port)) (regs a).talkers ≡ false
-      pub refuses : Refuses a.port.config a.port.ledger (first_talker (regs a).talkers) f
-      pub wants : asked (first_talker (regs a).talkers) ≡ wants_of s
+      pub refuses : IsOfPort a.port.config (edge_at a.port (regs a).talkers) (fit_of_reg a.port.ledger (first_talker (regs a).talkers)) (first_talker (regs a).talkers) f
+      pub states_it : stated (first_talker (regs a).talkers) ≡ stated_by s
 
     get-front : {X : Type 0} (xs ys : List X) (i : ℕ) (x : X) → slice_get xs i ≡ Some x → slice_get (xs ++ ys) i ≡ Some x
     get-front [] ys i x h = cc
@@ -586,26 +596,23 @@ module _ (w : WorldState) (still : AreStreamsStill w) (stream : StreamId) (kept-
           on = ap (λ xs. slice_get xs r.i) (path-last p h off) ∙ get-front (path_between w.tree.links t p.node.0) (p ∷ []) r.i r.p r.on;
           elsewhere = r.elsewhere;
           refuses = r.refuses;
-          wants = r.wants;
+          states_it = r.states_it;
         }
 
     refusing : (n : ℕ) (p : EgressPort) (h : HasPort w.tree p) → count (q_of p) < n → behind p t ≡ false → (s : NodeState) → node_at (record { 0 = t }) w ≡ Some s
-        → (u : Talker) (f : Failure) → reg (q_of p) ≡ Failed u f → IsOfBandwidth f.code → Refusing (far p) f s
-    refusing zero p h lt off s e u f k code = absurd (omega arith)
-    refusing (suc n) p h lt off s e u f k code =
+        → (u : Talker) (f : Failure) → reg (q_of p) ≡ Failed u f → Refusing (far p) f s
+    refusing zero p h lt off s e u f k = absurd (omega arith)
+    refusing (suc n) p h lt off s e u f k =
         let a = at-port p h in
-        by a (step-back p h a off) (failed-at (place_of p.port) a.port (regs a).talkers u f (sym (far-talker p h a) ∙ k) code)
-        (λ q hq less away v g. refusing n q hq less away s e v f g code)
+        by a (step-back p h a off) (failed-at (place_of p.port) a.port (regs a).talkers u f (sym (far-talker p h a) ∙ k))
+        (λ q hq less away v g. refusing n q hq less away s e v f g)
       where
-        wants-here : (a : At p) → (p.node.0 ≡ t) ⊎ ((r : EgressPort) × Towards p a r) → asked (first_talker (regs a).talkers) ≡ wants_of s
-        wants-here a (inl f) = asks-there p h a f s e
-        wants-here a (inr r) = ap asked r.1.is_reg ∙ states-the-same r.0 r.1.sib.port r.1.leads s e
-
         elsewhere : (a : At p) → is_present (talker_at (place_of p.port) a.port (regs a).talkers) ≡ true → is_talker_port (suc (place_of p.port)) (regs a).talkers ≡ false
         elsewhere a x = (declared-present (place_of p.port) a.port (regs a).talkers x).0
 
         by : (a : At p) → (p.node.0 ≡ t) ⊎ ((r : EgressPort) × Towards p a r)
-            → ((v : Talker) × (first_talker (regs a).talkers ≡ Failed v f)) ⊎ Refuses a.port.config a.port.ledger (first_talker (regs a).talkers) f
+            → IsCarriedOn (first_talker (regs a).talkers) f
+            ⊎ IsOfPort a.port.config (edge_at a.port (regs a).talkers) (fit_of_reg a.port.ledger (first_talker (regs a).talkers)) (first_talker (regs a).talkers) f
             → ((q : EgressPort) (hq : HasPort w.tree q) → count (q_of q) < n → behind q t ≡ false → (v : Talker) → reg (q_of q) ≡ Failed v f → Refusing (far q) f s)
             → Refusing (far p) f s
         by a where_ (inr refuses) further =
@@ -617,7 +624,7 @@ module _ (w : WorldState) (still : AreStreamsStill w) (stream : StreamId) (kept-
               on = ap (λ xs. slice_get xs (length (path_between w.tree.links t p.node.0))) (path-last p h off) ∙ get-end (path_between w.tree.links t p.node.0) p;
               elsewhere = elsewhere a (ap is_present (sym (far-talker p h a) ∙ k));
               refuses = refuses;
-              wants = wants-here a where_;
+              states_it = states-at p h a s e;
             }
         by a (inl g) (inl v) further = absurd (never-failed (talk_of stream a.s.streams.talks) v.0 f (sym (at-station p h a g) ∙ v.1))
         by a (inr r) (inl v) further =
@@ -629,5 +636,5 @@ module _ (w : WorldState) (still : AreStreamsStill w) (stream : StreamId) (kept-
             later p h f s off (subst (λ y. Refusing y f s) (far-back p h a r.0 r.1) before)
 
     pub refused : (p : EgressPort) (h : HasPort w.tree p) → behind p t ≡ false → (s : NodeState) → node_at (record { 0 = t }) w ≡ Some s
-        → (u : Talker) (f : Failure) → reg (q_of p) ≡ Failed u f → IsOfBandwidth f.code → Refusing (far p) f s
-    refused p h off s e u f k code = refusing (suc (count (q_of p))) p h (omega arith) off s e u f k code
+        → (u : Talker) (f : Failure) → reg (q_of p) ≡ Failed u f → Refusing (far p) f s
+    refused p h off s e u f k = refusing (suc (count (q_of p))) p h (omega arith) off s e u f k

@@ -12,7 +12,7 @@ use Rattle.srp_base.specs.declared.streams.ListenerKind.TheVariants.{AskingFaile
 use Rattle.stream_importance.specs.declared.{entry.Entry.Entry, entry.Want.Want, entry.Fit.Fit, entry.Fit.TheVariants.Fits, entry.Fit.TheVariants.TooLittle}
 use Rattle.port_ledger.specs.{Decision.stream_of, Book.Book, Book.IsKept, Book.entry_of, Book.want_of, Book.since_of, Book.fit_for}
 use Rattle.msrp_talker.specs.declared.port_config.PortConfig.{PortConfig}
-use Rattle.msrp_talker.specs.TalkerOut.{check_of, class_of_priority, refusal_of, declared_of, delayed_by, talker_in, talker_out}
+use Rattle.msrp_talker.specs.TalkerOut.{check_of, class_of_priority, refusal_of, declared_of, delayed_by, statement_of, talker_in, talker_out, IsCarriedOn, IsOfPort}
 use Rattle.msrp_listener.specs.declared.port_listener.PortListener.{PortListener}
 use Rattle.msrp_listener.specs.Merging.{merge_of, counted_kind, listener_out}
 use Rattle.msrp_codec.specs.declared.pdu.MsrpContent.TheVariants as contents
@@ -113,16 +113,25 @@ out-present (Advertise t) config edge fit = by (refusal_of t edge fit)
     by None = refl
     by (Some c) = refl
 
--- what it wants stays the same
-pub out-wants : (reg : TalkerReg) (config : PortConfig) (edge : Bool) (fit : Fit)
-    → option_and_then want_of_talker (talker_in (talker_out reg config edge fit)) ≡ option_and_then want_of_talker (talker_in reg)
-out-wants Absent config edge fit = refl
-out-wants (Failed t f) config edge fit = refl
-out-wants (Advertise t) config edge fit = by (refusal_of t edge fit)
+-- what it states stays the same
+pub out-states : (reg : TalkerReg) (config : PortConfig) (edge : Bool) (fit : Fit)
+    → statement_of (talker_in (talker_out reg config edge fit)) ≡ statement_of (talker_in reg)
+out-states Absent config edge fit = refl
+out-states (Failed t f) config edge fit = refl
+out-states (Advertise t) config edge fit = by (refusal_of t edge fit)
   where
-    by : (o : Option ℕ) → option_and_then want_of_talker (talker_in (declared_of config (delayed_by config.latency t) o)) ≡ want_of_talker t
+    by : (o : Option ℕ) → statement_of (talker_in (declared_of config (delayed_by config.latency t) o)) ≡ statement_of (Some t)
     by None = refl
     by (Some c) = refl
+
+-- what it wants, and whether any port can serve it, is of what it states
+pub stated-want : (o : Option Talker) → option_and_then want_of_talker (statement_of o) ≡ option_and_then want_of_talker o
+stated-want None = refl
+stated-want (Some t) = refl
+
+pub stated-check : (o : Option Talker) → option_and_then check_of (statement_of o) ≡ option_and_then check_of o
+stated-check None = refl
+stated-check (Some t) = refl
 
 -- a port declares a Talker only where it isn't the Talker's port, and one is registered there
 pub declared-present : (at : ℕ) (port : PortState) (xs : List TalkerReg) → is_present (talker_at at port xs) ≡ true
@@ -318,7 +327,7 @@ pub record Refuses (config : PortConfig) (book : Book) (reg : TalkerReg) (failur
   pub fit : fit_for book.moment book want ≡ TooLittle more cap failure.code
   pub bridge : failure.bridge ≡ config.bridge
 
-check-codes : (t : Talker) (c : ℕ) → check_of t ≡ Some c → IsOfBandwidth c → ⊥
+pub check-codes : (t : Talker) (c : ℕ) → check_of t ≡ Some c → IsOfBandwidth c → ⊥
 check-codes t c h code = by (is_none (class_of_priority t.priority)) (nat_lt 1500 t.max_frame) refl refl
   where
     none : (n : ℕ) → n ≡ c → (n ≡ 13) ⊎ (n ≡ 14) → ⊥
@@ -330,70 +339,81 @@ check-codes t c h code = by (is_none (class_of_priority t.priority)) (nat_lt 150
     by false false e f = let is : check_of t ≡ None = rw e (rw f refl) in cc
 
 -- the code of a port at the boundary of a domain is none of bandwidth
-not-eight : (n : ℕ) → 8 ≡ n → IsOfBandwidth n → ⊥
+pub not-eight : (n : ℕ) → 8 ≡ n → IsOfBandwidth n → ⊥
 not-eight n e (inl h) = omega (arith, e, h)
 not-eight n e (inr h) = omega (arith, e, h)
 
--- the code of what is declared as failed
-failure_code : TalkerReg → ℕ
-failure_code Absent = 0
-failure_code (Advertise v) = 0
-failure_code (Failed v g) = g.code
-
--- a failure of bandwidth that a port declares was registered at the Talker's port, or is the port's own refusal
-pub failed-at : (at : ℕ) (port : PortState) (xs : List TalkerReg) (t : Talker) (f : Failure) → talker_at at port xs ≡ Failed t f → IsOfBandwidth f.code
-    → ((u : Talker) × (first_talker xs ≡ Failed u f)) ⊎ Refuses port.config port.ledger (first_talker xs) f
-unfolding failure_code
-failed-at at port xs t f h code = by (is_talker_port (suc at) xs) refl
+-- a failure that a port declares was registered at the Talker's port, or is the port's own refusal
+pub failed-at : (at : ℕ) (port : PortState) (xs : List TalkerReg) (t : Talker) (f : Failure) → talker_at at port xs ≡ Failed t f
+    → IsCarriedOn (first_talker xs) f ⊎ IsOfPort port.config (edge_at port xs) (fit_of_reg port.ledger (first_talker xs)) (first_talker xs) f
+failed-at at port xs t f h = by (is_talker_port (suc at) xs) refl
   where
-    own : (u : Talker) → first_talker xs ≡ Advertise u → (edge : Bool) (fit : Fit) → fit_of_reg port.ledger (first_talker xs) ≡ fit
-        → declared_of port.config (delayed_by port.config.latency u) (refusal_of u edge fit) ≡ Failed t f → Refuses port.config port.ledger (first_talker xs) f
-    own u a edge fit k d = of (check_of u) refl edge fit k d
-      where
-        want-is : (more cap c : ℕ) (o : Option Want) → want_of_talker u ≡ o → fit_of_reg port.ledger (first_talker xs) ≡ TooLittle more cap c
-            → (w : Want) × (want_of_talker u ≡ Some w) × (fit_for port.ledger.moment port.ledger w ≡ TooLittle more cap c)
-        want-is more cap c None e k = let off : fit_of_reg port.ledger (first_talker xs) ≡ Fits = rw a (rw e refl) in cc
-        want-is more cap c (Some w) e k = (w, e, sym (fit-is port.ledger xs u w a e) ∙ k)
-
-        of : (o : Option ℕ) → check_of u ≡ o → (edge : Bool) (fit : Fit) → fit_of_reg port.ledger (first_talker xs) ≡ fit
-            → declared_of port.config (delayed_by port.config.latency u) (refusal_of u edge fit) ≡ Failed t f → Refuses port.config port.ledger (first_talker xs) f
-        of (Some c) e edge fit k d =
-            let is : declared_of port.config (delayed_by port.config.latency u) (refusal_of u edge fit)
-            ≡ Failed (delayed_by port.config.latency u) (record { bridge = port.config.bridge; code = c }) = rw e refl in
-            let same : c ≡ f.code = ap failure_code (sym is ∙ d) in
-            absurd (check-codes u f.code (e ∙ ap Some same) code)
-        of None e true fit k d =
-            let is : declared_of port.config (delayed_by port.config.latency u) (refusal_of u true fit)
-            ≡ Failed (delayed_by port.config.latency u) (record { bridge = port.config.bridge; code = 8 }) = rw e refl in
-            absurd (not-eight f.code (ap failure_code (sym is ∙ d)) code)
-        of None e false Fits k d = let is : declared_of port.config (delayed_by port.config.latency u) (refusal_of u false Fits) ≡ Advertise (delayed_by port.config.latency u) = rw e refl in cc
-        of None e false (TooLittle more cap c) k d =
-            let is : declared_of port.config (delayed_by port.config.latency u) (refusal_of u false (TooLittle more cap c))
-            ≡ Failed (delayed_by port.config.latency u) (record { bridge = port.config.bridge; code = c }) = rw e refl in
-            let same : Failed (delayed_by port.config.latency u) (record { bridge = port.config.bridge; code = c }) ≡ Failed t f = sym is ∙ d in
-            let failure : (record { bridge = port.config.bridge; code = c }) ≡ f = cc in
-            let code-is : c ≡ f.code = ap (λ (g : Failure). g.code) failure in
-            let r = want-is more cap c (want_of_talker u) refl k in
-            record {
-              talker = u;
-              want = r.0;
-              more = more;
-              cap = cap;
-              advertised = a;
-              wants = r.1;
-              fit = r.2 ∙ ap (λ n. TooLittle more cap n) code-is;
-              bridge = ap (λ (g : Failure). g.bridge) (sym failure);
-            }
+    own : (u : Talker) → first_talker xs ≡ Advertise u → (o : Option ℕ) → refusal_of u (edge_at port xs) (fit_of_reg port.ledger (first_talker xs)) ≡ o
+        → declared_of port.config (delayed_by port.config.latency u) o ≡ Failed t f
+        → IsOfPort port.config (edge_at port xs) (fit_of_reg port.ledger (first_talker xs)) (first_talker xs) f
+    own u a None e d = cc
+    own u a (Some c) e d =
+        let same : Failed (delayed_by port.config.latency u) (record { bridge = port.config.bridge; code = c }) ≡ Failed t f = d in
+        let failure : (record { bridge = port.config.bridge; code = c }) ≡ f = cc in
+        (u, a, e ∙ ap (λ (g : Failure). Some g.code) failure, ap (λ (g : Failure). g.bridge) (sym failure))
 
     of-reg : (reg : TalkerReg) → first_talker xs ≡ reg → talker_out reg port.config (edge_at port xs) (fit_of_reg port.ledger (first_talker xs)) ≡ Failed t f
-        → ((u : Talker) × (first_talker xs ≡ Failed u f)) ⊎ Refuses port.config port.ledger (first_talker xs) f
+        → IsCarriedOn (first_talker xs) f ⊎ IsOfPort port.config (edge_at port xs) (fit_of_reg port.ledger (first_talker xs)) (first_talker xs) f
     of-reg Absent r k = cc
     of-reg (Failed u g) r k = let same : g ≡ f = cc in inl (u, r ∙ ap (λ x. Failed u x) same)
-    of-reg (Advertise u) r k = inr (own u r (edge_at port xs) (fit_of_reg port.ledger (first_talker xs)) refl k)
+    of-reg (Advertise u) r k = inr (own u r (refusal_of u (edge_at port xs) (fit_of_reg port.ledger (first_talker xs))) refl k)
 
-    by : (b : Bool) → is_talker_port (suc at) xs ≡ b → ((u : Talker) × (first_talker xs ≡ Failed u f)) ⊎ Refuses port.config port.ledger (first_talker xs) f
+    by : (b : Bool) → is_talker_port (suc at) xs ≡ b
+        → IsCarriedOn (first_talker xs) f ⊎ IsOfPort port.config (edge_at port xs) (fit_of_reg port.ledger (first_talker xs)) (first_talker xs) f
     by true e = let none : talker_at at port xs ≡ Absent = declares-none at port xs e in cc
     by false e = of-reg (first_talker xs) refl (sym (declares at port xs e) ∙ h)
+
+-- why a port refuses an advertised Talker: no port can serve it, the port is at a boundary, or what is booked leaves no place
+pub data Reason (config : PortConfig) (book : Book) (edge : Bool) (reg : TalkerReg) (f : Failure) : Type 0 where
+  checked : (u : Talker) → reg ≡ Advertise u → check_of u ≡ Some f.code → Reason config book edge reg f
+  bounded : edge ≡ true → f.code ≡ 8 → Reason config book edge reg f
+  too-little : Refuses config book reg f → Reason config book edge reg f
+
+pub reason : (config : PortConfig) (book : Book) (edge : Bool) (xs : List TalkerReg) (f : Failure) → IsOfPort config edge (fit_of_reg book (first_talker xs)) (first_talker xs) f
+    → Reason config book edge (first_talker xs) f
+reason config book edge xs f i = by (check_of u) refl edge refl (fit_of_reg book (first_talker xs)) refl i.2
+  where
+    u : Talker
+    u = i.0
+
+    a : first_talker xs ≡ Advertise u
+    a = i.1
+
+    want-is : (more cap c : ℕ) (o : Option Want) → want_of_talker u ≡ o → fit_of_reg book (first_talker xs) ≡ TooLittle more cap c
+        → (w : Want) × (want_of_talker u ≡ Some w) × (fit_for book.moment book w ≡ TooLittle more cap c)
+    want-is more cap c None e k = let off : fit_of_reg book (first_talker xs) ≡ Fits = rw a (rw e refl) in cc
+    want-is more cap c (Some w) e k = (w, e, sym (fit-is book xs u w a e) ∙ k)
+
+    by : (o : Option ℕ) → check_of u ≡ o → (b : Bool) → edge ≡ b → (fit : Fit) → fit_of_reg book (first_talker xs) ≡ fit → refusal_of u b fit ≡ Some f.code
+        → Reason config book edge (first_talker xs) f
+    by (Some c) k b g fit h e = let is : refusal_of u b fit ≡ Some c = rw k refl in checked u a (k ∙ (sym is ∙ e))
+    by None k true g fit h e = let is : refusal_of u true fit ≡ Some 8 = rw k refl in let code : 8 ≡ f.code = cc in bounded g (sym code)
+    by None k false g Fits h e = let is : refusal_of u false Fits ≡ None = rw k refl in cc
+    by None k false g (TooLittle more cap c) h e =
+        let is : refusal_of u false (TooLittle more cap c) ≡ Some c = rw k refl in
+        let code : c ≡ f.code = cc in
+        let r = want-is more cap c (want_of_talker u) refl h in
+        too-little (record {
+          talker = u;
+          want = r.0;
+          more = more;
+          cap = cap;
+          advertised = a;
+          wants = r.1;
+          fit = r.2 ∙ ap (λ n. TooLittle more cap n) code;
+          bridge = i.3;
+        })
+
+-- a failure of bandwidth is for what is booked
+pub too-little-booked : {config : PortConfig} {book : Book} {edge : Bool} {reg : TalkerReg} (f : Failure) → IsOfBandwidth f.code → Reason config book edge reg f → Refuses config book reg f
+too-little-booked f code (checked u a e) = absurd (check-codes u f.code e code)
+too-little-booked f code (bounded e k) = absurd (not-eight f.code (sym k) code)
+too-little-booked f code (too-little r) = r
 
 -- ---- Listeners
 

@@ -65,7 +65,7 @@ module _ (w : WorldState) (kept : IsKeptWorld w) (rest : IsAtRest w) (laws : Has
         none_await = λ x s e. (still-at w rest x s e).no_keys;
         moment = λ x s e. (fits x s e).kept.kept.moment;
         named = λ x s i port e g. each-get (λ (p : PortState). p.config.bridge ≡ s.bridge) s.streams.ports i port (fits x s e).kept.named g;
-        idle = λ x s e k. ((kept.nodes x s e).kept.idle k).talks;
+        idle = λ x s e. (kept.nodes x s e).kept.idle;
         linked = linked;
       }
 

@@ -1,7 +1,9 @@
 pub mod Vlans
 pub mod Streams
 pub mod Bookings
+pub mod Causes
 pub use Vlans.*
 pub use Streams.*
 pub use Bookings.*
+pub use Causes.*
 pub use Rattle.network_laws.specs.declared.streams.Refusal.{Refusal}
