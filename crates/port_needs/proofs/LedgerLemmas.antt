@@ -1,6 +1,6 @@
 -- A ledger whose caps suffice for all that is wished has no entry that doesn't fit.
 use Rattle.std.proofs.Common.{◌≡◌, ◌≢◌, ℕ, ◌+◌, ◌<◌, ◌≤◌, Bool, true, false, not, ◌==◌, List, [], ◌∷◌, sum_by, Option, Some, if◌then◌else◌, refl, sym, ap, subst, ◌∙◌, inl, inr, arith}
-use Rattle.std.specs.Prelude.{filter, IfSome}
+use Rattle.std.specs.Prelude.{filter, option_map, IfSome}
 use Rattle.std.specs.{declared.cmp.Ordering.Ordering, Ordering.nat_cmp, Ordering.is_lt, Ordering.ordering_then, List.AllByRecursion}
 use Rattle.std.proofs.lemmas.{Bool.and_parts, Bool.eq-eqb, Bool.le-leb, Bool.true≢false, Bool.not-true, Bool.ne_eqb, Bool.cond-true, List.Sums.sum_by-cons}
 use Rattle.srp_base.proofs.Lists.{each_filter, Each-map}
@@ -66,7 +66,7 @@ among_a w (u ∷ us) h a = by (is_of_class_a u) refl h (λ k. among_a w us k a)
     by false is (inl e) later = absurd (true≢false (sym (ap is_of_class_a e ∙ a) ∙ is))
     by false is (inr k) later = later k
 
-each_among_a : (xs : List Entry) (ws : List Want) → AllByRecursion (λ x. IsAmong x.want ws) xs
+pub each_among_a : (xs : List Entry) (ws : List Want) → AllByRecursion (λ x. IsAmong x.want ws) xs
     → AllByRecursion (λ x. is_of_class_a x.want ≡ true) xs → AllByRecursion (λ x. IsAmong x.want (filter is_of_class_a ws)) xs
 each_among_a [] ws among a = tt
 each_among_a (x ∷ xs) ws among a = (among_a x.want ws among.0 a.0, each_among_a xs ws among.1 a.1)
@@ -87,7 +87,7 @@ apart_first now x y h e =
     true≢false (sym (eq-eqb (stream_of y) (stream_of x) (sym e)) ∙ other)
 
 -- what a filter keeps passes its test
-kept_pass : (test : Entry → Bool) (xs : List Entry) → AllByRecursion (λ y. test y ≡ true) (filter test xs)
+pub kept_pass : (test : Entry → Bool) (xs : List Entry) → AllByRecursion (λ y. test y ≡ true) (filter test xs)
 kept_pass test [] = tt
 kept_pass test (x ∷ xs) = by (test x) refl (kept_pass test xs)
   where
@@ -183,12 +183,19 @@ module _ (plan : Plan) (wishes : List Wish) (p : EgressPort) (link : LinkEntry) 
   abbrev ws : List Want
   ws = wants_at plan wishes p
 
+  each_wished : AllByRecursion (λ x. IsAmong x.want ws) book.entries
+  each_wished = each book.entries (each_found book.entries of.kept.ascending)
+    where
+      each : (xs : List Entry) → AllByRecursion (λ x. entry_of book.entries x.want.stream ≡ Some x) xs → AllByRecursion (λ x. IsAmong x.want ws) xs
+      each [] found = tt
+      each (x ∷ xs) found = (of.wished x.want (ap (option_map (λ (y : Entry). y.want)) found.0), each xs found.1)
+
   -- whatever is wished there fits beside what is booked
   pub fits_there : (now : ℕ) (x : Entry) → IsAmong x.want ws → does_fit now book.caps (booked_of book.entries) x ≡ true
   fits_there now x among =
       all_fit now book.caps ws (booked_of book.entries) x
       (different_kept is_booked book.entries (different_ascending book.entries of.kept.ascending))
-      (each_filter (λ y. IsAmong y.want ws) is_booked book.entries of.wished) among (caps_suffice plan wishes p link book large of)
+      (each_filter (λ y. IsAmong y.want ws) is_booked book.entries each_wished) among (caps_suffice plan wishes p link book large of)
 
   pub want_fits : (now : ℕ) (want : Want) → IsAmong want ws → fit_for now book want ≡ Fits
   want_fits now want among = cond-true (does_fit now book.caps (booked_of book.entries) (tested_entry book.entries want)) Fits _ (fits_there now (tested_entry book.entries want) among)
@@ -196,7 +203,7 @@ module _ (plan : Plan) (wishes : List Wish) (p : EgressPort) (link : LinkEntry) 
   -- so each entry is booked, where a booking is what fits
   pub all_booked : ((s : StreamId) → IfSome (entry_of book.entries s) (λ x. is_booked x ≡ does_fit book.moment book.caps (booked_of book.entries) x))
       → AllByRecursion (λ x. is_booked x ≡ true) book.entries
-  all_booked decided = each book.entries (each_found book.entries of.kept.ascending) of.wished
+  all_booked decided = each book.entries (each_found book.entries of.kept.ascending) each_wished
     where
       each : (xs : List Entry) → AllByRecursion (λ x. entry_of book.entries x.want.stream ≡ Some x) xs → AllByRecursion (λ x. IsAmong x.want ws) xs
           → AllByRecursion (λ x. is_booked x ≡ true) xs

@@ -4,3 +4,5 @@ pub mod ShareLemmas
 pub mod WayLemmas
 pub mod NothingLemmas
 pub mod LedgerLemmas
+pub mod AskedLemmas
+pub mod FullLemmas

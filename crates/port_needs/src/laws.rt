@@ -17,9 +17,9 @@ ghost use Rattle.port_needs.specs.declared.demand.Wish.{Wish};
 ghost use Rattle.port_needs.specs.Demands.{leads_to, wants_at};
 ghost use Rattle.port_needs.specs.Shares.{is_enough, least_rate, shares_for};
 ghost use Rattle.port_needs.specs.Needs.{needs_lines, never_lines};
-ghost use Rattle.port_needs.specs.Laws.{AreLeastShares, AreServed, IsAmong, IsLargeEnough, IsLedgerOf, IsOnWay};
+ghost use Rattle.port_needs.specs.Laws.{AreLeastShares, AreServed, IsAmong, IsFullLedgerOf, IsLargeEnough, IsLedgerOf, IsOnWay, IsWishedAt};
 
-use port_ledger::laws::decisions_stand;
+use port_ledger::laws::{bookings_are_within_caps, decisions_stand};
 use tree_topology::laws::ports;
 
 /// The shares that are named for a port are the least that suffice there; none are named exactly
@@ -85,4 +85,21 @@ pub fn a_large_ledger_books_all_that_is_wished()
         → fit_for now book want ≡ Fits }
 {
     decisions_stand();
+}
+
+/// A want is among those of a port exactly where some wish is for its stream: of a station from
+/// which no boundary of the domain of the stream's class keeps it, and to which the port leads.
+pub fn what_is_wished_is_asked()
+    ensures { (plan : Plan) (wishes : List Wish) (p : EgressPort) (want : Want)
+        → IsAmong want (wants_at plan wishes p) ↔ IsWishedAt plan wishes p want }
+{}
+
+/// A port whose ledger has booked all that is wished there is large enough for it: so a port that
+/// is too small has something wished there that it hasn't booked.
+pub fn a_ledger_that_booked_all_is_large_enough()
+    ensures { (plan : Plan) (wishes : List Wish) (p : EgressPort) (link : LinkEntry) (book : Book)
+        → KeepsRules plan → IsFullLedgerOf plan wishes p link book
+        → IsLargeEnough plan wishes p }
+{
+    bookings_are_within_caps();
 }

@@ -23,8 +23,10 @@
 //! - `shares`: the sums, whether caps suffice, and the least shares and rate that do.
 //! - `lines`, `ports`, `never`, `text`: the lines and the whole text.
 //! - `laws`: the shares and the rate are the least that suffice; there is no line exactly where
-//!   every port is large enough and every wish may be served; a stream leaves exactly by the ports of its
-//!   way; and a ledger that is large enough books all that is wished there.
+//!   every port is large enough and every wish may be served; a stream leaves exactly by the ports
+//!   of its way, and counts at a port exactly where some wish asks for it there; a ledger of a port
+//!   that is large enough books all that is wished there, and a port whose ledger has booked all of
+//!   it is large enough.
 //!
 //! A further number of a port is a piece of `short_line` in `specs/Needs.antt` with its words in
 //! `specs/Lines.antt` and its writer in `src/lines.rt`. A further reason for which no link helps is
