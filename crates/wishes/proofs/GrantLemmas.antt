@@ -32,7 +32,7 @@ both_alike false b h = refl
 pub granted_where_ready : (w : WorldState) (e : StreamEntry) (l : ℕ) → hears_ready w e.id l ≡ is_path_booked w e.id l → grants (answer_to w e l) ≡ hears_ready w e.id l
 granted_where_ready w e l sides = granted_is w e l ∙ both_alike (hears_ready w e.id l) (is_path_booked w e.id l) sides
 
-each_booked : (test : EgressPort → Bool) (ports : List EgressPort) → list_all test ports ≡ true → AllByRecursion (λ p. test p ≡ true) ports
+pub each_booked : (test : EgressPort → Bool) (ports : List EgressPort) → list_all test ports ≡ true → AllByRecursion (λ p. test p ≡ true) ports
 each_booked test [] h = tt
 each_booked test (p ∷ ports) h = let parts = and_parts (test p) (list_all test ports) h in (parts.0, each_booked test ports parts.1)
 

@@ -5,3 +5,4 @@ mod RestLemmas
 mod ScriptLemmas
 mod MomentLemmas
 mod WithinLemmas
+mod CopyLemmas

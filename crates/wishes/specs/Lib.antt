@@ -5,6 +5,7 @@ pub mod Doubts
 pub mod RunMoments
 pub mod Watching
 pub mod Outlook
+pub mod Copies
 pub use Wishes.*
 pub use Within.*
 pub use Text.*
@@ -12,6 +13,7 @@ pub use Doubts.*
 pub use RunMoments.*
 pub use Watching.*
 pub use Outlook.*
+pub use Copies.*
 pub use Rattle.wishes.specs.declared.wish.Answer.{Answer}
 pub use Rattle.wishes.specs.declared.wish.Answer.TheVariants.{Granted, Refused, Silent}
 pub use Rattle.wishes.specs.declared.wish.Wish.{Wish}

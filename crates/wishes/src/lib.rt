@@ -38,6 +38,7 @@
 //! `specs/RunMoments.antt`, and what has to be kept for it in `specs/Watching.antt` and `watch.rt`.
 #![tactic(auto)]
 
+pub mod copy_laws;
 mod disturbing;
 mod doubt_lines;
 mod doubts;
