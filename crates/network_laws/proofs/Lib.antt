@@ -11,3 +11,4 @@ pub mod Refusals
 pub mod Listeners
 pub mod Wanted
 pub mod SetUp
+pub mod FirstPorts

@@ -5,7 +5,7 @@ use Rattle.std.specs.{Option.option_map_or, List.AllByRecursion, List.list_all, 
 use Rattle.std.proofs.lemmas.{Bool.and_parts, Bool.eqb-true, Bool.Decides.nat_tests}
 use Rattle.std.proofs.lemmas.Option.{slice_get_within}
 use Rattle.srp_base.proofs.{Lists.within as get-some, Arithmetic.is_other as other-port}
-use Rattle.srp_base.specs.declared.{numbers.EgressPort.EgressPort, numbers.StreamId.StreamId, streams.Failure.Failure, streams.Talker.Talker, streams.TalkerReg.TalkerReg}
+use Rattle.srp_base.specs.declared.{bandwidth.Class.Class, numbers.EgressPort.EgressPort, numbers.StreamId.StreamId, streams.Failure.Failure, streams.Talker.Talker, streams.TalkerReg.TalkerReg}
 use Rattle.srp_base.specs.declared.streams.TalkerReg.TheVariants.{Absent, Advertise, Failed}
 use Rattle.stream_importance.specs.declared.{slope.Caps.Caps, entry.Entry.Entry, entry.Want.Want, entry.Fit.Fit, entry.Fit.TheVariants.Fits, entry.Fit.TheVariants.TooLittle}
 use Rattle.stream_importance.specs.Bandwidth.{cap_of}
@@ -13,14 +13,14 @@ use Rattle.port_ledger.specs.{Decision.above, Decision.booked_of, Decision.does_
 use Rattle.tree_topology.specs.{Topology.HasNode, Topology.HasPort, Ports.neighbours, Ports.peer_of, Ports.far_node, Ports.LiesBehind, Ports.IsPortPath, Walk.is_behind, Walk.path_between, Refusal.is_station}
 use Rattle.mrp_participant.specs.State.{registered_at}
 use Rattle.msrp_codec.specs.declared.pdu.MsrpKey.TheVariants as keys
-use Rattle.msrp_talker.specs.TalkerOut.{check_of, talker_in}
-use Rattle.msrp.specs.{PortState.PortState, Part.registered_talker, Part.registered_listener, Part.key_cmp, Part.talker_reg_of, Stream.Registrations, Stream.is_present, Stream.is_advertised, Stream.is_number, Stream.talker_port, Stream.is_talker_port, Stream.is_ready, Stream.talk_of, Stream.first_talker, Stream.edge_at, Stream.listener_at, Stream.fit_at, Stream.want_of_talker, Stream.heard_by, Stream.heard_from as heard_in, Side.seen_by, Side.has_listen, Side.heard_of}
+use Rattle.msrp_talker.specs.TalkerOut.{check_of, class_of_priority, talker_in}
+use Rattle.msrp.specs.{PortState.PortState, Domain.class_in, Part.registered_talker, Part.registered_listener, Part.key_cmp, Part.talker_reg_of, Stream.Registrations, Stream.is_present, Stream.is_advertised, Stream.is_number, Stream.talker_port, Stream.is_talker_port, Stream.is_ready, Stream.talk_of, Stream.first_talker, Stream.edge_at, Stream.listener_at, Stream.fit_at, Stream.want_of_talker, Stream.heard_by, Stream.heard_from as heard_in, Side.seen_by, Side.has_listen, Side.heard_of}
 use Rattle.attribute_propagation.specs.Ports.{place_of}
 use Rattle.node_core.specs.State.{NodeState}
 use Rattle.world_core.specs.World.{WorldState, node_at}
-use Rattle.network_laws.specs.{talker_at_place, is_talker_registered, is_talked_at, IsTalkedOnce, HasTalkerBehind, TalkersMatch, talking_node, has_booked, is_path_booked, IsPathBooked, is_ready_heard, hears_ready, is_listened_at, AreReadyOnPath, bandwidth_failure, failure_at, node_of, want_at, is_bandwidth_code, IsPushedOut, IsRefusedAt, AreRefusalsShown, talk_at, talker_at_node, HasCause}
+use Rattle.network_laws.specs.{talker_at_place, is_talker_registered, is_talked_at, IsTalkedOnce, HasTalkerBehind, TalkersMatch, talking_node, has_booked, is_path_booked, IsPathBooked, is_ready_heard, hears_ready, is_listened_at, AreReadyOnPath, bandwidth_failure, failure_at, node_of, want_at, is_bandwidth_code, IsPushedOut, IsRefusedAt, AreRefusalsShown, talk_at, class_talked, talker_at_node, HasCause}
 use Rattle.network_laws.specs.Causes as causes
-use Rattle.network_laws.proofs.{StreamNode.IsTalkers, StreamNode.port-of-present, StreamNode.is-port, StreamNode.same-port, StreamNode.KeptWants, StreamNode.booked-advertises, StreamNode.advertised-booked, StreamNode.IsOfBandwidth, StreamNode.check-codes, StreamNode.not-eight, StreamNode.stated-want, StreamNode.stated-check, StreamNode.Refuses, StreamNode.Reason, StreamNode.checked, StreamNode.bounded, StreamNode.too-little, StreamNode.reason, StreamNode.listens, StreamNet.AreStreamsStill, StreamNet.At, StreamNet.at-port, StreamNet.reg, StreamNet.reg-is, StreamNet.regs, StreamNet.wanted, StreamNet.far-listener, StreamNet.near-talker, StreamNet.test, StreamNet.Talks, StreamNet.registered-behind, StreamNet.Sibling, StreamNet.towards, StreamNet.other-side, StreamNet.behind-registered, StreamNet.booked-is, StreamNet.path-booked, StreamNet.path-last, StreamNet.port-kept, StreamNet.kind-is, StreamNet.Refusing, StreamNet.refused, StreamNet.stated_by, StreamNet.TalkersAt, StreamNet.at-app, StreamNet.at-link, StreamNet.talkers-at, StreamNet.get-map, StreamNet.is-not}
+use Rattle.network_laws.proofs.{StreamNode.IsTalkers, StreamNode.port-of-present, StreamNode.is-port, StreamNode.same-port, StreamNode.KeptWants, StreamNode.booked-advertises, StreamNode.advertised-booked, StreamNode.IsOfBandwidth, StreamNode.check-codes, StreamNode.not-eight, StreamNode.stated-want, StreamNode.stated-check, StreamNode.stated-class, StreamNode.Refuses, StreamNode.Reason, StreamNode.checked, StreamNode.bounded, StreamNode.too-little, StreamNode.reason, StreamNode.listens, StreamNet.AreStreamsStill, StreamNet.At, StreamNet.at-port, StreamNet.reg, StreamNet.reg-is, StreamNet.regs, StreamNet.wanted, StreamNet.far-listener, StreamNet.near-talker, StreamNet.test, StreamNet.Talks, StreamNet.registered-behind, StreamNet.Sibling, StreamNet.towards, StreamNet.other-side, StreamNet.behind-registered, StreamNet.booked-is, StreamNet.path-booked, StreamNet.path-last, StreamNet.port-kept, StreamNet.kind-is, StreamNet.Refusing, StreamNet.refused, StreamNet.stated_by, StreamNet.TalkersAt, StreamNet.at-app, StreamNet.at-link, StreamNet.talkers-at, StreamNet.get-map, StreamNet.is-not}
 
 -- a node lies behind a port by its walk exactly where the test says so; the egress ports of the walk are the path
 abbrev pub WalkBehind : WorldState → Type 0
@@ -127,6 +127,9 @@ pushed-out now book want more cap code h = by (does_fit now book.caps (booked_of
         (code_of now book.caps (booked_of book.entries) (tested_entry book.entries want)) = rw e refl in
         record { passes = grind (arith, nat_tests, e); code_is = ap code_in (sym h ∙ not_) }
 
+one-some : {X : Type 0} (o : Option X) (x y : X) → o ≡ Some x → o ≡ Some y → x ≡ y
+one-some o x y a b = cc
+
 -- the code of what doesn't fit is one of bandwidth
 of-bandwidth : (now : ℕ) (caps : Caps) (set : List Entry) (x : Entry) → is_bandwidth_code (code_of now caps set x) ≡ true
 of-bandwidth now caps set x = by (is_normal x && does_fit now caps (filter is_normal set) x) refl
@@ -231,9 +234,6 @@ module _ (w : WorldState) (still : AreStreamsStill w) (stream : StreamId) (kept 
                 let hears : is_ready_heard (heard_by (seen_by b.s.streams stream)) ≡ true =
                 heard-from (seen_by b.s.streams stream) (ap (λ (s : NodeState). has_listen stream s.streams) (sym same) ∙ n.listens_to) away adv in
                 hears-is l n ∙ (ap (λ (s : NodeState). is_ready_heard (heard_by (seen_by s.streams stream))) same ∙ hears)
-              where
-                one-some : {X : Type 0} (o : Option X) (x y : X) → o ≡ Some x → o ≡ Some y → x ≡ y
-                one-some o x y a b = cc
 
         by : (o : Option ℕ) → talking_node w stream ≡ o → hears_ready w stream l ≡ true
         by None e = let off : is_path_booked w stream l ≡ false = ap (λ o. option_map_or (λ t. list_all (has_booked w stream) (path_between w.tree.links t l)) o false) e in cc
@@ -332,6 +332,63 @@ module _ (w : WorldState) (still : AreStreamsStill w) (stream : StreamId) (kept 
         one-test false true f g = g refl
         one-test false false f g = refl
 
+    -- ---- who misses a stream
+
+    -- a port of a node with a failure
+    pub record FailedAt (l : ℕ) (u : Talker) (f : Failure) : Type 0 where
+      pub q : EgressPort
+      pub port : HasPort w.tree q
+      pub node_is : q.node.0 ≡ l
+      pub failed : reg w still stream kept q ≡ Failed u f
+
+    -- a listening application that doesn't hear Ready has a failure at the node's port towards the station that talks
+    pub missed : (l t : ℕ) → HasNode w.tree l → is_listened_at w stream l ≡ true → is_talked_at w stream l ≡ false → talking_node w stream ≡ Some t
+        → hears_ready w stream l ≡ false → (u : Talker) × (f : Failure) × FailedAt l u f
+    missed l t node h mute lowest_t off =
+        let k = found t lowest_t in
+        at-talker k (listener l h) (still.laws.some_port l t node k.node)
+      where
+        at-talker : Talks w still stream kept t → ListensAt l
+            → (l ≡ t) ⊎ ((q : EgressPort) × HasPort w.tree q × (q.node.0 ≡ l) × (is_behind w.tree.links q t ≡ true)) → (u : Talker) × (f : Failure) × FailedAt l u f
+        at-talker k n (inl e) = absurd (is-not (is_talked_at w stream l) mute (ap (is_talked_at w stream) e ∙ k.talks))
+        at-talker k n (inr q) =
+            let b = at-port w still stream kept q.0 q.1 in
+            by-port b (towards w still stream kept once t k q.0 q.1 b)
+          where
+            by-reg : (b : At w still stream kept q.0) → is_talker_port 0 (regs w still stream kept b).talkers ≡ false
+                → (x : TalkerReg) → reg w still stream kept q.0 ≡ x → first_talker (regs w still stream kept b).talkers ≡ x → (u : Talker) × (f : Failure) × FailedAt l u f
+            by-reg b away Absent e first =
+                let present : is_present (reg w still stream kept q.0) ≡ true = behind-registered w still stream kept once t k q.0 q.1 q.3 in
+                let none : is_present (reg w still stream kept q.0) ≡ false = ap is_present e in cc
+            by-reg b away (Advertise u) e first =
+                let same : n.s ≡ b.s = one-node n b in
+                let hears : is_ready_heard (heard_by (seen_by b.s.streams stream)) ≡ true =
+                heard-from (seen_by b.s.streams stream) (ap (λ (s : NodeState). has_listen stream s.streams) (sym same) ∙ n.listens_to) away (ap is_advertised first) in
+                absurd (is-not (hears_ready w stream l) off (hears-is l n ∙ (ap (λ (s : NodeState). is_ready_heard (heard_by (seen_by s.streams stream))) same ∙ hears)))
+              where
+                one-node : (n : ListensAt l) (b : At w still stream kept q.0) → n.s ≡ b.s
+                one-node n b = one-some (node_at (record { 0 = l }) w) n.s b.s n.node (ap (λ (y : ℕ). node_at (record { 0 = y }) w) (sym q.2) ∙ b.node)
+            by-reg b away (Failed u f) e first = (u, f, record { q = q.0; port = q.1; node_is = q.2; failed = e })
+
+            by-port : (b : At w still stream kept q.0)
+                → (q.0.node.0 ≡ t) ⊎ ((r : EgressPort) × Sibling w still stream kept q.0 b r × (is_behind w.tree.links r t ≡ true)
+                × (is_talker_port (suc (place_of r.port)) (regs w still stream kept b).talkers ≡ true) × (first_talker (regs w still stream kept b).talkers ≡ reg w still stream kept r))
+                → (u : Talker) × (f : Failure) × FailedAt l u f
+            by-port b (inl e) = absurd (is-not (is_talked_at w stream l) mute (ap (is_talked_at w stream) (sym q.2 ∙ e) ∙ k.talks))
+            by-port b (inr r) =
+                let same-r : r.0 ≡ q.0 = still.laws.one_port r.0 q.0 t r.1.port q.1 (ap (λ x. x.0) r.1.node) r.2 q.3 in
+                by-reg b (not-zero (place_of r.0.port) (talker_port (regs w still stream kept b).talkers) r.3) (reg w still stream kept q.0) refl
+                (r.4 ∙ ap (reg w still stream kept) same-r)
+
+    -- a station has one port
+    pub failed-there : (l : ℕ) (u : Talker) (f : Failure) → (d : FailedAt l u f) → d.q.port.0 ≡ 1 → talker_at_node w stream l ≡ Failed u f
+    failed-there l u f d first =
+        let a = at-port w still stream kept d.q d.port in
+        let node : node_at (record { 0 = l }) w ≡ Some a.s = ap (λ (y : ℕ). node_at (record { 0 = y }) w) (sym d.node_is) ∙ a.node in
+        let place : place_of d.q.port ≡ 0 = ap (λ (n : ℕ). n - 1) first in
+        let has : slice_get a.s.streams.ports 0 ≡ Some a.port = ap (slice_get a.s.streams.ports) (sym place) ∙ a.has in
+        ap (first_in stream) node ∙ (ap (registered_in stream) has ∙ (sym (reg-is w still stream kept d.q a) ∙ d.failed))
+
     -- ---- refusals
 
     -- the station that talks, and a port of the path from there that refuses
@@ -347,12 +404,6 @@ module _ (w : WorldState) (still : AreStreamsStill w) (stream : StreamId) (kept 
     node-of t h = let lt : t - 1 < length w.nodes = omega (arith, h.0, h.1, still.many) in get-some w.nodes (t - 1) lt
 
     -- a node's first port with a failure
-    record FailedAt (l : ℕ) (u : Talker) (f : Failure) : Type 0 where
-      q : EgressPort
-      port : HasPort w.tree q
-      node_is : q.node.0 ≡ l
-      failed : reg w still stream kept q ≡ Failed u f
-
     failed-port : (l : ℕ) → HasNode w.tree l → (u : Talker) (f : Failure) → talker_at_node w stream l ≡ Failed u f → FailedAt l u f
     failed-port l node u f h = by-node (node_at (record { 0 = l }) w) refl
       where
@@ -451,9 +502,19 @@ module _ (w : WorldState) (still : AreStreamsStill w) (stream : StreamId) (kept 
         ∙ (ap (option_and_then check_of) (sym d.refusing.states_it)
         ∙ (stated-check (talker_in (first_there d)) ∙ (ap (λ reg. option_and_then check_of (talker_in reg)) a ∙ e))))
 
+    -- the class of the Talker that is registered there is that of what the station talks
+    class-there : {l : ℕ} {f : Failure} (d : Shown l f) → class_in (first_there d) ≡ class_talked w stream d.t
+    class-there d =
+        sym (ap (λ o. class_of (option_and_then (λ (s : NodeState). talk_of stream s.streams.talks) o)) d.node
+        ∙ (sym (stated-class (talk_of stream d.s.streams.talks))
+        ∙ (ap class_of (sym d.refusing.states_it) ∙ stated-class (talker_in (first_there d)))))
+      where
+        class_of : Option Talker → Option Class
+        class_of o = option_and_then (λ (t : Talker). class_of_priority t.priority) o
+
     refuses-there : {l : ℕ} {f : Failure} (d : Shown l f) → ReasonThere d → causes.HasReason w stream d.t f d.refusing.p d.refusing.a.s d.refusing.a.port
     refuses-there d (checked u a e) = causes.at_each_port (checked-at d u a e)
-    refuses-there d (bounded e code) = causes.at_boundary code e
+    refuses-there d (bounded e code) = causes.at_boundary code e (class-there d)
     refuses-there d (too-little u) =
         let at = refused-at d u in
         let book = at.port.ledger in
@@ -470,6 +531,7 @@ module _ (w : WorldState) (still : AreStreamsStill w) (stream : StreamId) (kept 
           talker = d.lowest_is;
           p = r.p;
           on_path = (path, r.i, (walk d.t l path d.talks.node node).1 refl, r.on);
+          has = r.port;
           node = r.a.s;
           node_is = r.a.node;
           named = named-there d;
@@ -495,7 +557,7 @@ module _ (w : WorldState) (still : AreStreamsStill w) (stream : StreamId) (kept 
       where
         by : IsOfBandwidth f.code → (c : HasCause w stream l f) → causes.HasReason w stream c.t f c.p c.node c.port → IsRefusedAt w stream c.t f c.p
         by code c (causes.for_bandwidth e r) = r
-        by code c (causes.at_boundary e edge) = absurd (not-eight f.code (sym e) code)
+        by code c (causes.at_boundary e edge class) = absurd (not-eight f.code (sym e) code)
         by code c (causes.at_each_port e) = absurd (no-check (talk_at w stream c.t) e)
           where
             no-check : (o : Option Talker) → option_and_then check_of o ≡ Some f.code → ⊥

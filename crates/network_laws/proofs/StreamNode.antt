@@ -133,6 +133,11 @@ pub stated-check : (o : Option Talker) → option_and_then check_of (statement_o
 stated-check None = refl
 stated-check (Some t) = refl
 
+pub stated-class : (o : Option Talker)
+    → option_and_then (λ (t : Talker). class_of_priority t.priority) (statement_of o) ≡ option_and_then (λ (t : Talker). class_of_priority t.priority) o
+stated-class None = refl
+stated-class (Some t) = refl
+
 -- a port declares a Talker only where it isn't the Talker's port, and one is registered there
 pub declared-present : (at : ℕ) (port : PortState) (xs : List TalkerReg) → is_present (talker_at at port xs) ≡ true
     → (is_talker_port (suc at) xs ≡ false) × (is_present (first_talker xs) ≡ true)

@@ -3,13 +3,13 @@
 use Rattle.std.specs.Prelude.{◌≡◌, ℕ, ◌-◌, Bool, true, false, not, ◌&&◌, Option, Some, slice_get, option_and_then}
 use Rattle.std.specs.Option.{option_map_or}
 use Rattle.srp_base.specs.declared.{bandwidth.Class.Class, numbers.EgressPort.EgressPort, numbers.NodeNo.NodeNo, numbers.StreamId.StreamId, streams.Failure.Failure, streams.Talker.Talker, streams.TalkerReg.TalkerReg}
-use Rattle.srp_base.specs.declared.streams.TalkerReg.TheVariants.{Absent}
+use Rattle.srp_base.specs.declared.streams.TalkerReg.TheVariants.{Absent, Failed}
 use Rattle.stream_importance.specs.declared.entry.Want.{Want}
-use Rattle.tree_topology.specs.{Topology.HasNode, Ports.peer_of, Walk.is_behind}
+use Rattle.tree_topology.specs.{Topology.HasNode, Topology.HasPort, Ports.peer_of, Walk.is_behind}
 use Rattle.topology_file.specs.declared.entries.NodeEntry.{NodeEntry}
 use Rattle.topology_file.specs.Plan.{Plan}
-use Rattle.msrp_talker.specs.TalkerOut.{check_of}
-use Rattle.msrp.specs.{PortState.PortState, Domain.has_class, Stream.edge_at, Stream.talk_of, Side.seen_by}
+use Rattle.msrp_talker.specs.TalkerOut.{check_of, class_of_priority}
+use Rattle.msrp.specs.{PortState.PortState, Domain.class_in, Domain.has_class, Stream.edge_at, Stream.first_talker, Stream.talk_of, Side.seen_by}
 use Rattle.attribute_propagation.specs.Ports.{place_of}
 use Rattle.node_core.specs.State.{NodeState}
 use Rattle.world_core.specs.{Start.domain_set, World.WorldState, World.node_at}
@@ -27,12 +27,18 @@ abbrev pub talk_at : WorldState → StreamId → ℕ → Option Talker
 talk_at w stream t =
     option_and_then (λ (s : NodeState). talk_of stream s.streams.talks) (node_of t w)
 
+-- the SR class of that Talker
+abbrev pub class_talked : WorldState → StreamId → ℕ → Option Class
+class_talked w stream t =
+    option_and_then (λ (talker : Talker). class_of_priority talker.priority) (talk_at w stream t)
+
 -- Why a port of a node refuses what station t talks, by the failure's code: bookings leave no place
 -- there, the port is at the boundary of the domain of the Talker's class, or no port can serve it.
 pub data HasReason (w : WorldState) (stream : StreamId) (t : ℕ) (failure : Failure) (p : EgressPort) (node : NodeState) (port : PortState) : Type 0 where
   for_bandwidth : is_bandwidth_code failure.code ≡ true → IsRefusedAt w stream t failure p
       → HasReason w stream t failure p node port
   at_boundary : failure.code ≡ 8 → edge_at port (seen_by node.streams stream).talkers ≡ true
+      → class_in (first_talker (seen_by node.streams stream).talkers) ≡ class_talked w stream t
       → HasReason w stream t failure p node port
   at_each_port : option_and_then check_of (talk_at w stream t) ≡ Some failure.code
       → HasReason w stream t failure p node port
@@ -44,12 +50,19 @@ pub record HasCause (w : WorldState) (stream : StreamId) (l : ℕ) (failure : Fa
   pub talker : talking_node w stream ≡ Some t
   pub p : EgressPort
   pub on_path : IsOnPath w t l p
+  pub has : HasPort w.tree p
   pub node : NodeState
   pub node_is : node_at p.node w ≡ Some node
   pub named : node.bridge ≡ failure.bridge
   pub port : PortState
   pub port_is : slice_get node.streams.ports (place_of p.port) ≡ Some port
   pub reason : HasReason w stream t failure p node port
+
+-- a Talker Failed is registered at the first port of the node of a number
+pub record HasFailure (w : WorldState) (stream : StreamId) (l : ℕ) : Type 0 where
+  pub talker : Talker
+  pub failure : Failure
+  pub registered : talker_at_node w stream l ≡ Failed talker failure
 
 -- ---- whom a port's wants come of
 

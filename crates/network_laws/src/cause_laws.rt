@@ -1,7 +1,7 @@
 //! What a network at rest says of causes. Each law is a function that does nothing; calling it
 //! brings the law to a proof.
 
-ghost use Rattle.std.specs.Prelude.{◌≡◌, ℕ, false, List, Some, slice_get};
+ghost use Rattle.std.specs.Prelude.{◌≡◌, ℕ, false, true, List, Some, slice_get};
 ghost use Rattle.srp_base.specs.declared.{bandwidth.Class.Class, numbers.EgressPort.EgressPort, numbers.StreamId.StreamId, streams.Failure.Failure, streams.Talker.Talker, streams.TalkerReg.TalkerReg};
 ghost use Rattle.srp_base.specs.declared.streams.TalkerReg.TheVariants.{Failed};
 ghost use Rattle.stream_importance.specs.declared.entry.Want.{Want};
@@ -14,8 +14,8 @@ ghost use Rattle.attribute_propagation.specs.Ports.{place_of};
 ghost use Rattle.msrp.specs.{PortState.PortState, Domain.class_in, Domain.is_boundary, Domain.is_edge};
 ghost use Rattle.node_core.specs.State.{NodeState};
 ghost use Rattle.network_laws.specs.Vlans.{IsAtRest};
-ghost use Rattle.network_laws.specs.Streams.{is_talked_at, IsTalkedOnce};
-ghost use Rattle.network_laws.specs.Causes.{is_boundary_in, talker_at_node, HasCause, IsWantedBehind};
+ghost use Rattle.network_laws.specs.Streams.{hears_ready, is_listened_at, is_talked_at, talking_node, IsTalkedOnce};
+ghost use Rattle.network_laws.specs.Causes.{is_boundary_in, talker_at_node, HasCause, HasFailure, IsWantedBehind};
 
 use mrp_participant::marked_link_laws::a_still_marked_link_registers_what_is_declared;
 use msrp::MsrpApp;
@@ -96,4 +96,18 @@ pub fn edges_are_those_of_the_scenario()
     every_moment_keeps_it();
     ports();
     what_is_allowed_may_happen();
+}
+
+/// In every network at rest, of each stream that one station talks: another station that listens to
+/// it and doesn't hear Ready has a Talker Failed registered at its port (IEEE Std 802.1Q-2018,
+/// 35.2.4).
+pub fn who_misses_a_stream_has_a_failure()
+    ensures { (w : WorldState) (stream : StreamId) (l t : ℕ) → IsKeptWorld w → IsAtRest w
+        → IsTalkedOnce w stream → talking_node w stream ≡ Some t
+        → HasNode w.tree l → is_listened_at w stream l ≡ true → is_talked_at w stream l ≡ false
+        → hears_ready w stream l ≡ false → HasFailure w stream l }
+{
+    a_still_marked_link_registers_what_is_declared::<MsrpApp>();
+    decisions_stand();
+    ports();
 }

@@ -26,9 +26,10 @@
 //! own definition (`specs/Vlans.antt`, `specs/Streams.antt`), and `refusal_shown` the port that
 //! refuses; `laws` says that the sides are equal at rest, and that there is such a port.
 //!
-//! `cause_laws` says what stands behind that: each failure has its cause at a port of the path from
-//! the Talker, what a port's ledger keeps as wanted comes of a station behind it that hears Ready,
-//! and caps and the boundaries of domains are those of the scenario (`specs/Causes.antt`).
+//! `cause_laws` says what stands behind that: who misses a stream has a failure, each failure has
+//! its cause at a port of the path from the Talker, what a port's ledger keeps as wanted comes of a
+//! station behind it that hears Ready, and caps and the boundaries of domains are those of the
+//! scenario (`specs/Causes.antt`).
 //!
 //! A further law has its two sides in a file of `specs/`, a call that answers both, and its
 //! sentence in `laws`, over networks and over the moments of a run; the command that prints a run

@@ -174,13 +174,13 @@ module _ (plan : Plan) (wishes : List Wish) (p : EgressPort) (want : Want) where
       let here : f ≡ e = same_Some f e at in
       subst (IsAmong want) (sym (split plan ports wishes p n f es))
       (among_front want (own plan ports wishes p n f (class_of_entry f)) (wants (n + 1) es)
-          (subst (λ (x : StreamEntry). IsAmong want (own plan ports wishes p n x (class_of_entry x))) (sym here)
-              (to_own n e class is same (asked_by plan ports wishes p n e class ∙ sym (at_number 0 n e class (let z : 0 + n ≡ n = omega arith in z)) ∙ asked))))
+      (subst (λ (x : StreamEntry). IsAmong want (own plan ports wishes p n x (class_of_entry x))) (sym here)
+      (to_own n e class is same (asked_by plan ports wishes p n e class ∙ sym (at_number 0 n e class (let z : 0 + n ≡ n = omega arith in z)) ∙ asked))))
   asked_of n (f ∷ es) (suc i) e class at is same asked =
       subst (IsAmong want) (sym (split plan ports wishes p n f es))
       (among_behind want (own plan ports wishes p n f (class_of_entry f)) (wants (n + 1) es)
-          (asked_of (n + 1) es i e class at is same
-              (sym (at_number (suc i) n e class (let z : suc i + n ≡ i + (n + 1) = omega arith in z)) ∙ asked)))
+      (asked_of (n + 1) es i e class at is same
+      (sym (at_number (suc i) n e class (let z : suc i + n ≡ i + (n + 1) = omega arith in z)) ∙ asked)))
 
   pub asked_is_wished : IsAmong want (wants_at plan wishes p) ↔ IsWishedAt plan wishes p want
   asked_is_wished = (
@@ -206,8 +206,8 @@ module _ (plan : Plan) (wishes : List Wish) (p : EgressPort) (want : Want) where
         },
     λ s. asked_of 1 plan.streams s.stream s.entry s.class s.entry_is s.class_is s.want_is
         (any_passes_from_place (passes plan ports wishes p (s.stream + 1) s.entry s.class) wishes s.place s.wish s.wish_is
-            (and_from (is_wish_of plan.tree (s.stream + 1) s.wish) _
-                (and_from (s.wish.stream == s.stream + 1) _ (eq-eqb s.wish.stream (s.stream + 1) s.stream_is) s.station)
-                (and_from (not (is_blocked plan ports s.class s.entry.talker.0 s.wish.station.0)) _
-                    (not_from_false (is_blocked plan ports s.class s.entry.talker.0 s.wish.station.0) s.passes) s.leads))),
+        (and_from (is_wish_of plan.tree (s.stream + 1) s.wish) _
+        (and_from (s.wish.stream == s.stream + 1) _ (eq-eqb s.wish.stream (s.stream + 1) s.stream_is) s.station)
+        (and_from (not (is_blocked plan ports s.class s.entry.talker.0 s.wish.station.0)) _
+        (not_from_false (is_blocked plan ports s.class s.entry.talker.0 s.wish.station.0) s.passes) s.leads))),
   )

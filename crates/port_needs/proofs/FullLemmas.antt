@@ -72,7 +72,7 @@ module _ (plan : Plan) (wishes : List Wish) (p : EgressPort) where
   each_id P n (e ∷ es) h =
       subst (AllByRecursion (λ (w : Want). P w.stream.0)) (sym (split plan ports wishes p n e es))
       (each_append (λ (w : Want). P w.stream.0) (own plan ports wishes p n e (class_of_entry e)) (wants_from plan ports wishes p (n + 1) es)
-          (by (class_of_entry e)) (each_id P (n + 1) es h.1))
+      (by (class_of_entry e)) (each_id P (n + 1) es h.1))
     where
       one : (class : Class) (t : Bool) → AllByRecursion (λ (w : Want). P w.stream.0) (if t then want_of_entry e class ∷ [] else [])
       one class true = (h.0, tt)
@@ -178,5 +178,5 @@ module _ (plan : Plan) (wishes : List Wish) (p : EgressPort) (link : LinkEntry) 
   full_is_large a both =
       subst (λ (o : Option LinkEntry). IfSome o (λ l. is_enough (caps_of_link l) (slope_of_a ws) (slope_of_all ws) ≡ true)) (sym full.link_is)
       (subst (λ (caps : Caps). is_enough caps (slope_of_a ws) (slope_of_all ws) ≡ true) full.caps
-          (and_from (nat_le (slope_of_a ws) book.caps.class_a) (nat_le (slope_of_all ws) book.caps.both)
-              (le-leb (slope_of_a ws) book.caps.class_a (omega (arith, within_a, a))) (le-leb (slope_of_all ws) book.caps.both (omega (arith, within_both, both)))))
+      (and_from (nat_le (slope_of_a ws) book.caps.class_a) (nat_le (slope_of_all ws) book.caps.both)
+      (le-leb (slope_of_a ws) book.caps.class_a (omega (arith, within_a, a))) (le-leb (slope_of_all ws) book.caps.both (omega (arith, within_both, both)))))

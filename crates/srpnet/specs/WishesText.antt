@@ -1,6 +1,6 @@
 -- What `srpnet plan` and `srpnet plan strict` print: what came of each wish in a run of a scenario,
 -- what the network needs for all of them, and what is doubted; and how the latter ends.
-use Rattle.std.specs.Prelude.{◌≡◌, ℕ, zero, suc, ◌+◌, ◌&&◌, nat_lt, if◌then◌else◌, List, [], ◌∷◌, flat_map, Ok}
+use Rattle.std.specs.Prelude.{◌≡◌, ℕ, zero, suc, List, [], ◌∷◌, Ok}
 use Rattle.srp_base.specs.Text.{whole_of}
 use Rattle.srp_base.specs.declared.{bandwidth.Class.Class, ports.PortChange.PortChange}
 use Rattle.frame_flow.specs.declared.result.PortFlow.{PortFlow}
@@ -8,25 +8,14 @@ use Rattle.frame_flow.specs.Flow.{IsFlow}
 use Rattle.topology_file.specs.Plan.{Plan}
 use Rattle.scenario_frames.specs.Setting.{setting_of}
 use Rattle.scenario_delays.specs.{declared.facts.DelayFacts.DelayFacts, Facts.AreFacts}
-use Rattle.port_needs.specs.declared.demand.Wish.{Wish as Need}
 use Rattle.port_needs.specs.Needs.{needs_text}
 use Rattle.wishes.specs.declared.{wish.Wish.Wish, moments.Moments.Moments}
-use Rattle.wishes.specs.{Outlook.outlook_text, RunMoments.moments_of, Text.lines_of, Text.ungranted_in, Wishes.wishes_in}
+use Rattle.wishes.specs.{Needs.needs_of, Outlook.outlook_text, RunMoments.moments_of, Text.lines_of, Text.ungranted_in, Wishes.wishes_in}
 use Rattle.world_core.specs.declared.journal.Tick.{Tick}
 use Rattle.world_core.specs.{World.WorldState, Ticks.AreCanonicalTicks, Timeline.IsTimelineOf}
 use Rattle.srpnet.specs.declared.outcome.Cause.{Cause}
 use Rattle.srpnet.specs.declared.outcome.Cause.TheVariants.{Done, NotGranted}
 use Rattle.srpnet.specs.{DelaysText.GoInTime, PlanInput.any_scenario_input, RunText.HoldsThroughout}
-
--- what a wish needs, where its stream is talked; streams have numbers from 1
-abbrev pub need_of : Wish → List Need
-need_of wish =
-    if wish.talked && nat_lt wish.stream 65535 then record { stream = wish.stream + 1; station = wish.station } ∷ []
-    else []
-
--- what some wishes need
-abbrev pub needs_of : List Wish → List Need
-needs_of wishes = flat_map need_of wishes
 
 -- what is printed of a network at the end of a run with these moments, with these wishes, by what is
 -- known of the run's delays

@@ -7,7 +7,8 @@ ghost use Rattle.tree_topology.specs.Topology.{HasNode};
 ghost use Rattle.srpnet.specs.Input.{ending};
 ghost use Rattle.srpnet.specs.Outcomes.{EndsAs};
 ghost use Rattle.srpnet.specs.PlanInput.{IsExpanded, any_scenario_input as any_scenario_input_spec, plan_input};
-ghost use Rattle.srpnet.specs.WishesText.{IsPlanned, IsStrictVerdict, IsUngranted, PlanOutput, need_of, needs_of as needs_of_spec, plan_words, verdict_of as verdict_of_spec};
+ghost use Rattle.srpnet.specs.WishesText.{IsPlanned, IsStrictVerdict, IsUngranted, PlanOutput, plan_words, verdict_of as verdict_of_spec};
+ghost use Rattle.wishes.specs.Needs.{need_of, needs_of as needs_of_spec};
 
 use crate::commands::{Answer, CommandOutput};
 use crate::document::table_of;

@@ -6,3 +6,6 @@ mod ScriptLemmas
 mod MomentLemmas
 mod WithinLemmas
 mod CopyLemmas
+mod NeedLemmas
+mod GrantedNeeds
+mod GrantedAll

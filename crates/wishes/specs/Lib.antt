@@ -6,6 +6,7 @@ pub mod RunMoments
 pub mod Watching
 pub mod Outlook
 pub mod Copies
+pub mod Needs
 pub use Wishes.*
 pub use Within.*
 pub use Text.*
@@ -14,6 +15,7 @@ pub use RunMoments.*
 pub use Watching.*
 pub use Outlook.*
 pub use Copies.*
+pub use Needs.*
 pub use Rattle.wishes.specs.declared.wish.Answer.{Answer}
 pub use Rattle.wishes.specs.declared.wish.Answer.TheVariants.{Granted, Refused, Silent}
 pub use Rattle.wishes.specs.declared.wish.Wish.{Wish}

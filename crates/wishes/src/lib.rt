@@ -23,7 +23,9 @@
 //! what is known of the run's delays (`DelayFacts` of scenario_delays; `specs/Within.antt`). `laws`
 //! says that in a network at rest a wish is granted exactly where its application hears Ready, and
 //! in any network only where each port of its way has booked; and that `within` is the number of
-//! `delays`.
+//! `delays`. `need_laws` joins wishes with what port_needs asks of the ports for them (`needs_of` of
+//! `specs/Needs.antt`): at rest, where nothing is needed all of them are granted, and a port that is
+//! too small leads to one that isn't.
 //!
 //! `doubts_text` (`specs/Doubts.antt`) has a line exactly where its fact holds, and `moments_of`
 //! (`specs/RunMoments.antt`) are functions of the networks at the ends of all ticks, of which a run
@@ -47,6 +49,7 @@ mod lines;
 mod listeners;
 mod marks;
 mod moments;
+pub mod need_laws;
 mod outlook;
 mod text;
 mod watch;

@@ -1,5 +1,5 @@
 use Rattle.std.proofs.Common.{◌≡◌, ◌++◌, drop}
-use Rattle.srpnet.specs.{needs_of}
+use Rattle.wishes.specs.Needs.{needs_of}
 use Rattle.srpnet.proofs.plan.push_needs.Given as goal
 
 -- what is needed so far with what the wishes that are left need is the whole
