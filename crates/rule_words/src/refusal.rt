@@ -218,30 +218,39 @@ fn first_word(keys: &[Key]) -> Option<&'static str>
 }
 
 // The word of the first of the keys of a form whose value isn't right.
-fn wrong_word(form: TableForm, table: &Table) -> Result<Option<&'static str>, NoMemory>
+fn wrong_word(
+    alloc: Global,
+    form: TableForm,
+    table: &Table,
+) -> Result<Option<&'static str>, NoMemory>
     ensures { IfOk result (λ word. option_copied word
         ≡ option_map word_of_spec (wrong_key_spec (keys_of_spec form) (table_view table.now))) }
 {
-    match wrong_key(*table.allocator(), table, keys_of(form))? {
+    match wrong_key(alloc, table, keys_of(form))? {
         Some(key) => Ok(Some(word_of(key))),
         None => Ok(None),
     }
 }
 
 // The first key at fault of a file that has to have a form.
-fn word_of_form<'a>(form: TableForm, table: &'a Table) -> Result<Option<&'a str>, NoMemory>
+fn word_of_form<'a>(
+    alloc: Global,
+    form: TableForm,
+    table: &'a Table,
+) -> Result<Option<&'a str>, NoMemory>
     ensures { IfOk result (λ word. option_copied word
         ≡ option_or (stray_key_spec form (table_view table.now))
         (option_map word_of_spec (wrong_key_spec (keys_of_spec form) (table_view table.now)))) }
 {
     match stray_key(form, table) {
         Some(word) => Ok(Some(word)),
-        None => wrong_word(form, table),
+        None => wrong_word(alloc, form, table),
     }
 }
 
 // The first key at fault of a file.
 fn word_at_fault<'a>(
+    alloc: Global,
     broken: Broken,
     domains: bool,
     table: &'a Table,
@@ -251,7 +260,7 @@ fn word_at_fault<'a>(
         (form_asked_spec broken.kind domains broken.rule broken.entry (table_view table.now))) }
 {
     match form_asked(broken.kind, domains, broken.rule, broken.entry, table) {
-        Some(form) => word_of_form(form, table),
+        Some(form) => word_of_form(alloc, form, table),
         None => Ok(first_word(keys_asked(broken.kind, broken.rule, table))),
     }
 }
@@ -279,7 +288,8 @@ fn put_fault_line(
     ensures { OnOk result (out.new.items
         ≡ out.old.items ++ fault_line broken domains (table_view table.now) octets.now) }
 {
-    match word_at_fault(broken, domains, table)? {
+    let alloc = *out.allocator();
+    match word_at_fault(alloc, broken, domains, table)? {
         Some(word) => put_line_of_key(out, word, octets),
         None => Ok(()),
     }
