@@ -3,7 +3,7 @@
 //! The calls stand in functions of their own without contracts, so that a test's own proof is
 //! short.
 
-use file_places::{Place, Spot, line_of_entry, put_line, put_place, toml_place};
+use file_places::{Place, Spot, line_of_entry, line_of_key, put_line, put_place, toml_place};
 use srp_base::Seq;
 use std::alloc::Global;
 
@@ -52,6 +52,14 @@ fn begins_in(alloc: Global, text: &str, entry: usize, wanted: Option<usize>) -> 
     }
 }
 
+/// Whether a key of a text stands in this line.
+fn stands_in(alloc: Global, text: &str, word: &str, wanted: Option<usize>) -> bool {
+    match line_of_key(alloc, text.as_bytes(), word) {
+        Ok(line) => line == wanted,
+        Err(_) => false,
+    }
+}
+
 /// Whether both lines are put at the end of a text.
 fn are_put(alloc: Global) -> bool {
     let place = Place {
@@ -87,6 +95,8 @@ fn an_entry_begins_in_a_line(rt: HostRuntime) {
     assert!(rt; begins_in(alloc, NODES, 1, Some(2)));
     assert!(rt; begins_in(alloc, NODES, 2, Some(5)));
     assert!(rt; begins_in(alloc, NODES, 3, None));
-    assert!(rt; begins_in(alloc, INLINE, 2, None));
+    assert!(rt; begins_in(alloc, INLINE, 2, Some(4)));
+    assert!(rt; stands_in(alloc, INLINE, "node", Some(2)));
+    assert!(rt; stands_in(alloc, NODES, "name", None));
     assert!(rt; are_put(alloc));
 }

@@ -1,4 +1,4 @@
 pub mod DocumentLemmas
 pub mod SpotLemmas
 pub mod LineLemmas
-pub mod HeaderLemmas
+pub mod KindLemmas

@@ -1,8 +1,12 @@
 pub mod Document
 pub mod Places
-pub mod Headers
+pub mod Lines
 pub mod Entries
 pub use Document.*
 pub use Places.*
-pub use Headers.*
+pub use Lines.*
 pub use Entries.*
+pub use Rattle.file_places.specs.declared.lines.LineKind.{LineKind}
+pub use Rattle.file_places.specs.declared.lines.LineKind.TheVariants.{Header, Key, Opening, Item}
+pub use Rattle.file_places.specs.declared.entries.Sought.{Sought}
+pub use Rattle.file_places.specs.declared.entries.Sought.TheVariants.{Tables}

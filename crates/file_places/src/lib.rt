@@ -7,8 +7,13 @@
 //!                +------> the first octet that isn't -------> there: line 1 column 8: ..     toml_place
 //!
 //!   octets, "node", 3 --> the third line that is a header [[node]] --> line: 9              line_of_entry
+//!                         or that begins with {, from `node = [` on
 //!                         if the lines up to it are a document with 3 tables `node`,
 //!                         and those before it one with 2
+//!
+//!   octets, "ticks"   --> the first line that begins with ticks =  --> line: 2              line_of_key
+//!                         if the lines up to it are a document with the key,
+//!                         and those before it aren't
 //! ```
 //!
 //! A place's line is one more than there are line feeds before it, and its column one more than
@@ -18,19 +23,22 @@
 //! octet below 32, so that they stay on one line. Of other octets it is the end of the longest front
 //! that is UTF-8.
 //!
-//! The line of an entry is that of its header (`specs/Headers.antt`), where the lines up to it are a
-//! document in which the array has so many entries, and those before it one in which it has one
-//! entry less (`specs/Entries.antt`): a line that only looks like a header, as in a text of several
-//! lines, isn't taken for one. An array that is written inline has no headers, and no line is told.
+//! The line of an entry is that of its header, or where the array is written inline its own
+//! (`specs/Lines.antt`), where the lines up to it are a document in which the array has so many
+//! entries, and those before it one in which it has one entry less (`specs/Entries.antt`): a line that
+//! only looks like one, as in a text of several lines, isn't taken for it. Lines that end within an
+//! array are a document with the bracket that closes it. So it is with the line of a key of the file.
+//! Where several entries stand in one line, no line is told of the second.
 //!
 //! A further word of a place is a field of `Place` with a line of `IsPlaceOf`, and a piece of
-//! `place_line`. A further spelling of a header is a case of `behind_header`.
+//! `place_line`. A further spelling of a line is a variant of `LineKind` with its case in
+//! `is_of_kind`.
 #![tactic(auto)]
 
 mod entries;
-mod headers;
+mod lines;
 mod pieces;
 mod place;
 
-pub use entries::{line_of_entry, put_line};
+pub use entries::{line_of_entry, line_of_key, put_line};
 pub use place::{Place, Spot, put_place, toml_place};

@@ -1,10 +1,12 @@
 -- What is said of the first rule that a file breaks: a line of its number and its entry, one of
--- what it asks, one of the entry's place and name, one of the line in which it begins, and then the
--- key with what it has to be and what stands there, and the other side.
-use Rattle.std.specs.Prelude.{ℕ, Bool, ◌==◌, if◌then◌else◌, List, [], ◌∷◌, ◌++◌, codes, flat_map, Option, Some, None}
+-- what it asks, one of the entry's place and name, one of the line in which it begins, or in which
+-- the key of the file stands, and then the key with what it has to be and what stands there, and the
+-- other side.
+use Rattle.std.specs.Prelude.{ℕ, Bool, ◌==◌, if◌then◌else◌, List, [], ◌∷◌, ◌++◌, codes, flat_map, Option, Some, None, option_map, option_and_then}
+use Rattle.std.specs.Option.{option_or}
 use Rattle.srp_base.specs.Text.{whole_of}
 use Rattle.toml.specs.Data.{Members}
-use Rattle.file_places.specs.Entries.{entry_line as begin_line, line_of_entry}
+use Rattle.file_places.specs.Entries.{entry_line as begin_line, line_of_entry, line_of_key}
 use Rattle.rule_words.specs.declared.{kinds.FileKind.FileKind, lines.Broken.Broken, keys.Key.Key, tables.TableForm.TableForm}
 use Rattle.rule_words.specs.{Asked.array_of, Faults.stray_key, Faults.wrong_key, Forms.form_words, Keys.word_of, Keys.form_of, Lines.asks_line, Lines.entry_line, Lines.entry_of, Lines.rule_line, Lines.there_line, Matters.has_domains, Matters.form_asked, Matters.keys_asked, Others.other_lines, Tables.keys_of, Tables.keys_together, Values.quoted}
 
@@ -57,6 +59,29 @@ matter_lines broken ms None = flat_map (there_line ms) (keys_asked broken.kind b
 abbrev pub table_lines : Broken → Bool → Members → List ℕ
 table_lines broken domains ms = matter_lines broken ms (form_asked broken.kind domains broken.rule broken.entry ms)
 
+-- ---- the file as a whole
+
+-- the first of some keys
+abbrev pub first_word : List Key → Option (List ℕ)
+first_word [] = None
+first_word (key ∷ keys) = Some (word_of key)
+
+-- the first key at fault: one that the file may not have, or whose value isn't right, or else the first
+-- of those whose values break the rule
+abbrev pub word_at_fault : Broken → Members → Option TableForm → Option (List ℕ)
+word_at_fault broken ms (Some form) = option_or (stray_key form ms) (option_map word_of (wrong_key (keys_of form) ms))
+word_at_fault broken ms None = first_word (keys_asked broken.kind broken.rule ms)
+
+-- the line in which it stands, where that is known
+abbrev pub fault_line : Broken → Bool → Members → List ℕ → List ℕ
+fault_line broken domains ms octets =
+    line_words (option_and_then (λ word. line_of_key word octets)
+    (word_at_fault broken ms (form_asked broken.kind domains broken.rule broken.entry ms)))
+
+-- that line, and what is wrong
+abbrev pub file_lines : Broken → Bool → Members → List ℕ → List ℕ
+file_lines broken domains ms octets = fault_line broken domains ms octets ++ table_lines broken domains ms
+
 -- ---- the entry
 
 -- an entry with the line in which it begins, and what is wrong at it
@@ -75,7 +100,7 @@ lines_in_array broken ms octets (Some array) =
 -- what is wrong in a file: at one of its entries, or in the file as a whole, which is the entry 0
 abbrev pub place_lines : Broken → Members → List ℕ → List ℕ
 place_lines broken ms octets =
-    if broken.entry == 0 then table_lines broken (has_domains ms) ms
+    if broken.entry == 0 then file_lines broken (has_domains ms) ms octets
     else lines_in_array broken ms octets (array_of broken.rule)
 
 -- what is said of the first rule that a file of these members and these octets breaks

@@ -1,15 +1,16 @@
 //! What is said of the first rule that a file breaks.
 
-ghost use Rattle.std.specs.Prelude.{◌≡◌, ◌≤◌, ◌++◌, flat_map, Some, IfOk, OnOk};
-ghost use Rattle.std.specs.Option.{option_copied};
+ghost use Rattle.std.specs.Prelude.{◌≡◌, ◌≤◌, ◌++◌, flat_map, option_map, option_and_then, Some, IfOk, OnOk};
+ghost use Rattle.std.specs.Option.{option_copied, option_or};
 ghost use Rattle.toml.specs.View.{table_view};
-ghost use Rattle.file_places.specs.Entries.{line_of_entry as line_of_entry_spec};
+ghost use Rattle.file_places.specs.Entries.{line_of_entry as line_of_entry_spec, line_of_key as line_of_key_spec};
 ghost use Rattle.rule_words.specs.Asked.{array_of as array_of_spec};
 ghost use Rattle.rule_words.specs.Faults.{stray_key as stray_key_spec, wrong_key as wrong_key_spec};
 ghost use Rattle.rule_words.specs.Keys.{word_of as word_of_spec};
 ghost use Rattle.rule_words.specs.Lines.{there_line, entry_of as entry_of_spec};
+ghost use Rattle.rule_words.specs.Matters.{form_asked as form_asked_spec};
 ghost use Rattle.rule_words.specs.Tables.{keys_of as keys_of_spec};
-ghost use Rattle.rule_words.specs.Refusal.{line_words, broken_text, wrong_line, listed, stray_words, known_words, unknown_line, value_lines, fault_lines, table_lines, lines_of_entry, lines_in_array, place_lines, refusal_text as refusal_text_spec};
+ghost use Rattle.rule_words.specs.Refusal.{line_words, broken_text, fault_line, file_lines, first_word as first_word_spec, word_at_fault as word_at_fault_spec, wrong_line, listed, stray_words, known_words, unknown_line, value_lines, fault_lines, table_lines, lines_of_entry, lines_in_array, place_lines, refusal_text as refusal_text_spec};
 
 use crate::asked::array_of;
 use crate::faults::{unknown_key, wrong_key};
@@ -22,7 +23,7 @@ use crate::others::put_others;
 use crate::pieces::put;
 use crate::tables::{TableForm, is_closed, keys_of, keys_together};
 use crate::values::put_quoted;
-use file_places::{line_of_entry, put_line};
+use file_places::{line_of_entry, line_of_key, put_line};
 use srp_base::NoMemory;
 use std::alloc::{AllocError, Global};
 use toml::Table;
@@ -206,6 +207,109 @@ fn put_of_array(
     }
 }
 
+// The word of the first of some keys.
+fn first_word(keys: &[Key]) -> Option<&'static str>
+    ensures { option_copied result ≡ first_word_spec keys.now }
+{
+    match keys {
+        [key, ..] => Some(word_of(*key)),
+        [] => None,
+    }
+}
+
+// The word of the first of the keys of a form whose value isn't right.
+fn wrong_word(
+    alloc: Global,
+    form: TableForm,
+    table: &Table,
+) -> Result<Option<&'static str>, NoMemory>
+    ensures { IfOk result (λ word. option_copied word
+        ≡ option_map word_of_spec (wrong_key_spec (keys_of_spec form) (table_view table.now))) }
+{
+    match wrong_key(alloc, table, keys_of(form))? {
+        Some(key) => Ok(Some(word_of(key))),
+        None => Ok(None),
+    }
+}
+
+// The first key at fault of a file that has to have a form.
+fn word_of_form<'a>(
+    alloc: Global,
+    form: TableForm,
+    table: &'a Table,
+) -> Result<Option<&'a str>, NoMemory>
+    ensures { IfOk result (λ word. option_copied word
+        ≡ option_or (stray_key_spec form (table_view table.now))
+        (option_map word_of_spec (wrong_key_spec (keys_of_spec form) (table_view table.now)))) }
+{
+    match stray_key(form, table) {
+        Some(word) => Ok(Some(word)),
+        None => wrong_word(alloc, form, table),
+    }
+}
+
+// The first key at fault of a file.
+fn word_at_fault<'a>(
+    alloc: Global,
+    broken: Broken,
+    domains: bool,
+    table: &'a Table,
+) -> Result<Option<&'a str>, NoMemory>
+    ensures { IfOk result (λ word. option_copied word
+        ≡ word_at_fault_spec broken (table_view table.now)
+        (form_asked_spec broken.kind domains broken.rule broken.entry (table_view table.now))) }
+{
+    match form_asked(broken.kind, domains, broken.rule, broken.entry, table) {
+        Some(form) => word_of_form(alloc, form, table),
+        None => Ok(first_word(keys_asked(broken.kind, broken.rule, table))),
+    }
+}
+
+// The line in which a key of the file stands, where it is known.
+fn put_line_of_key(out: &mut Vec<u8>, word: &str, octets: &[u8]) -> Result<(), NoMemory>
+    ensures { OnOk result (out.new.items
+        ≡ out.old.items ++ line_words (line_of_key_spec word.now octets.now)) }
+{
+    let alloc = *out.allocator();
+    match line_of_key(alloc, octets, word)? {
+        Some(line) => put_line(out, line),
+        None => Ok(()),
+    }
+}
+
+// The line in which the first key at fault of a file stands.
+fn put_fault_line(
+    out: &mut Vec<u8>,
+    broken: Broken,
+    domains: bool,
+    table: &Table,
+    octets: &[u8],
+) -> Result<(), NoMemory>
+    ensures { OnOk result (out.new.items
+        ≡ out.old.items ++ fault_line broken domains (table_view table.now) octets.now) }
+{
+    let alloc = *out.allocator();
+    match word_at_fault(alloc, broken, domains, table)? {
+        Some(word) => put_line_of_key(out, word, octets),
+        None => Ok(()),
+    }
+}
+
+// What is wrong in a file as a whole.
+fn put_file(
+    out: &mut Vec<u8>,
+    broken: Broken,
+    domains: bool,
+    table: &Table,
+    octets: &[u8],
+) -> Result<(), NoMemory>
+    ensures { OnOk result (out.new.items
+        ≡ out.old.items ++ file_lines broken domains (table_view table.now) octets.now) }
+{
+    put_fault_line(out, broken, domains, table, octets)?;
+    put_table(out, broken, domains, table)
+}
+
 // What is wrong in a file, at its place.
 fn put_place(
     out: &mut Vec<u8>,
@@ -217,7 +321,7 @@ fn put_place(
         ≡ out.old.items ++ place_lines broken (table_view table.now) octets.now) }
 {
     if broken.entry == 0 {
-        put_table(out, broken, has_domains(table), table)
+        put_file(out, broken, has_domains(table), table, octets)
     } else {
         put_of_array(out, broken, table, octets)
     }
@@ -240,8 +344,8 @@ fn put_refusal(
 }
 
 /// What is said of a rule that a file of this kind breaks first at this entry: what the rule asks,
-/// the entry with its array and its name, the line of the file in which it begins, the key that
-/// breaks the rule, what has to stand there, and what does. The entry 0 is the file as a whole.
+/// the entry with its array and its name, the line of the file in which it begins, or in which the
+/// key of the file stands, the key that breaks the rule, what has to stand there, and what does. The entry 0 is the file as a whole.
 /// The table is that of the octets.
 pub fn refusal_text(
     alloc: Global,

@@ -1,8 +1,8 @@
--- The lines of a text, one after the other, and which of them are headers.
-use Rattle.std.proofs.Common.{◌≡◌, ℕ, zero, suc, ◌+◌, ◌==◌, ◌<◌, ◌≤◌, ◌-◌, Bool, true, false, ◌&&◌, cond, List, [], ◌∷◌, length, take, drop, get_or, if◌then◌else◌, refl, sym, ap, ◌∙◌, arith}
+-- The lines of a text, one after the other, and which of them are of a kind.
+use Rattle.std.proofs.Common.{◌≡◌, ℕ, zero, suc, ◌+◌, ◌==◌, ◌<◌, ◌-◌, Bool, true, false, ◌&&◌, cond, List, [], ◌∷◌, length, take, drop, get_or, if◌then◌else◌, refl, sym, ap, ◌∙◌, arith}
 use Rattle.std.specs.Prelude.{count_by}
 use Rattle.std.proofs.lemmas.{List.drop-drop, List.length-drop, List.Sums.count_by_more_yes, List.Sums.count_by_more_no}
-use Rattle.file_places.specs.{first_line, is_feed, is_header, is_numbered, lines_of, with_front}
+use Rattle.file_places.specs.{LineKind, first_line, is_feed, is_of_kind, is_numbered, lines_of, with_front}
 use Rattle.file_places.proofs.LineLemmas.{line_front}
 
 -- ---- lines
@@ -49,31 +49,31 @@ line_from xs n at end below rest to =
     from_drop (lines_of xs) n l (lines_of (drop end xs))
     (rest ∙ (lines_here ys (omega (arith, below, length-drop at xs)) ∙ ap (λ (zs : List ℕ). l ∷ lines_of zs) place))
 
--- ---- headers
+-- ---- lines of a kind
 
 -- one line more is counted or not
-pub header_more : (array : List ℕ) (lines : List (List ℕ)) (n : ℕ) (l : List ℕ) (is : Bool) → n < length lines → get_or lines n l ≡ l → is ≡ is_header array l
-    → count_by (is_header array) (take (n + 1) lines) ≡ count_by (is_header array) (take n lines) + cond is 1 0
-header_more array lines n l true inside here is = count_by_more_yes (is_header array) lines n l inside (ap (is_header array) here ∙ sym is)
-header_more array lines n l false inside here is =
-    count_by_more_no (is_header array) lines n l inside (ap (is_header array) here ∙ sym is) ∙ (let e : count_by (is_header array) (take n lines) ≡ count_by (is_header array) (take n lines) + 0 = omega arith in e)
+pub kind_more : (kind : LineKind) (array : List ℕ) (lines : List (List ℕ)) (n : ℕ) (l : List ℕ) (is : Bool) → n < length lines → get_or lines n l ≡ l → is ≡ is_of_kind kind array l
+    → count_by (is_of_kind kind array) (take (n + 1) lines) ≡ count_by (is_of_kind kind array) (take n lines) + cond is 1 0
+kind_more kind array lines n l true inside here is = count_by_more_yes (is_of_kind kind array) lines n l inside (ap (is_of_kind kind array) here ∙ sym is)
+kind_more kind array lines n l false inside here is =
+    count_by_more_no (is_of_kind kind array) lines n l inside (ap (is_of_kind kind array) here ∙ sym is) ∙ (let e : count_by (is_of_kind kind array) (take n lines) ≡ count_by (is_of_kind kind array) (take n lines) + 0 = omega arith in e)
 
 -- what is told of the octets of a line is told of the line
-pub header_is : (array xs : List ℕ) (at end : ℕ) (is : Bool) → end ≡ at + length (first_line (drop at xs))
-    → is ≡ is_header array (take (end - at) (drop at xs)) → is ≡ is_header array (first_line (drop at xs))
-header_is array xs at end is to said =
+pub kind_is : (kind : LineKind) (array xs : List ℕ) (at end : ℕ) (is : Bool) → end ≡ at + length (first_line (drop at xs))
+    → is ≡ is_of_kind kind array (take (end - at) (drop at xs)) → is ≡ is_of_kind kind array (first_line (drop at xs))
+kind_is kind array xs at end is to said =
     let size : end - at ≡ length (first_line (drop at xs)) = omega (arith, to) in
-    said ∙ ap (is_header array) (ap (λ (k : ℕ). take k (drop at xs)) size ∙ sym (line_front (drop at xs)))
+    said ∙ ap (is_of_kind kind array) (ap (λ (k : ℕ). take k (drop at xs)) size ∙ sym (line_front (drop at xs)))
 
 -- the line that ends here is the one of this number or isn't, as it is told of its octets
-pub header_told : (array : List ℕ) (number : ℕ) (xs : List ℕ) (n headers at end : ℕ) (is named : Bool) → at < length xs
+pub kind_told : (kind : LineKind) (array : List ℕ) (number : ℕ) (xs : List ℕ) (n found at end : ℕ) (is named : Bool) → at < length xs
     → drop n (lines_of xs) ≡ lines_of (drop at xs) → end ≡ at + length (first_line (drop at xs))
-    → headers ≡ count_by (is_header array) (take n (lines_of xs)) → is ≡ is_header array (take (end - at) (drop at xs))
-    → named ≡ (is && (headers + 1 == number)) → (d : List ℕ) → is_numbered array number (take n (lines_of xs)) (get_or (lines_of xs) n d) ≡ named
-header_told array number xs n headers at end is named below rest to many said name d =
+    → found ≡ count_by (is_of_kind kind array) (take n (lines_of xs)) → is ≡ is_of_kind kind array (take (end - at) (drop at xs))
+    → named ≡ (is && (found + 1 == number)) → (d : List ℕ) → is_numbered kind array number (take n (lines_of xs)) (get_or (lines_of xs) n d) ≡ named
+kind_told kind array number xs n found at end is named below rest to many said name d =
     let l = first_line (drop at xs) in
     let f : IsFrom (lines_of xs) n l (lines_of (drop end xs)) = line_from xs n at end below rest to in
-    let told : is ≡ is_header array l = header_is array xs at end is to said in
-    ap (is_numbered array number (take n (lines_of xs))) (f.here d)
-    ∙ (ap (λ (b : Bool). b && (count_by (is_header array) (take n (lines_of xs)) + 1 == number)) (sym told)
+    let told : is ≡ is_of_kind kind array l = kind_is kind array xs at end is to said in
+    ap (is_numbered kind array number (take n (lines_of xs))) (f.here d)
+    ∙ (ap (λ (b : Bool). b && (count_by (is_of_kind kind array) (take n (lines_of xs)) + 1 == number)) (sym told)
     ∙ (ap (λ (k : ℕ). is && (k + 1 == number)) (sym many) ∙ sym name))

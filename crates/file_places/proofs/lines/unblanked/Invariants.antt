@@ -1,6 +1,6 @@
 use Rattle.std.proofs.Common.{◌≡◌, drop}
 use Rattle.file_places.specs.{unblanked}
-use Rattle.file_places.proofs.headers.unblanked.Given as goal
+use Rattle.file_places.proofs.lines.unblanked.Given as goal
 
 -- what stands behind the blanks so far, without blanks, is the whole without them
 abbrev pub invariant-loop-at : goal.invariant-loop-at

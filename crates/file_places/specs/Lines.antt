@@ -1,0 +1,107 @@
+-- The lines of a file, by what they begin with.
+use Rattle.std.specs.Prelude.{ℕ, zero, suc, ◌+◌, ◌-◌, ◌==◌, Bool, false, ◌&&◌, ◌||◌, nat_eq, if◌then◌else◌, List, [], ◌∷◌, ◌++◌, take, drop, length, codes, count_by, Option, Some, None, is_some, option_map}
+use Rattle.std.specs.Option.{option_map_or}
+use Rattle.std.specs.Cmp.Lexicographic.{pointwise}
+use Rattle.srp_base.specs.Firsts.{first_where}
+use Rattle.toml_rules.specs.Fields.{◌>>=◌}
+use Rattle.file_places.specs.declared.lines.LineKind.{LineKind}
+use Rattle.file_places.specs.declared.lines.LineKind.TheVariants.{Header, Key, Opening, Item}
+use Rattle.file_places.specs.Places.{is_feed}
+
+-- ---- lines
+
+-- one octet more in front of the first line
+abbrev pub with_front : ℕ → List (List ℕ) → List (List ℕ)
+with_front c [] = (c ∷ []) ∷ []
+with_front c (line ∷ lines) = (c ∷ line) ∷ lines
+
+-- the lines of a text, each with its line feed where it has one
+abbrev pub lines_of : List ℕ → List (List ℕ)
+lines_of [] = []
+lines_of (c ∷ octets) = if is_feed c then (c ∷ []) ∷ lines_of octets else with_front c (lines_of octets)
+
+-- the first line of a text, with its line feed where it has one
+abbrev pub first_line : List ℕ → List ℕ
+first_line [] = []
+first_line (c ∷ octets) = if is_feed c then c ∷ [] else c ∷ first_line octets
+
+-- the first lines of a text, so many, or all where there are fewer
+abbrev pub first_lines : ℕ → List ℕ → List ℕ
+first_lines zero octets = []
+first_lines (suc n) octets = first_line octets ++ first_lines n (drop (length (first_line octets)) octets)
+
+-- ---- what a line begins with
+
+-- a blank or a tab
+abbrev pub is_blank : ℕ → Bool
+is_blank c = c == 32 || c == 9
+
+-- a text without the blanks in front
+abbrev pub unblanked : List ℕ → List ℕ
+unblanked [] = []
+unblanked (c ∷ octets) = if is_blank c then unblanked octets else c ∷ octets
+
+-- what stands behind a word, where a text begins with it
+abbrev pub behind : List ℕ → List ℕ → Option (List ℕ)
+behind word octets = if pointwise nat_eq (take (length word) octets) word then Some (drop (length word) octets) else None
+
+-- what stands behind a word and the blanks in front of it
+abbrev pub behind_blanks : List ℕ → List ℕ → Option (List ℕ)
+behind_blanks word octets = behind word (unblanked octets)
+
+-- what stands behind the header of an array of tables, `[[array]]` with blanks or without, where a
+-- line begins with it
+abbrev pub behind_header : List ℕ → List ℕ → Option (List ℕ)
+behind_header array line = do
+  name ← behind_blanks (codes "[[") line
+  end ← behind_blanks array name
+  behind_blanks (codes "]]") end
+
+-- what stands behind a key and its `=`, where a line begins with them
+abbrev pub behind_key : List ℕ → List ℕ → Option (List ℕ)
+behind_key word line = do
+  end ← behind_blanks word line
+  behind_blanks (codes "=") end
+
+-- what stands behind the bracket with which an array opens that is written inline, where a line
+-- begins with its key
+abbrev pub behind_opening : List ℕ → List ℕ → Option (List ℕ)
+behind_opening array line = do
+  value ← behind_key array line
+  behind_blanks (codes "[") value
+
+-- a text begins with a table that is written inline
+abbrev pub has_item : List ℕ → Bool
+has_item octets = is_some (behind_blanks (codes "{") octets)
+
+-- whether a line begins so, for an array or a key of this word: with the header of an entry, with the
+-- key, with the key and the bracket behind it, or with an entry that is written inline, behind the
+-- bracket or by itself
+abbrev pub is_of_kind : LineKind → List ℕ → List ℕ → Bool
+is_of_kind Header word line = is_some (behind_header word line)
+is_of_kind Key word line = is_some (behind_key word line)
+is_of_kind Opening word line = is_some (behind_opening word line)
+is_of_kind Item word line = has_item line || option_map_or has_item (behind_opening word line) false
+
+-- the line is of a kind, and of so many with those before it
+abbrev pub is_numbered : LineKind → List ℕ → ℕ → List (List ℕ) → List ℕ → Bool
+is_numbered kind word number earlier line =
+    is_of_kind kind word line && (count_by (is_of_kind kind word) earlier + 1 == number)
+
+-- the line of a kind of this number, both counted from 1
+abbrev pub numbered_line : LineKind → List ℕ → ℕ → List ℕ → Option ℕ
+numbered_line kind word number octets = first_where (is_numbered kind word number) [] (lines_of octets)
+
+-- the text from a line on
+abbrev pub from_line : ℕ → List ℕ → List ℕ
+from_line n octets = drop (length (first_lines (n - 1) octets)) octets
+
+-- the line of the entry of this number that is written inline, from the line on in which its array
+-- opens
+abbrev pub item_from : List ℕ → ℕ → List ℕ → ℕ → Option ℕ
+item_from array number octets opening =
+    option_map (λ n. opening - 1 + n) (numbered_line Item array number (from_line opening octets))
+
+-- the line of the entry of this number of an array that is written inline
+abbrev pub item_line : List ℕ → ℕ → List ℕ → Option ℕ
+item_line array number octets = numbered_line Opening array 1 octets >>= item_from array number octets
