@@ -1,53 +1,37 @@
 -- How a command is carried out: its answer is made, and let out.
 use Rattle.std.proofs.Common.{rules, ◌≡◌, ℕ, zero, suc, List, refl, sym, subst, Option, Some, inl, inr, ◌∙◌}
 use Rattle.std.specs.Prelude.{◌⊎◌, Result, Ok, Err}
-use Rattle.srpnet.specs.{Answer, Cause, Command, Ledger, Check, Explain, ExplainLedger, ExplainAudit, Run, RunJournal, RunBounds, RunCapture, Ports, PortsJournal, Margins, Delays, Wishes, StrictWishes, Expand, Replay, ExplainGroups, ExplainPlan, Audit, AuditLong, Groups, Decode, Capture, Generate, GeneratePlan, Help, Version, Done, BadWords, ReadFault, TooLong, NotToml, BadScenario, WriteFault, AuditNo, NoMemory, NotGranted, NoLink, CarriedOut, EndsWriting, IsAnswer, IsPlainEnding, IsMade, IsPrinted, IsLetOut, IsVerdict, LacksOutput, ReadsNothing, WentOut, but_verdict, ended, verdict_of}
+use Rattle.srpnet.specs.{Answer, Cause, Command, StrictWishes, Bare, Done, BadWords, ReadFault, TooLong, NotToml, BadScenario, WriteFault, AuditNo, NoMemory, NotGranted, NoLink, NoWords, CarriedOut, EndsWriting, IsAnswer, IsPlainEnding, IsMade, IsPrinted, IsLetOut, IsVerdict, LacksOutput, WentOut, Place, finish, words, reading, judging, writing, verdict, anywhere, IsBehindOutput, IsBeforeWriting, place_of_cause, but_verdict, ended, verdict_of}
 use Rattle.world_core.specs.declared.journal.Tick.{Tick}
 
 -- ---- how an answer ends
 
--- done, or with a no
-abbrev pub IsBehind : Cause → Type 0
-IsBehind cause = (cause ≡ Done) ⊎ ((wishes : ℕ) × (cause ≡ NotGranted wishes))
+-- behind its output, and but for what that says as done
+abbrev IsBehind : Cause → Type 0
+IsBehind cause = WentOut cause × (but_verdict cause ≡ Done)
 
 counted_behind : (count : ℕ) → IsBehind (verdict_of count)
-counted_behind zero = inl refl
-counted_behind (suc n) = inr (suc n, refl)
+counted_behind zero = (tt, refl)
+counted_behind (suc n) = (tt, refl)
 
--- every verdict is that, and a command that reads nothing is done
-verdict_behind : (command : Command) (octets : List ℕ) (ticks : List Tick) (cause : Cause) → IsVerdict command octets ticks cause
-    → IsBehind cause × (ReadsNothing command → cause ≡ Done)
-verdict_behind StrictWishes octets ticks cause is = (subst IsBehind (sym is.cause_is) (counted_behind is.count), λ unread. absurd (reads unread))
-  where
-    reads : ReadsNothing StrictWishes → ⊥
-    reads e = cc
-verdict_behind Ledger octets ticks cause is = (inl is, λ unread. is)
-verdict_behind Check octets ticks cause is = (inl is, λ unread. is)
-verdict_behind Explain octets ticks cause is = (inl is, λ unread. is)
-verdict_behind ExplainLedger octets ticks cause is = (inl is, λ unread. is)
-verdict_behind ExplainAudit octets ticks cause is = (inl is, λ unread. is)
-verdict_behind Run octets ticks cause is = (inl is, λ unread. is)
-verdict_behind RunJournal octets ticks cause is = (inl is, λ unread. is)
-verdict_behind RunBounds octets ticks cause is = (inl is, λ unread. is)
-verdict_behind (RunCapture link) octets ticks cause is = (inl is, λ unread. is)
-verdict_behind Ports octets ticks cause is = (inl is, λ unread. is)
-verdict_behind PortsJournal octets ticks cause is = (inl is, λ unread. is)
-verdict_behind Margins octets ticks cause is = (inl is, λ unread. is)
-verdict_behind Delays octets ticks cause is = (inl is, λ unread. is)
-verdict_behind Wishes octets ticks cause is = (inl is, λ unread. is)
-verdict_behind Expand octets ticks cause is = (inl is, λ unread. is)
-verdict_behind Audit octets ticks cause is = (inl is, λ unread. is)
-verdict_behind AuditLong octets ticks cause is = (inl is, λ unread. is)
-verdict_behind Groups octets ticks cause is = (inl is, λ unread. is)
-verdict_behind (Decode form) octets ticks cause is = (inl is, λ unread. is)
-verdict_behind Capture octets ticks cause is = (inl is, λ unread. is)
-verdict_behind Replay octets ticks cause is = (inl is, λ unread. is)
-verdict_behind ExplainGroups octets ticks cause is = (inl is, λ unread. is)
-verdict_behind ExplainPlan octets ticks cause is = (inl is, λ unread. is)
-verdict_behind (Generate number) octets ticks cause is = (inl is, λ unread. is)
-verdict_behind (GeneratePlan number) octets ticks cause is = (inl is, λ unread. is)
-verdict_behind Help octets ticks cause is = (inl is, λ unread. is)
-verdict_behind Version octets ticks cause is = (inl is, λ unread. is)
+done_behind : (cause : Cause) → cause ≡ Done → IsBehind cause
+done_behind cause is = subst IsBehind (sym is) (tt, refl)
+
+-- every verdict is that
+verdict_behind : (command : Command) (octets : List ℕ) (ticks : List Tick) (cause : Cause) → IsVerdict command octets ticks cause → IsBehind cause
+verdict_behind StrictWishes octets ticks cause is = subst IsBehind (sym is.cause_is) (counted_behind is.count)
+verdict_behind Bare octets ticks cause is = subst IsBehind (sym is) (tt, refl)
+verdict_behind _ octets ticks cause is = done_behind cause is
+
+-- what is behind the output isn't before it
+behind_writes : (p : Place) → IsBehindOutput p → IsBeforeWriting p → ⊥
+behind_writes finish went nothing = nothing
+behind_writes words went nothing = went
+behind_writes reading went nothing = went
+behind_writes judging went nothing = went
+behind_writes writing went nothing = went
+behind_writes verdict went nothing = nothing
+behind_writes anywhere went nothing = went
 
 -- a cause for which there is no output isn't a no behind one
 lacks_but : (cause : Cause) → LacksOutput cause → but_verdict cause ≡ cause
@@ -61,6 +45,7 @@ lacks_but (WriteFault written) lacks = refl
 lacks_but (AuditNo line why) lacks = refl
 lacks_but NoMemory lacks = refl
 lacks_but (NotGranted wishes) lacks = absurd lacks
+lacks_but NoWords lacks = absurd lacks
 lacks_but NoLink lacks = refl
 
 -- and its output didn't go out
@@ -75,6 +60,7 @@ lacks_whole (WriteFault written) lacks went = went
 lacks_whole (AuditNo line why) lacks went = went
 lacks_whole NoMemory lacks went = went
 lacks_whole (NotGranted wishes) lacks went = lacks
+lacks_whole NoWords lacks went = lacks
 lacks_whole NoLink lacks went = went
 
 module _ {I O : Type 0} (left : I → Option (List ℕ)) (in_faults : I → ℕ) (held : O → Option (List ℕ)) (out_faults : O → ℕ)
@@ -85,53 +71,28 @@ module _ {I O : Type 0} (left : I → Option (List ℕ)) (in_faults : I → ℕ)
     answered_as : (cause : Cause) → a.cause ≡ cause → IsAnswer command (left source) (left source') a.journal.ticks a.text cause
     answered_as cause is = subst (λ (c : Cause). IsAnswer command (left source) (left source') a.journal.ticks a.text c) is made.answer
 
-    -- whole, and the answer says no more
-    whole_done : a.cause ≡ Done → IsPrinted held out_faults out out' a.text Done
-        → CarriedOut left in_faults held out_faults command source source' out out' Done a.journal.ticks
-    whole_done is printed = record {
-      done = λ went. record { text = a.text; answer = answered_as Done is; appended = printed.done refl };
-      part = λ w is. absurd cc;
-      memory = λ is. absurd cc;
-      nothing_written = λ nothing. absurd nothing;
-      no_journal = λ nothing. absurd nothing;
+    -- whole, whatever the answer says then
+    whole_out : (cause : Cause) → a.cause ≡ cause → IsBehind cause → IsPrinted held out_faults out out' a.text Done
+        → CarriedOut left in_faults held out_faults command source source' out out' cause a.journal.ticks
+    whole_out cause is behind printed = record {
+      done = λ went. record { text = a.text; answer = answered_as cause is; appended = printed.done refl };
+      part = λ w other. absurd (subst WentOut other behind.0);
+      memory = λ other. absurd (subst WentOut other behind.0);
+      nothing_written = λ nothing. absurd (behind_writes (place_of_cause cause) behind.0 nothing);
+      no_journal = λ nothing. absurd (behind_writes (place_of_cause cause) behind.0 nothing);
       given = made.given;
-      read_fault = λ is. absurd cc;
-      write_fault = λ w is. absurd cc;
+      read_fault = λ other. absurd (subst WentOut other behind.0);
+      write_fault = λ w other. absurd (subst WentOut other behind.0);
       read_counts = λ no. made.counts (λ e. cc);
       write_counts = λ no. printed.counts (λ e. cc);
-      in_time = λ is. absurd cc;
-      too_long = λ is. absurd cc;
-      refused = λ is. absurd cc;
-      good_words = λ is. cc;
-      ends = λ octets told no_read no_write. inl (made.ends octets told no_read);
+      in_time = λ other. absurd (subst WentOut other behind.0);
+      too_long = λ other. absurd (subst WentOut other behind.0);
+      refused = λ other. absurd (subst IsBehindOutput other behind.0);
+      good_words = λ other. subst WentOut other behind.0;
+      ends = λ octets told no_read no_write. inl (subst (IsPlainEnding command octets) (sym behind.1) (made.ends octets told no_read));
       unread = made.unread;
-      unread_ends = λ unread no_write. inl refl;
-      unread_unrefused = λ unread nothing. nothing;
-    }
-
-    -- whole, and the answer says no
-    whole_no : (wishes : ℕ) → a.cause ≡ NotGranted wishes → IsPrinted held out_faults out out' a.text Done
-        → CarriedOut left in_faults held out_faults command source source' out out' (NotGranted wishes) a.journal.ticks
-    whole_no wishes is printed = record {
-      done = λ went. record { text = a.text; answer = answered_as (NotGranted wishes) is; appended = printed.done refl };
-      part = λ w is. absurd cc;
-      memory = λ is. absurd cc;
-      nothing_written = λ nothing. absurd nothing;
-      no_journal = λ nothing. absurd nothing;
-      given = made.given;
-      read_fault = λ is. absurd cc;
-      write_fault = λ w is. absurd cc;
-      read_counts = λ no. made.counts (λ e. cc);
-      write_counts = λ no. printed.counts (λ e. cc);
-      in_time = λ is. absurd cc;
-      too_long = λ is. absurd cc;
-      refused = λ is. absurd cc;
-      good_words = λ is. cc;
-      ends = λ octets told no_read no_write. inl (made.ends octets told no_read);
-      unread = made.unread;
-      unread_ends = λ unread no_write.
-          inl (sym is ∙ (verdict_behind command made.answer.output.octets a.journal.ticks a.cause made.answer.verdict).1 unread);
-      unread_unrefused = λ unread nothing. nothing;
+      unread_ends = λ unread no_write. inl behind.1;
+      unread_unrefused = λ unread nothing. behind_writes (place_of_cause cause) behind.0 nothing;
     }
 
     -- in part, where writing failed
@@ -182,21 +143,11 @@ module _ {I O : Type 0} (left : I → Option (List ℕ)) (in_faults : I → ℕ)
       unread_unrefused = λ unread nothing. nothing;
     }
 
-    -- by what the answer says
-    whole_out : IsBehind a.cause → IsPrinted held out_faults out out' a.text Done
-        → CarriedOut left in_faults held out_faults command source source' out out' a.cause a.journal.ticks
-    whole_out (inl is) printed =
-        subst (λ (c : Cause). CarriedOut left in_faults held out_faults command source source' out out' c a.journal.ticks) (sym is)
-        (whole_done is printed)
-    whole_out (inr says) printed =
-        subst (λ (c : Cause). CarriedOut left in_faults held out_faults command source source' out out' c a.journal.ticks) (sym says.1)
-        (whole_no says.0 says.1 printed)
-
     -- by what writing ended with
     let_out_by : (written : Cause) → EndsWriting written → IsPrinted held out_faults out out' a.text written
         → CarriedOut left in_faults held out_faults command source source' out out' (ended written a.cause) a.journal.ticks
     let_out_by Done ends printed =
-        whole_out (verdict_behind command made.answer.output.octets a.journal.ticks a.cause made.answer.verdict).0 printed
+        whole_out a.cause refl (verdict_behind command made.answer.output.octets a.journal.ticks a.cause made.answer.verdict) printed
     let_out_by (WriteFault written) ends printed = part_out written printed
     let_out_by NoMemory ends printed = front_out printed
     let_out_by BadWords ends printed = absurd ends
@@ -206,6 +157,7 @@ module _ {I O : Type 0} (left : I → Option (List ℕ)) (in_faults : I → ℕ)
     let_out_by (BadScenario rule entry) ends printed = absurd ends
     let_out_by (AuditNo line why) ends printed = absurd ends
     let_out_by (NotGranted wishes) ends printed = absurd ends
+    let_out_by NoWords ends printed = absurd ends
     let_out_by NoLink ends printed = absurd ends
 
   with_answer : (a : Answer) (cause : Cause) (ticks : List Tick) → IsMade left in_faults command source source' (Ok a)

@@ -10,7 +10,7 @@ use Rattle.srp_base.specs.declared.ports.PortChange.{PortChange}
 use Rattle.journal_audit.specs.declared.{verdict.Verdict.Verdict, verdict.Verdict.TheVariants.No}
 use Rattle.journal_audit.specs.{Audit.IsFirstIllegal, Audit.IsJournalOf, Audit.IsRefusal, Audit.IsVerdict, Audit.RefusesBehind, Audit.known_of, Form.AreFormed, Form.IsFirstUnformed, Texts.lines_of}
 use Rattle.srp_report.specs.Report.{report_text}
-use Rattle.srpnet.specs.{Cause, Done, AuditNo, BadWords, ReadFault, TooLong, NotToml, BadScenario, WriteFault, NoMemory, NotGranted, NoLink, IsAudited, IsReportRefused, IsFirstDifferent, IsRun}
+use Rattle.srpnet.specs.{Cause, Done, AuditNo, BadWords, ReadFault, TooLong, NotToml, BadScenario, WriteFault, NoMemory, NotGranted, NoLink, NoWords, IsAudited, IsReportRefused, IsFirstDifferent, IsRun}
 use Rattle.srpnet.specs.AuditParts.{AuditParts}
 use Rattle.srpnet.proofs.AuditLemmas.{run_of_journal, same_run}
 
@@ -99,6 +99,7 @@ module _ (plan : Plan)
   one_ending Done (WriteFault written) one other = absurd other
   one_ending Done NoMemory one other = absurd other
   one_ending Done (NotGranted wishes) one other = absurd other
+  one_ending Done NoWords one other = absurd other
   one_ending Done NoLink one other = absurd other
   one_ending (AuditNo line why) BadWords one other = absurd other
   one_ending (AuditNo line why) ReadFault one other = absurd other
@@ -108,6 +109,7 @@ module _ (plan : Plan)
   one_ending (AuditNo line why) (WriteFault written) one other = absurd other
   one_ending (AuditNo line why) NoMemory one other = absurd other
   one_ending (AuditNo line why) (NotGranted wishes) one other = absurd other
+  one_ending (AuditNo line why) NoWords one other = absurd other
   one_ending (AuditNo line why) NoLink one other = absurd other
   one_ending BadWords other one is = absurd one
   one_ending ReadFault other one is = absurd one
@@ -117,4 +119,5 @@ module _ (plan : Plan)
   one_ending (WriteFault written) other one is = absurd one
   one_ending NoMemory other one is = absurd one
   one_ending (NotGranted wishes) other one is = absurd one
+  one_ending NoWords other one is = absurd one
   one_ending NoLink other one is = absurd one

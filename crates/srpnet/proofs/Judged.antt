@@ -5,7 +5,7 @@ use Rattle.std.specs.Prelude.{Result, IfErr, if◌then◌else◌, ◌&&◌, nat_
 use Rattle.srp_base.specs.Results.{◌>>=◌}
 use Rattle.toml.specs.Data.{Members}
 use Rattle.toml_rules.specs.declared.{rules.RuleErr.RuleErr, rules.RuleErr.TheVariants.Rule, rules.RuleErr.TheVariants.NoMemory as no_memory}
-use Rattle.srpnet.specs.{Command, Ledger, Check, Explain, ExplainLedger, ExplainAudit, Run, RunJournal, RunBounds, RunCapture, Wishes, StrictWishes, Expand, Replay, ExplainGroups, ExplainPlan, Ports, PortsJournal, Margins, Delays, Audit, AuditLong, Groups, Decode, Capture, Generate, GeneratePlan, Help, Version, Cause, Done, BadWords, ReadFault, TooLong, NotToml, BadScenario, WriteFault, AuditNo, NoMemory, NotGranted, NoLink, any_scenario_of, as_cause, link_input, with_link, audit_parts, IsAudited, IsAuditedBy, IsAuditedOf, IsEndingOf, reads_input, document, or_not_toml, starts_threads, by_rules, ending, input_of, ledger_file, EndsAs, EndsBy, LacksOutput, scenario_input}
+use Rattle.srpnet.specs.{Command, Ledger, Check, Explain, ExplainLedger, ExplainAudit, Run, RunJournal, RunBounds, RunCapture, Wishes, StrictWishes, Expand, Replay, ExplainGroups, ExplainPlan, Ports, PortsJournal, Margins, Delays, Audit, AuditLong, Groups, Decode, Capture, Generate, GeneratePlan, Help, Version, Cause, Done, BadWords, ReadFault, TooLong, NotToml, BadScenario, WriteFault, AuditNo, NoMemory, NotGranted, NoLink, NoWords, Bare, any_scenario_of, as_cause, link_input, with_link, audit_parts, IsAudited, IsAuditedBy, IsAuditedOf, IsEndingOf, reads_input, document, or_not_toml, starts_threads, by_rules, ending, input_of, ledger_file, EndsAs, EndsBy, LacksOutput, scenario_input}
 use Rattle.srpnet.specs.AuditParts.{AuditParts}
 use Rattle.topology_file.specs.{Plan.Plan, Scenario.scenario_of}
 use Rattle.group_file.specs.Scenario.{group_scenario_of}
@@ -26,6 +26,7 @@ IsJudged ReadFault = ⊥
 IsJudged TooLong = ⊥
 IsJudged (WriteFault written) = ⊥
 IsJudged (NotGranted wishes) = ⊥
+IsJudged NoWords = ⊥
 
 rules_judge : {A : Type 0} (r : Result A RuleErr) → IsJudged (ending (by_rules r))
 rules_judge (Ok x) = tt
@@ -52,6 +53,7 @@ audited plan parts (BadScenario rule entry) is = tt
 audited plan parts (WriteFault written) is = absurd is
 audited plan parts NoMemory is = tt
 audited plan parts (NotGranted wishes) is = absurd is
+audited plan parts NoWords is = absurd is
 audited plan parts NoLink is = tt
 
 audited_by : (parts : AuditParts) (scenario : Result Plan Cause) (cause : Cause) → IsJudged (ending scenario) → IsAuditedBy parts scenario cause → IsJudged cause
@@ -107,6 +109,7 @@ command_judges Replay octets cause is = judged_as cause _ (replay_judged (replay
 command_judges (Generate number) octets cause is = judged_as cause Done tt is
 command_judges (GeneratePlan number) octets cause is = judged_as cause Done tt is
 command_judges Help octets cause is = judged_as cause Done tt is
+command_judges Bare octets cause is = judged_as cause Done tt is
 command_judges Version octets cause is = judged_as cause Done tt is
 
 -- an answer that ends so has such a cause, where it has one
@@ -127,6 +130,7 @@ cause_lacks ReadFault judged not_done = absurd judged
 cause_lacks TooLong judged not_done = absurd judged
 cause_lacks (WriteFault written) judged not_done = absurd judged
 cause_lacks (NotGranted wishes) judged not_done = absurd judged
+cause_lacks NoWords judged not_done = absurd judged
 cause_lacks NoLink judged not_done = tt
 
 -- and if it isn't called done, it lacks an output
@@ -168,4 +172,5 @@ threads_read Replay threads = refl
 threads_read (Generate number) threads = threads
 threads_read (GeneratePlan number) threads = threads
 threads_read Help threads = threads
+threads_read Bare threads = threads
 threads_read Version threads = threads

@@ -12,7 +12,7 @@ use Rattle.world_core.specs.{Ticks.AreLegalTicks, World.WorldState}
 use Rattle.journal_audit.specs.declared.{verdict.Verdict.Verdict, verdict.Verdict.TheVariants.No}
 use Rattle.journal_audit.specs.{Texts.lines_of, Form.AreFormed, Form.IsFirstUnformed, Journal.journal_text, Audit.IsFirstIllegal, Audit.IsJournalOf, Audit.IsRefusal, Audit.IsVerdict, Audit.RefusesBehind as VerdictRefuses, Audit.known_of}
 use Rattle.srp_report.specs.Report.{report_text}
-use Rattle.srpnet.specs.{Cause, Done, AuditNo, BadWords, ReadFault, TooLong, NotToml, BadScenario, WriteFault, NoMemory, NotGranted, NoLink, audit_parts, LacksPart, IsApproved, IsAudited, IsAuditedBy, IsAuditedOf, IsAuditEnding, IsReportRefused, RefusesBehind, document, or_not_toml, by_rules, IsRun, scenario_input}
+use Rattle.srpnet.specs.{Cause, Done, AuditNo, BadWords, ReadFault, TooLong, NotToml, BadScenario, WriteFault, NoMemory, NotGranted, NoLink, NoWords, audit_parts, LacksPart, IsApproved, IsAudited, IsAuditedBy, IsAuditedOf, IsAuditEnding, IsReportRefused, RefusesBehind, document, or_not_toml, by_rules, IsRun, scenario_input}
 use Rattle.srpnet.specs.AuditParts.{AuditParts}
 use Rattle.srpnet.proofs.{AuditLemmas.other_report, AuditLemmas.report_is, AuditLemmas.run_of_journal, EndingLemmas.one_ending, PartingLemmas.no_parts}
 
@@ -53,6 +53,7 @@ why_exactly plan parts why IsCause other exactly never cause count audited = (ou
     back (WriteFault written) h is = absurd h
     back NoMemory h is = absurd h
     back (NotGranted wishes) h is = absurd h
+    back NoWords h is = absurd h
     back NoLink h is = absurd h
 
 -- ---- yes, and the report
@@ -108,6 +109,7 @@ module _ (plan : Plan)
       by (WriteFault written) h = absurd h
       by NoMemory h = absurd h
       by (NotGranted wishes) h = absurd h
+      by NoWords h = absurd h
       by NoLink h = absurd h
 
 -- ---- the input

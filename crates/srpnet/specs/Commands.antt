@@ -6,8 +6,8 @@ use Rattle.world_core.specs.declared.journal.Tick.{Tick}
 use Rattle.world_core.specs.Ticks.{AreCanonicalTicks, AreLegalTicks}
 use Rattle.rule_words.specs.declared.kinds.FileKind.TheVariants.{Scenario as ScenarioFile, Ledger as LedgerFile, Groups as GroupFile, Plan as PlanFile}
 use Rattle.pdu_words.specs.{Captured.captured_text, Decoded.decoded_text}
-use Rattle.srpnet.specs.declared.{words.Command.Command, outcome.Cause.Cause, outcome.Cause.TheVariants.Done}
-use Rattle.srpnet.specs.declared.words.Command.TheVariants.{Ledger, Check, Explain, ExplainLedger, ExplainAudit, Run, RunJournal, RunBounds, Ports, PortsJournal, Margins, Audit, AuditLong, Groups, Decode, Capture, Generate, GeneratePlan, Help, Version, Delays, Wishes, StrictWishes, Expand, RunCapture, Replay, ExplainGroups, ExplainPlan}
+use Rattle.srpnet.specs.declared.{words.Command.Command, outcome.Cause.Cause, outcome.Cause.TheVariants.Done, outcome.Cause.TheVariants.NoWords}
+use Rattle.srpnet.specs.declared.words.Command.TheVariants.{Ledger, Check, Explain, ExplainLedger, ExplainAudit, Run, RunJournal, RunBounds, Ports, PortsJournal, Margins, Audit, AuditLong, Groups, Decode, Capture, Generate, GeneratePlan, Help, Version, Delays, Wishes, StrictWishes, Expand, RunCapture, Replay, ExplainGroups, ExplainPlan, Bare}
 use Rattle.srpnet.specs.{Account.IsAuditExplained, Input.ending, ScenarioInput.scenario_input, AuditText.AuditOutput, AuditText.IsAuditEnding, CaptureText.CaptureOutput, CaptureText.link_input, CheckText.CheckOutput, ExplainText.IsExplained, GeneratedText.GeneratedOutput, GeneratedText.IsGeneratedPlan, GroupsText.GroupsOutput, GroupsText.group_input, LedgerInput.ledger_input, LedgerText.LedgerOutput, MarginsText.margins_alone, Pages.help_page, Pages.version_page, PlanInput.IsExpanded, PlanInput.any_scenario_input, PlanInput.plan_input, ReplayText.replay_input, RunText.RunOutput, RunText.report_alone, RunText.report_and_journal, RunText.report_and_bounds, DelaysText.DelaysOutput, WishesText.PlanOutput, WishesText.IsStrictVerdict}
 
 -- whether it reads an input; the pages read none, and neither does what makes its scenario of a
@@ -40,6 +40,7 @@ reads_input Replay = true
 reads_input (Generate number) = false
 reads_input (GeneratePlan number) = false
 reads_input Help = false
+reads_input Bare = false
 reads_input Version = false
 
 -- the most octets of its input: 1 MiB, and 64 MiB where the journal of a large network is audited or
@@ -78,6 +79,7 @@ runs Replay = false
 runs (Generate number) = true
 runs (GeneratePlan number) = false
 runs Help = false
+runs Bare = false
 runs Version = false
 
 -- it runs no network, so that there is no journal
@@ -113,12 +115,14 @@ Output Replay octets ticks text = replay_input octets ≡ Ok text
 Output (Generate number) octets ticks text = GeneratedOutput number ticks text
 Output (GeneratePlan number) octets ticks text = IsGeneratedPlan number text
 Output Help octets ticks text = text ≡ help_page
+Output Bare octets ticks text = text ≡ help_page
 Output Version octets ticks text = text ≡ version_page
 
--- whether it ends so behind its output, where its run has these ticks: only the output of one command
--- may say no
+-- whether it ends so behind its output, where its run has these ticks: the output of one command may
+-- say no, and the page of help goes out for no word too, which is no command
 abbrev pub IsVerdict : Command → List ℕ → List Tick → Cause → Type 0
 IsVerdict StrictWishes octets ticks cause = IsStrictVerdict octets ticks cause
+IsVerdict Bare octets ticks cause = cause ≡ NoWords
 IsVerdict command octets ticks cause = cause ≡ Done
 
 -- whether it ends so for the octets of an input, where nothing fails and memory lasts; whether the
@@ -151,4 +155,5 @@ IsEndingOf Replay octets cause = cause ≡ ending (replay_input octets)
 IsEndingOf (Generate number) octets cause = cause ≡ Done
 IsEndingOf (GeneratePlan number) octets cause = cause ≡ Done
 IsEndingOf Help octets cause = cause ≡ Done
+IsEndingOf Bare octets cause = cause ≡ Done
 IsEndingOf Version octets cause = cause ≡ Done

@@ -47,10 +47,11 @@ pub record CarriedOut {I O : Type 0} (left : I → Option (List ℕ)) (in_faults
       → (Rose (in_faults source) (in_faults source') → ⊥) → (Rose (out_faults out) (out_faults out') → ⊥)
       → IsPlainEnding command octets (but_verdict cause) ⊎ (cause ≡ NoMemory)
   -- a command that reads no input leaves the source as it was, and goes out whatever the source is:
-  -- no cause of bad input comes, so that it ends as done, by a write fault, or for want of memory
+  -- no cause of bad input comes, so that it ends as its output says, by a write fault, or for want of
+  -- memory
   pub unread : ReadsNothing command → source' ≡ source
   pub unread_ends : ReadsNothing command → (Rose (out_faults out) (out_faults out') → ⊥)
-      → (cause ≡ Done) ⊎ (cause ≡ NoMemory)
+      → (but_verdict cause ≡ Done) ⊎ (cause ≡ NoMemory)
   pub unread_unrefused : ReadsNothing command → WritesNothing cause → ⊥
 
 -- the words match no row: nothing is read and nothing written

@@ -63,6 +63,6 @@ pub use ReplayText.*
 pub use Rattle.srpnet.specs.declared.commands.Answer.{Answer}
 pub use Rattle.srpnet.specs.declared.commands.CommandOutput.{CommandOutput}
 pub use Rattle.srpnet.specs.declared.outcome.Cause.{Cause}
-pub use Rattle.srpnet.specs.declared.outcome.Cause.TheVariants.{AuditNo, BadScenario, BadWords, Done, NoLink, NoMemory, NotGranted, NotToml, ReadFault, TooLong, WriteFault}
+pub use Rattle.srpnet.specs.declared.outcome.Cause.TheVariants.{AuditNo, BadScenario, BadWords, Done, NoLink, NoMemory, NotGranted, NoWords, NotToml, ReadFault, TooLong, WriteFault}
 pub use Rattle.srpnet.specs.declared.words.Command.{Command}
-pub use Rattle.srpnet.specs.declared.words.Command.TheVariants.{Audit, AuditLong, Capture, Check, Decode, Delays, Expand, Explain, ExplainAudit, ExplainGroups, ExplainLedger, ExplainPlan, Generate, GeneratePlan, Groups, Help, Ledger, Margins, Ports, PortsJournal, Replay, Run, RunBounds, RunCapture, RunJournal, StrictWishes, Version, Wishes}
+pub use Rattle.srpnet.specs.declared.words.Command.TheVariants.{Audit, AuditLong, Bare, Capture, Check, Decode, Delays, Expand, Explain, ExplainAudit, ExplainGroups, ExplainLedger, ExplainPlan, Generate, GeneratePlan, Groups, Help, Ledger, Margins, Ports, PortsJournal, Replay, Run, RunBounds, RunCapture, RunJournal, StrictWishes, Version, Wishes}

@@ -7,7 +7,7 @@ use Rattle.srp_io.specs.declared.whole.ReadErr.{ReadErr}
 use Rattle.srp_io.specs.declared.whole.ReadErr.TheVariants.{Fault as fault, TooLong as too_long, NoMemory as no_memory_to_read}
 use Rattle.toml_rules.specs.declared.{rules.RuleErr.RuleErr, rules.RuleErr.TheVariants.Rule, rules.RuleErr.TheVariants.NoMemory as no_memory}
 use Rattle.srpnet.specs.declared.outcome.Cause.{Cause}
-use Rattle.srpnet.specs.declared.outcome.Cause.TheVariants.{Done, BadWords, ReadFault, TooLong, NotToml, BadScenario, WriteFault, AuditNo, NoMemory, NotGranted, NoLink}
+use Rattle.srpnet.specs.declared.outcome.Cause.TheVariants.{Done, BadWords, ReadFault, TooLong, NotToml, BadScenario, WriteFault, AuditNo, NoMemory, NotGranted, NoLink, NoWords}
 
 -- where in the call a cause comes up
 pub data Place : Type 0 where
@@ -38,12 +38,14 @@ place_of_cause (WriteFault written) = writing
 place_of_cause (AuditNo line why) = judging
 place_of_cause (NotGranted wishes) = verdict
 place_of_cause NoLink = judging
+place_of_cause NoWords = verdict
 place_of_cause NoMemory = anywhere
 
 -- the exit status
 abbrev pub status_of : Cause → ℕ
 status_of Done = 0
 status_of BadWords = 2
+status_of NoWords = 2
 status_of ReadFault = 3
 status_of TooLong = 4
 status_of NotToml = 5
@@ -58,6 +60,7 @@ status_of NoLink = 11
 abbrev pub fixed_text : Cause → List ℕ
 fixed_text Done = []
 fixed_text BadWords = codes "srpnet: bad words\n"
+fixed_text NoWords = codes "srpnet: bad words: there is none, and the page of help has them\n"
 fixed_text ReadFault = codes "srpnet: read fault\n"
 fixed_text TooLong = codes "srpnet: input too long\n"
 fixed_text NotToml = codes "srpnet: not TOML\n"
@@ -153,6 +156,7 @@ ended written found = written
 -- a cause, but that an output that says no is an output
 abbrev pub but_verdict : Cause → Cause
 but_verdict (NotGranted wishes) = Done
+but_verdict NoWords = Done
 but_verdict cause = cause
 
 -- an answer ends by a cause that is right, or memory ran out

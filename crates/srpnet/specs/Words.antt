@@ -5,7 +5,7 @@ use Rattle.mrpdu_codec.specs.declared.form.AppForm.{AppForm}
 use Rattle.mrpdu_codec.specs.declared.form.AppForm.TheVariants.{Mvrp, Msrp, Mmrp}
 use Rattle.report_words.specs.Number.{number_of_word}
 use Rattle.srpnet.specs.declared.words.Command.{Command}
-use Rattle.srpnet.specs.declared.words.Command.TheVariants.{Ledger, Check, Explain, ExplainLedger, ExplainAudit, Run, RunJournal, RunBounds, Ports, PortsJournal, Margins, Audit, AuditLong, Groups, Decode, Capture, Generate, GeneratePlan, Help, Version, Delays, Wishes, StrictWishes, Expand, RunCapture, Replay, ExplainGroups, ExplainPlan}
+use Rattle.srpnet.specs.declared.words.Command.TheVariants.{Ledger, Check, Explain, ExplainLedger, ExplainAudit, Run, RunJournal, RunBounds, Ports, PortsJournal, Margins, Audit, AuditLong, Groups, Decode, Capture, Generate, GeneratePlan, Help, Version, Delays, Wishes, StrictWishes, Expand, RunCapture, Replay, ExplainGroups, ExplainPlan, Bare}
 
 -- the rows of one word
 abbrev pub command_of_word : List ℕ → Option Command
@@ -87,8 +87,9 @@ command_of_triple first second third =
     then capture_of_word third
     else None
 
--- the command of some words, where they match a row
+-- the command of some words, where they match a row; that of no word at all is one of its own
 abbrev pub command_of : List (List ℕ) → Option Command
+command_of [] = Some Bare
 command_of (word ∷ []) = command_of_word word
 command_of (first ∷ second ∷ []) = command_of_pair first second
 command_of (first ∷ second ∷ third ∷ []) = command_of_triple first second third
@@ -123,6 +124,7 @@ starts_threads Replay = false
 starts_threads (Generate number) = false
 starts_threads (GeneratePlan number) = false
 starts_threads Help = false
+starts_threads Bare = false
 starts_threads Version = false
 
 -- a command that starts no thread

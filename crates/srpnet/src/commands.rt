@@ -91,9 +91,11 @@ pub fn reads_input(command: Command) -> bool
         | Command::Decode(_)
         | Command::Replay
         | Command::Capture => true,
-        Command::Generate(_) | Command::GeneratePlan(_) | Command::Help | Command::Version => {
-            false
-        }
+        Command::Generate(_)
+        | Command::GeneratePlan(_)
+        | Command::Help
+        | Command::Bare
+        | Command::Version => false,
     }
 }
 
@@ -148,6 +150,11 @@ pub fn output(alloc: Global, command: Command, octets: &[u8]) -> Result<Answer, 
             Ok(text_alone(alloc, generator::plan_output(alloc, number)?))
         }
         Command::Help => Ok(text_alone(alloc, pages::output(alloc, HELP)?)),
+        Command::Bare => Ok(Answer {
+            text: Printout::of(pages::output(alloc, HELP)?.into_vec()),
+            journal: no_journal(alloc),
+            cause: Cause::NoWords,
+        }),
         Command::Version => Ok(text_alone(alloc, pages::output(alloc, VERSION)?)),
     }
 }

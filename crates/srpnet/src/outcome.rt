@@ -18,6 +18,8 @@ pub enum Cause {
     Done,
     /// The words match no row of the table. Status 2.
     BadWords,
+    /// There are no words, and the page of help went out whole. Status 2.
+    NoWords,
     /// The source counted a fault. Status 3.
     ReadFault,
     /// The input has more octets than the command's input may have. Status 4.
@@ -127,7 +129,7 @@ pub fn status_of(cause: Cause) -> u8
 {
     match cause {
         Cause::Done => 0,
-        Cause::BadWords => 2,
+        Cause::BadWords | Cause::NoWords => 2,
         Cause::ReadFault => 3,
         Cause::TooLong => 4,
         Cause::NotToml => 5,
@@ -147,6 +149,7 @@ fn fixed_text(cause: Cause) -> &'static str
     match cause {
         Cause::Done => "",
         Cause::BadWords => "srpnet: bad words\n",
+        Cause::NoWords => "srpnet: bad words: there is none, and the page of help has them\n",
         Cause::ReadFault => "srpnet: read fault\n",
         Cause::TooLong => "srpnet: input too long\n",
         Cause::NotToml => "srpnet: not TOML\n",

@@ -75,6 +75,8 @@ pub enum Command {
     GeneratePlan(u32),
     /// `--help`, `-h` or `help`: prints a page of help.
     Help,
+    /// No word at all: prints that page, and ends as bad words do.
+    Bare,
     /// `--version`: prints the version.
     Version,
 }
@@ -84,6 +86,7 @@ pub fn command_of(words: &Seq<Seq<u8>>) -> Option<Command>
     ensures { result ≡ command_of_spec words.now }
 {
     match words.as_slice() {
+        [] => Some(Command::Bare),
         [word] => command_of_word(word.as_slice()),
         [first, second] => command_of_pair(first.as_slice(), second.as_slice()),
         [first, second, third] => {
