@@ -7,6 +7,7 @@ ghost use Rattle.turn_lock.specs.Rule.{first_view, dealt_known};
 ghost use Rattle.turn_lock.specs.Turns.{IsBoard};
 ghost use Rattle.turn_lock.specs.Laying.{IsLaid, IsDealtFrom, lock_of};
 
+use crate::bells::Bells;
 use crate::board::{Board, Kept, Place, Terms, Whole};
 use crate::lock::{Pass, TurnLock};
 use crate::plays::Deal;
@@ -37,10 +38,13 @@ impl<S: Sequential> TurnLock<S> {
         let Ok(mut list) = Vec::with_capacity(alloc, passes as usize) else {
             return Err((NoMemory, state));
         };
+        let Ok(bells) = Bells::new(alloc, passes) else {
+            return Err((NoMemory, state));
+        };
         match lay(alloc, state, &terms) {
             Ok((board, seat)) => {
                 deal(&board.shared, seat, &terms, &mut list);
-                Ok((TurnLock { board, passes }, Seq::from_vec(list)))
+                Ok((TurnLock { board, bells }, Seq::from_vec(list)))
             }
             Err(state) => Err((NoMemory, state)),
         }

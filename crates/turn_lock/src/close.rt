@@ -130,7 +130,7 @@ impl<S: Sequential> TurnLock<S> {
             → is_given passes.items number ≡ true }
         ensures { HasClosed S.does self passes.items result.state result.history }
     {
-        let TurnLock { board, passes: _ } = self;
+        let TurnLock { board, bells: _ } = self;
         let Some(last) = passes.pop() else {
             unreachable!()
         };
@@ -146,7 +146,7 @@ impl<S: Sequential> TurnLock<S> {
         ensures closed { IfOk result (λ c. HasClosed S.does self passes c.state c.history) }
         ensures refused { IfErr result (λ e. IsRefused self passes e) }
     {
-        match first_missing(passes.as_slice(), self.passes) {
+        match first_missing(passes.as_slice(), self.bells.count()) {
             Some(number) => Err(CloseErr::MissingPass {
                 number,
                 lock: self,

@@ -66,10 +66,8 @@
 //! That a turn comes: a pass that waits behind one that never ends waits for ever, and a call that
 //! returns meets its contract. An order between calls of passes that told each other nothing,
 //! beyond that there is one. Any time, fairness past the order of the tickets, or which thread
-//! runs. A waiting thread spins a little, then gives way to other threads, then sleeps on word 1
-//! until the next ticket is served; so with more threads than processors each turn may cost the
-//! wake of all that sleep: the turn goes to the next ticket and to no other, and those whose turn
-//! it isn't sleep again.
+//! runs. A waiting thread spins a little, then sleeps at the bell of its ticket (`src/bells.rt`),
+//! which rings when the ticket is served: a turn wakes no other thread than the one that gets it.
 //!
 //! # To extend it
 //!
@@ -81,6 +79,7 @@
 #![tactic(auto)]
 
 mod begin;
+mod bells;
 mod board;
 mod close;
 mod lock;

@@ -3,6 +3,7 @@
 ghost use Rattle.std.specs.Prelude.{◌≡◌, ◌≤◌, IfOk, OnErr};
 ghost use Rattle.turn_lock.specs.Calls.{HasCalled, HasLooked};
 
+use crate::bells::Bells;
 use crate::board::{Place, Terms, Whole};
 use crate::sequential::Sequential;
 use crate::turn::turn;
@@ -16,7 +17,7 @@ use std::sync::Wait;
 #[derive(Drop)]
 pub struct TurnLock<S: Sequential> {
     pub(crate) board: Whole<S>,
-    pub(crate) passes: u32,
+    pub(crate) bells: Bells,
 }
 
 impl<S: Sequential> Model for TurnLock<S> {
@@ -29,11 +30,11 @@ impl<S: Sequential> Model for TurnLock<S> {
     ghost view = { λ l. record {
       table = l.board.shared.table_id;
       start = l.board.shared.key.start.value;
-      passes = l.passes;
+      passes = l.bells;
     } };
 
     ghost invariant = { λ l. IsBoard l.board.shared.table_id
-        × (l.board.shared.key.passes ≡ l.passes) × (0 < l.passes) };
+        × (l.board.shared.key.passes ≡ l.bells) × (0 < l.bells) };
 }
 
 /// The right to call a lock, for one thread at a time. Contracts see its lock, its number, and the
@@ -93,6 +94,7 @@ impl<S: Sequential> TurnLock<S> {
         turn(
             rt,
             &self.board.shared,
+            &self.bells,
             &mut pass.seat,
             pass.number,
             ask,

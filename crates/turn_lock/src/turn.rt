@@ -4,23 +4,25 @@ ghost use Rattle.std.specs.Prelude.{◌≡◌, ◌∷◌, []};
 ghost use Rattle.turn_lock.specs.Turns.{IsBoard, Rests, Awaits, Draws, Makes, Lends, Takes, IsReady, Turns, GivesOn};
 ghost use Rattle.turn_lock.specs.declared.board.View.TheVariants.{Living};
 
+use crate::bells::Bells;
 use crate::board::{Board, Kept, Place};
 use crate::plays::{Advance, Draw, Look};
 use crate::sequential::Sequential;
 use srp_base::NoMemory;
 use std::sync::Wait;
-use std::{hint, thread};
+use std::hint;
 
 // The word with the next ticket to be drawn, and the word with the ticket that is served.
 const NEXT: usize = 0;
 
 const SERVED: usize = 1;
 
-// How many times a waiting thread looks again after a pause, and then after it gave way to other
-// threads.
-const PAUSES: u32 = 100;
+// How many times a waiting thread looks again after a pause, before it sleeps.
+const LOOKS: u32 = 2000;
 
-const YIELDS: u32 = 100;
+// For how many pauses who has given its turn on to a thread that waits keeps off the words of the
+// table, which the other is at.
+const PAUSES: u32 = 100;
 
 // Draws a ticket.
 fn draw<S: Sequential>(board: &Board<S>, seat: &mut Place<S>) -> u64
@@ -34,7 +36,13 @@ fn draw<S: Sequential>(board: &Board<S>, seat: &mut Place<S>) -> u64
 
 // Waits until the ticket is served, and takes the slot: spins first, then gives way to other
 // threads, then sleeps.
-fn await_turn<S: Sequential, R: Wait>(rt: &R, board: &Board<S>, seat: &mut Place<S>, ticket: u64)
+fn await_turn<S: Sequential, R: Wait>(
+    rt: &R,
+    board: &Board<S>,
+    bells: &Bells,
+    seat: &mut Place<S>,
+    ticket: u64,
+)
     requires board { IsBoard board.now.table_id }
     requires seat { (seat.old.table_id ≡ board.now.table_id) × Awaits seat.old.me ticket }
     ensures seat { seat.new.table_id ≡ seat.old.table_id }
@@ -46,29 +54,20 @@ fn await_turn<S: Sequential, R: Wait>(rt: &R, board: &Board<S>, seat: &mut Place
         if served == ticket {
             return;
         }
-        rest(rt, board, looks, served);
+        rest(rt, bells, looks, ticket);
         looks = looks.saturating_add(1);
     }
     unreachable!()
 }
 
-// What a waiting thread does until it looks again, after so many looks: a pause, then it gives way,
-// then it sleeps until another ticket is served than the one that it saw.
-fn rest<S: Sequential, R: Wait>(rt: &R, board: &Board<S>, looks: u32, served: u64)
-    requires { IsBoard board.now.table_id }
-{
-    if looks < PAUSES {
+// What a waiting thread does until it looks again, after so many looks: a pause, and after many of
+// them it sleeps until its ticket's bell rings.
+fn rest<R: Wait>(rt: &R, bells: &Bells, looks: u32, ticket: u64) {
+    if looks < LOOKS {
         hint::spin_loop();
-    } else if looks - PAUSES < YIELDS {
-        thread::yield_now();
     } else {
-        board.park(rt, SERVED, low_half(served));
+        bells.listen(rt, ticket);
     }
-}
-
-// The low 32 bits of a word.
-fn low_half(word: u64) -> u32 {
-    (word & 0xffff_ffff) as u32
 }
 
 // Makes a step, and notes it in the history. The memory for the note is taken first.
@@ -101,16 +100,25 @@ fn make_in_slot<S: Sequential>(
     make(kept, number, ask)
 }
 
-// Gives the slot back and serves the next ticket. Who waits with a ticket is woken.
-fn advance<S: Sequential>(board: &Board<S>, seat: &mut Place<S>)
+// Gives the slot back and serves the next ticket, whose bell rings where it was drawn.
+fn advance<S: Sequential>(board: &Board<S>, bells: &Bells, seat: &mut Place<S>)
     requires board { IsBoard board.now.table_id }
     requires seat { (seat.old.table_id ≡ board.now.table_id) × IsReady S.does seat.old.me }
     ensures seat { seat.new.table_id ≡ seat.old.table_id }
     ensures gives_on { GivesOn seat.old.me seat.new.me }
 {
     let served = board.fetch_add::<Advance>(seat, SERVED, 1);
-    if board.peek(NEXT) != served.wrapping_add(1) {
-        board.wake_all(SERVED);
+    let next = served.wrapping_add(1);
+    if board.peek(NEXT) != next {
+        bells.ring(next);
+        keep_off();
+    }
+}
+
+// Pauses.
+fn keep_off() {
+    for _ in 0..PAUSES {
+        hint::spin_loop();
     }
 }
 
@@ -119,6 +127,7 @@ fn advance<S: Sequential>(board: &Board<S>, seat: &mut Place<S>)
 pub(crate) fn turn<S: Sequential, R: Wait, F: Fn()>(
     rt: &R,
     board: &Board<S>,
+    bells: &Bells,
     seat: &mut Place<S>,
     number: u32,
     ask: S::Ask,
@@ -132,9 +141,9 @@ pub(crate) fn turn<S: Sequential, R: Wait, F: Fn()>(
     ensures turns { Turns S.does number ask seat.old.me result seat.new.me }
 {
     let ticket = draw(board, seat);
-    await_turn(rt, board, seat, ticket);
+    await_turn(rt, board, bells, seat, ticket);
     inside();
     let answer = make_in_slot(board, seat, number, ask);
-    advance(board, seat);
+    advance(board, bells, seat);
     answer
 }
