@@ -6,8 +6,8 @@ use srp_base::NoMemory;
 use std::alloc::Global;
 use std::marker::Model;
 use std::sync::Wait;
-use std::sync::atomic::Ordering::SeqCst;
 use std::sync::atomic::AtomicU64;
+use std::sync::atomic::Ordering::SeqCst;
 
 // A bell that nobody listens for, and one that the holder of its ticket does.
 const UNHEARD: u64 = 0;

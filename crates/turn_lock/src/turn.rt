@@ -9,8 +9,8 @@ use crate::board::{Board, Kept, Place};
 use crate::plays::{Advance, Draw, Look};
 use crate::sequential::Sequential;
 use srp_base::NoMemory;
-use std::sync::Wait;
 use std::hint;
+use std::sync::Wait;
 
 // The word with the next ticket to be drawn, and the word with the ticket that is served.
 const NEXT: usize = 0;
@@ -34,8 +34,7 @@ fn draw<S: Sequential>(board: &Board<S>, seat: &mut Place<S>) -> u64
     board.fetch_add::<Draw>(seat, NEXT, 1)
 }
 
-// Waits until the ticket is served, and takes the slot: spins first, then gives way to other
-// threads, then sleeps.
+// Waits until the ticket is served, and takes the slot: spins first, then sleeps.
 fn await_turn<S: Sequential, R: Wait>(
     rt: &R,
     board: &Board<S>,
