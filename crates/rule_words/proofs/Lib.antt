@@ -1,3 +1,4 @@
 pub mod FaultLemmas
+pub mod JoinedLemmas
 pub mod ValueLemmas
 pub mod SearchLemmas

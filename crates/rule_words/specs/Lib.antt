@@ -2,6 +2,7 @@ pub mod Alike
 pub mod Asked
 pub mod Faults
 pub mod Forms
+pub mod Joined
 pub mod Keys
 pub mod Lines
 pub mod Listeners
@@ -17,6 +18,7 @@ pub use Alike.*
 pub use Asked.*
 pub use Faults.*
 pub use Forms.*
+pub use Joined.*
 pub use Keys.*
 pub use Lines.*
 pub use Listeners.*

@@ -1,5 +1,6 @@
--- The listeners of a plan's stream that aren't stations, or are its talker.
-use Rattle.std.specs.Prelude.{ℕ, if◌then◌else◌, List, [], ◌++◌, codes, Option, Some, None}
+-- The listeners of a plan's stream that aren't stations, are its talker, or stand twice.
+use Rattle.std.specs.Prelude.{ℕ, ◌==◌, Bool, if◌then◌else◌, List, [], ◌∷◌, ◌++◌, codes, count_by, Option, Some, None}
+use Rattle.srp_base.specs.Text.{whole_of}
 use Rattle.toml.specs.Data.{Data, array, Items, no_items, item, Members, get_member, as_str}
 use Rattle.toml_rules.specs.Fields.{text}
 use Rattle.rule_words.specs.{Alike.is_same_text, Named.quoted_end, Named.station_line}
@@ -12,23 +13,37 @@ talks_line name = codes "other: " ++ quoted_end name (codes " is its talker\n")
 abbrev pub is_talker_line : Option (List ℕ) → List ℕ → List ℕ
 is_talker_line talker name = if is_same_text talker (Some name) then talks_line name else []
 
--- of the name of a listener, which has to be another station's
-abbrev pub listener_line : List Members → Option (List ℕ) → List ℕ → List ℕ
-listener_line nodes talker name = station_line nodes name ++ is_talker_line talker name
+-- `other: "x" stands twice among its listeners`
+abbrev pub twice_line : List ℕ → List ℕ
+twice_line name = codes "other: " ++ quoted_end name (codes " stands twice among its listeners\n")
+
+-- a value is this text
+abbrev pub is_text : List ℕ → Data → Bool
+is_text name d = is_same_text (as_str d) (Some name)
+
+-- of a name that stands once among the values before it
+abbrev pub is_second_line : List Data → List ℕ → List ℕ
+is_second_line earlier name = if count_by (is_text name) earlier == 1 then twice_line name else []
+
+-- of the name of a listener, which has to be another station's, behind these values
+abbrev pub listener_line : List Members → Option (List ℕ) → List Data → List ℕ → List ℕ
+listener_line nodes talker earlier name =
+    whole_of (station_line nodes name ∷ is_talker_line talker name ∷ is_second_line earlier name ∷ [])
 
 -- where a value is a text
-abbrev pub line_of_listener : List Members → Option (List ℕ) → Option (List ℕ) → List ℕ
-line_of_listener nodes talker None = []
-line_of_listener nodes talker (Some name) = listener_line nodes talker name
+abbrev pub line_of_listener : List Members → Option (List ℕ) → List Data → Option (List ℕ) → List ℕ
+line_of_listener nodes talker earlier None = []
+line_of_listener nodes talker earlier (Some name) = listener_line nodes talker earlier name
 
--- of each of these items
-abbrev pub lines_of_items : List Members → Option (List ℕ) → Items → List ℕ
-lines_of_items nodes talker no_items = []
-lines_of_items nodes talker (item d ds) = line_of_listener nodes talker (as_str d) ++ lines_of_items nodes talker ds
+-- of each of these items, which stand behind these values
+abbrev pub lines_of_items : List Members → Option (List ℕ) → List Data → Items → List ℕ
+lines_of_items nodes talker earlier no_items = []
+lines_of_items nodes talker earlier (item d ds) =
+    line_of_listener nodes talker earlier (as_str d) ++ lines_of_items nodes talker (earlier ++ d ∷ []) ds
 
 -- of an array
 abbrev pub lines_of_data : List Members → Option (List ℕ) → Option Data → List ℕ
-lines_of_data nodes talker (Some (array ds)) = lines_of_items nodes talker ds
+lines_of_data nodes talker (Some (array ds)) = lines_of_items nodes talker [] ds
 lines_of_data nodes talker _ = []
 
 -- of a stream, of a file of these nodes

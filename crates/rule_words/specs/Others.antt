@@ -1,6 +1,6 @@
 -- The other side of a refusal: what stands elsewhere in the file, and what the entry doesn't go
 -- with.
-use Rattle.std.specs.Prelude.{ℕ, ◌+◌, ◌-◌, ◌==◌, Bool, false, ◌&&◌, ◌||◌, nat_le, if◌then◌else◌, List, [], ◌∷◌, ◌++◌, codes, flat_map, Option, Some, None, is_some}
+use Rattle.std.specs.Prelude.{ℕ, ◌+◌, ◌-◌, ◌==◌, Bool, false, ◌&&◌, ◌||◌, nat_le, if◌then◌else◌, List, [], ◌∷◌, ◌++◌, take, codes, flat_map, Option, Some, None, is_some}
 use Rattle.std.specs.Option.{is_none}
 use Rattle.std.specs.Fmt.{decimal}
 use Rattle.srp_base.specs.Text.{whole_of}
@@ -9,7 +9,7 @@ use Rattle.toml_rules.specs.Fields.{◌>>=◌, number, number_or, text}
 use Rattle.topology_file.specs.{Frames.count_at, Frames.last_copy, Frames.run_end, Scenario.ticks_at}
 use Rattle.rule_words.specs.declared.{lines.Broken.Broken, keys.Key.Key}
 use Rattle.rule_words.specs.declared.keys.Key.TheVariants.{Nodes, Links, Streams, Events, Frames, Wants, Ticks, PortRate, Tick}
-use Rattle.rule_words.specs.{Alike.alike_words, Alike.earlier_alike, Alike.is_same_text, Asked.array_of, Keys.word_of, Lines.entry_of, Lines.name_words, Lines.there_words, Matters.keys_asked, Named.first_called, Listeners.listeners_of, Named.is_called, Named.name_lines, Search.entries_of, Search.first_entry}
+use Rattle.rule_words.specs.{Alike.alike_words, Alike.earlier_alike, Alike.is_same_text, Asked.array_of, Joined.all_ends, Joined.ends_at, Joined.joined_line, Keys.word_of, Lines.entry_of, Lines.name_words, Lines.there_words, Matters.keys_asked, Named.first_called, Listeners.listeners_of, Named.is_called, Named.name_lines, Search.entries_of, Search.first_entry}
 
 -- ---- an entry by its number
 
@@ -217,6 +217,16 @@ abbrev pub links_line : List Members → Option (List ℕ) → List ℕ
 links_line links None = []
 links_line links (Some name) = whole_of (codes "other: its links are [[link]]" ∷ numbers_words name 1 links ∷ codes "\n" ∷ [])
 
+-- ---- the links that join the nodes of a link already
+
+-- of the links before the one of this number, in a file of these nodes and links
+abbrev pub joined_before : ℕ → List Members → List Members → Members → List ℕ
+joined_before n nodes links e = lines_of_two joined_line (ends_at nodes e) (all_ends nodes (take (n - 1) links))
+
+-- of the link of this number
+abbrev pub already_line : ℕ → Members → Members → List ℕ
+already_line n ms e = joined_before n (entries_of Nodes ms) (entries_of Links ms) e
+
 -- ---- which rules have another side
 
 -- of an entry that breaks a rule
@@ -225,6 +235,7 @@ others_at broken array ms e =
     let rule = broken.rule in
     if rule == 6 || rule == 7 || rule == 11 || rule == 17 || rule == 18 || rule == 52 then earlier_line rule array broken.entry ms e
     else if rule == 9 || rule == 19 || rule == 24 then unknown_lines broken ms e
+    else if rule == 12 then already_line broken.entry ms e
     else if rule == 14 then links_line (entries_of Links ms) (text (codes "name") e)
     else if rule == 16 then stream_lines e
     else if rule == 20 || rule == 41 then past_line ms e

@@ -16,12 +16,13 @@
 //! has a default. `tables` has which keys a table may have, `faults` the first that it may not have,
 //! and the first whose value isn't right. `asked` has what each rule asks; `matters` which form a
 //! rule asks of its table, or at which keys the values break it. `others` has the other side: the
-//! earlier entry that is like it (`alike`), what is named and isn't there (`named`, `events`, `listeners`), the
-//! ticks beside which a moment doesn't stand (`moments`), the entry that has a key of the file
-//! (`misplaced`); `search` goes through the entries of an array. `lines` and `numbered` have lines
-//! that several of them put. `refusal_text` has the whole text as its contract: which rule fails,
-//! and at which entry, is for the readers of the files to say. The line in which an entry begins,
-//! and the place at which octets aren't TOML, are those of `file_places`.
+//! earlier entry that is like it (`alike`), the links that join two nodes already (`joined`), what is
+//! named and isn't there, or stands twice (`named`, `events`, `listeners`), the ticks beside which a
+//! moment doesn't stand (`moments`), the entry that has a key of the file (`misplaced`); `search`
+//! goes through the entries of an array. `lines` and `numbered` have lines that several of them put.
+//! `refusal_text` has the whole text as its contract: which rule fails, and at which entry, is for
+//! the readers of the files to say. The line in which an entry begins, and the place at which octets
+//! aren't TOML, are those of `file_places`.
 //!
 //! A further key is a variant of `Key` with its word, its form and, where it has a default, its
 //! place in `is_needed`, and stands in the lists of the tables that may have it. A further rule has
@@ -34,6 +35,7 @@ mod asked;
 mod events;
 mod faults;
 mod forms;
+mod joined;
 mod keys;
 mod kinds;
 mod lines;

@@ -1,10 +1,10 @@
-//! The listeners of a plan's stream that aren't stations, or are its talker.
+//! The listeners of a plan's stream that aren't stations, are its talker, or stand twice.
 
-ghost use Rattle.std.specs.Prelude.{◌≡◌, ◌++◌, map, codes, Some, OnOk};
+ghost use Rattle.std.specs.Prelude.{◌≡◌, ◌++◌, map, [], codes, count_by, Some, OnOk};
 ghost use Rattle.std.specs.Option.{option_copied};
 ghost use Rattle.toml.specs.Data.{as_str, get_member};
 ghost use Rattle.toml.specs.View.{items_view, table_view, view};
-ghost use Rattle.rule_words.specs.Listeners.{is_talker_line, line_of_listener, lines_of_data, lines_of_items, listener_line, listeners_of, talks_line};
+ghost use Rattle.rule_words.specs.Listeners.{is_second_line, is_talker_line, is_text as is_text_spec, line_of_listener, lines_of_data, lines_of_items, listener_line, listeners_of, talks_line, twice_line};
 ghost use Rattle.rule_words.specs.Others.{listeners_lines, plan_stream_lines};
 
 use crate::alike::is_same_text;
@@ -38,19 +38,55 @@ fn put_if_talker(out: &mut Vec<u8>, talker: Option<&str>, name: &str) -> Result<
     }
 }
 
-// The name of a listener, which has to be another station's.
+// A listener that stands twice.
+fn put_twice(out: &mut Vec<u8>, name: &str) -> Result<(), NoMemory>
+    ensures { OnOk result (out.new.items ≡ out.old.items ++ twice_line name.now) }
+{
+    put(out, "other: ")?;
+    put_quoted_end(out, name, " stands twice among its listeners\n")
+}
+
+// Whether a value is this text.
+fn is_text(name: &str, value: &Value) -> bool
+    ensures { result ≡ is_text_spec name.now (view value.now) }
+{
+    is_same_text(value.as_str(), Some(name))
+}
+
+// How many of these values are.
+fn count_of(name: &str, values: &[Value]) -> usize
+    ensures { result ≡ count_by (λ v. is_text_spec name.now (view v)) values.now }
+{
+    values.iter().filter(|value| is_text(name, value)).count()
+}
+
+// The name of a listener, where it stands once among the values before it.
+fn put_if_second(out: &mut Vec<u8>, earlier: &[Value], name: &str) -> Result<(), NoMemory>
+    ensures { OnOk result (out.new.items
+        ≡ out.old.items ++ is_second_line (map view earlier.now) name.now) }
+{
+    if count_of(name, earlier) == 1 {
+        put_twice(out, name)
+    } else {
+        Ok(())
+    }
+}
+
+// The name of a listener, which has to be another station's, behind these values.
 fn put_listener(
     out: &mut Vec<u8>,
     nodes: &[&Table],
     talker: Option<&str>,
+    earlier: &[Value],
     name: &str,
 ) -> Result<(), NoMemory>
     ensures { OnOk result (out.new.items ≡ out.old.items
         ++ listener_line (map (λ t. table_view t.now) nodes.now) (option_copied talker.entry)
-        name.now) }
+        (map view earlier.now) name.now) }
 {
     put_station(out, name, nodes)?;
-    put_if_talker(out, talker, name)
+    put_if_talker(out, talker, name)?;
+    put_if_second(out, earlier, name)
 }
 
 // That of a value.
@@ -58,14 +94,15 @@ fn put_listener_of(
     out: &mut Vec<u8>,
     nodes: &[&Table],
     talker: Option<&str>,
+    earlier: &[Value],
     value: &Value,
 ) -> Result<(), NoMemory>
     ensures { OnOk result (out.new.items ≡ out.old.items
         ++ line_of_listener (map (λ t. table_view t.now) nodes.now)
-        (option_copied talker.entry) (as_str (view value.now))) }
+        (option_copied talker.entry) (map view earlier.now) (as_str (view value.now))) }
 {
     match value.as_str() {
-        Some(name) => put_listener(out, nodes, talker, name),
+        Some(name) => put_listener(out, nodes, talker, earlier, name),
         None => Ok(()),
     }
 }
@@ -79,10 +116,10 @@ fn put_listeners_of(
 ) -> Result<(), NoMemory>
     ensures { OnOk result (out.new.items ≡ out.old.items
         ++ lines_of_items (map (λ t. table_view t.now) nodes.now)
-        (option_copied talker.entry) (items_view values.now)) }
+        (option_copied talker.entry) [] (items_view values.now)) }
 {
-    for value in values {
-        put_listener_of(out, nodes, talker, value)?;
+    for i in 0..values.len() {
+        put_listener_of(out, nodes, talker, &values[..i], &values[i])?;
     }
     Ok(())
 }
@@ -125,7 +162,7 @@ fn put_listeners(out: &mut Vec<u8>, table: &Table, stream: &Table) -> Result<(),
     put_stream_listeners(out, &nodes, stream)
 }
 
-/// Who talks in a stream of a plan and who listens, and isn't a station, or is both.
+/// Who talks in a stream of a plan and who listens, and isn't a station, is both, or stands twice.
 pub(crate) fn put_plan_stream(
     out: &mut Vec<u8>,
     broken: Broken,

@@ -1,6 +1,6 @@
 //! What an entry names and isn't there, or is there and isn't a station.
 
-ghost use Rattle.std.specs.Prelude.{◌≡◌, ◌++◌, map, option_map, flat_map, is_some, Some, OnOk};
+ghost use Rattle.std.specs.Prelude.{◌≡◌, ◌≤◌, ◌++◌, map, length, option_map, flat_map, is_some, Some, IfSome, OnOk};
 ghost use Rattle.std.specs.Option.{option_copied};
 ghost use Rattle.toml.specs.View.{table_view};
 ghost use Rattle.rule_words.specs.Named.{end_line, first_called as first_called_spec, has_station as has_station_spec, is_called as is_called_spec, is_of_kind as is_of_kind_spec, is_station_called as is_station_called_spec, line_of_name, missing_line, name_line, name_lines, no_station_line, no_such_line, no_such_words, node_words, quoted_end, station_line, strange_line};
@@ -38,7 +38,9 @@ fn is_station_called(name: &str, node: &Table) -> bool
 
 /// The first entry of this name.
 pub(crate) fn first_called(name: &str, entries: &[&Table]) -> Option<usize>
-    ensures { result ≡ first_called_spec name.now (map (λ t. table_view t.now) entries.now) }
+    ensures first { result
+        ≡ first_called_spec name.now (map (λ t. table_view t.now) entries.now) }
+    ensures within { IfSome result (λ n. (1 ≤ n) × (n ≤ length entries.now)) }
 {
     first_entry(entries, |_, entry| is_called(name, entry))
 }

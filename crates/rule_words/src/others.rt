@@ -13,6 +13,7 @@ ghost use Rattle.rule_words.specs.Search.{entries_of as entries_of_spec};
 use crate::alike::{alike_words, earlier_alike, is_same_text};
 use crate::asked::array_of;
 use crate::events::{put_event, put_unknown};
+use crate::joined::put_already;
 use crate::keys::Key;
 use crate::lines::{Broken, entry_of};
 use crate::listeners::put_plan_stream;
@@ -127,6 +128,7 @@ fn put_others_at(
     match broken.rule {
         6 | 7 | 11 | 17 | 18 | 52 => put_earlier(out, broken, array, table, entry),
         9 | 19 | 24 => put_unknown(out, broken, table, entry),
+        12 => put_already(out, broken.entry as usize, table, entry),
         14 => put_links(out, table, entry),
         16 => Ok(put_stream(out, entry)?),
         20 | 41 => put_past(out, table, entry),
