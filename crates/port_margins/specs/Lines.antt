@@ -25,10 +25,10 @@ margin_line port classes booked cap =
 abbrev pub shortfall : ℕ → ℕ → ℕ → ℕ
 shortfall slope more cap = slope - (cap - more)
 
--- which stream a port refuses: `refused P ID C slope S`
-abbrev pub refused_start : List ℕ → Want → List ℕ
-refused_start port want = whole_of (
-    codes "refused " ∷ port ∷ codes " " ∷ hex16_text want.stream.0 ∷ codes " " ∷ class_name want.class
+-- which stream a port refuses, with its name behind its StreamID: `refused P ID NAME C slope S`
+abbrev pub refused_start : List ℕ → List ℕ → Want → List ℕ
+refused_start port name want = whole_of (
+    codes "refused " ∷ port ∷ codes " " ∷ hex16_text want.stream.0 ∷ codes " " ∷ name ∷ codes " " ∷ class_name want.class
     ∷ codes " slope " ∷ decimal want.slope ∷ [])
 
 -- why: ` more M cap C short N code K listeners yes`
@@ -38,9 +38,15 @@ refused_end slope more cap code heard = whole_of (
     ∷ codes " code " ∷ decimal code ∷ codes " listeners " ∷ yes_or_no heard ∷ codes "\n" ∷ [])
 
 -- both
-abbrev pub refused_line : List ℕ → Want → ℕ → ℕ → ℕ → Bool → List ℕ
-refused_line port want more cap code heard =
-    refused_start port want ++ refused_end want.slope more cap code heard
+abbrev pub refused_line : List ℕ → List ℕ → Want → ℕ → ℕ → ℕ → Bool → List ℕ
+refused_line port name want more cap code heard =
+    refused_start port name want ++ refused_end want.slope more cap code heard
+
+-- what a port has booked and refuses together, beside the caps: `short at P A S of C A+B S of C`
+abbrev pub short_line : List ℕ → ℕ → ℕ → ℕ → ℕ → List ℕ
+short_line port class_a cap_a both cap_both = whole_of (
+    codes "short at " ∷ port ∷ codes " A " ∷ decimal class_a ∷ codes " of " ∷ decimal cap_a
+    ∷ codes " A+B " ∷ decimal both ∷ codes " of " ∷ decimal cap_both ∷ codes "\n" ∷ [])
 
 -- the slopes of a class's shaper, in the words of tc-cbs(8), up to its credits:
 -- ` idleslope I sendslope -S hicredit `

@@ -1,13 +1,17 @@
 //! What the ports of a network have left: for each egress port what its classes have booked, their
-//! caps, and what is left; which streams of the scenario it refuses, and by how much each misses;
-//! and the credit-based shapers of its classes, in the units of tc-cbs(8).
+//! caps, and what is left; which streams of the scenario it refuses, by how much each misses, and
+//! what all of them would take; and the credit-based shapers of its classes, in the units of
+//! tc-cbs(8).
 //!
 //! ```text
 //!   margin b1>l1 A booked 61952000 cap 75000000 left 13048000       class A, in bit/s
 //!   margin b1>l1 A+B booked 61952000 cap 75000000 left 13048000     both classes
-//!   refused b1>l1 0200000000010005 A slope 15488000 more 61952000 cap 75000000 short 2440000 code 1 listeners yes
+//!   refused b1>l1 0200000000010005 talk A slope 15488000 more 61952000 cap 75000000 short 2440000 code 1 listeners yes
+//!   short at b1>l1 A 77440000 of 75000000 A+B 77440000 of 75000000  with what is refused
 //!   cbs b1>l1 A idleslope 61952 sendslope -38048 hicredit 956 locredit -587
 //!   wait b1>l1 B bits 61680 us 617                                  at most, before a frame goes
+//!   quiet yes                                                       at the end of the text
+//!   in step yes
 //! ```
 //!
 //! `margins_text` (`specs/Margins.antt`) is the text as a function of the scenario and a network.
@@ -28,6 +32,7 @@ mod lines;
 mod ports;
 mod refused;
 mod shapers;
+mod shortage;
 mod waits;
 
 pub use cbs::Cbs;

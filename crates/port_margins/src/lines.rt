@@ -1,12 +1,12 @@
 //! The lines of a port's margins. Each is put at the end of a text.
 
 ghost use Rattle.std.specs.Prelude.{◌≡◌, ◌++◌, OnOk};
-ghost use Rattle.port_margins.specs.Lines.{line_start, margin_end, margin_line, refused_start, refused_end, refused_line, cbs_slopes, cbs_credits, cbs_end, cbs_line, wait_line, shortfall};
+ghost use Rattle.port_margins.specs.Lines.{line_start, margin_end, margin_line, refused_start, refused_end, refused_line, short_line, cbs_slopes, cbs_credits, cbs_end, cbs_line, wait_line, shortfall};
 
 use crate::cbs::Cbs;
 use report_words::{class_name, put, put_octets, yes_or_no};
 use srp_base::NoMemory;
-use stream_importance::Want;
+use stream_importance::{Caps, Want};
 
 // How the line of some classes at a port begins.
 fn put_start(out: &mut Vec<u8>, word: &str, port: &[u8], classes: &str) -> Result<(), NoMemory>
@@ -46,16 +46,25 @@ pub(crate) fn put_margin(
 }
 
 // Which stream a port refuses.
-fn put_refused_start(out: &mut Vec<u8>, port: &[u8], want: &Want) -> Result<(), NoMemory>
-    ensures { OnOk result (out.new.items ≡ out.old.items ++ refused_start port.now want.now) }
+fn put_refused_start(
+    out: &mut Vec<u8>,
+    port: &[u8],
+    name: &[u8],
+    want: &Want,
+) -> Result<(), NoMemory>
+    ensures { OnOk result (out.new.items
+        ≡ out.old.items ++ refused_start port.now name.now want.now) }
 {
     let alloc = *out.allocator();
     let stream = want.stream;
     let class = class_name(want.class);
     let slope = want.slope;
-    let asked = format!(in alloc; " {stream} {class} slope {slope}")?;
+    let id = format!(in alloc; " {stream} ")?;
+    let asked = format!(in alloc; " {class} slope {slope}")?;
     put(out, "refused ")?;
     put_octets(out, port)?;
+    put(out, &id)?;
+    put_octets(out, name)?;
     put(out, &asked)
 }
 
@@ -94,19 +103,42 @@ fn put_refused_end(out: &mut Vec<u8>, slope: u64, lack: Lack, heard: bool) -> Re
     put(out, &why)
 }
 
-/// The line of a stream that a port refuses, with whether Listeners of it are registered there.
+/// The line of a stream of this name that a port refuses, with whether Listeners of it are
+/// registered there.
 pub(crate) fn put_refused(
     out: &mut Vec<u8>,
     port: &[u8],
+    name: &[u8],
     want: &Want,
     lack: Lack,
     heard: bool,
 ) -> Result<(), NoMemory>
     ensures { OnOk result (out.new.items ≡ out.old.items
-        ++ refused_line port.now want.now lack.more_important lack.cap lack.code heard) }
+        ++ refused_line port.now name.now want.now lack.more_important lack.cap lack.code heard) }
 {
-    put_refused_start(out, port, want)?;
+    put_refused_start(out, port, name, want)?;
     put_refused_end(out, want.slope, lack, heard)
+}
+
+/// The line of what a port has booked and refuses together, of class A and of both classes, beside
+/// the caps, in bit/s.
+pub(crate) fn put_short(
+    out: &mut Vec<u8>,
+    port: &[u8],
+    caps: Caps,
+    class_a: u128,
+    both: u128,
+) -> Result<(), NoMemory>
+    ensures { OnOk result (out.new.items
+        ≡ out.old.items ++ short_line port.now class_a caps.class_a both caps.both) }
+{
+    let alloc = *out.allocator();
+    let cap_a = caps.class_a;
+    let cap_both = caps.both;
+    let numbers = format!(in alloc; " A {class_a} of {cap_a} A+B {both} of {cap_both}\n")?;
+    put(out, "short at ")?;
+    put_octets(out, port)?;
+    put(out, &numbers)
 }
 
 // The slopes of a class's shaper, up to its credits.

@@ -9,13 +9,14 @@ ghost use Rattle.class_b_bound.specs.Bound.{AreCaps};
 ghost use Rattle.node_core.specs.State.{ports_of, slope_at};
 ghost use Rattle.scenario_bounds.specs.Caps.{caps_of_link};
 ghost use Rattle.world_core.specs.Limits.{booked_at_port, IsWithinCaps, IsWithinLimits};
-ghost use Rattle.port_margins.specs.Margins.{lines_on_link, margin_lines, margins_text as margins_text_spec, place_lines, port_lines};
+ghost use Rattle.port_margins.specs.Margins.{lines_on_link, margin_lines, margins_text as margins_text_spec, place_lines, port_lines, refusals_at};
 
 use crate::lines::put_margin;
 use crate::refused::put_refusals;
 use crate::shapers::put_shapers;
+use crate::shortage::put_shortage;
 use node_core::Node;
-use report_words::{port_name, ports_of_links};
+use report_words::{port_name, ports_of_links, put_end};
 use scenario_bounds::link_at;
 use srp_base::{Class, EgressPort, NoMemory, PortNo};
 use std::alloc::Global;
@@ -27,10 +28,11 @@ use world_core::World;
 /// both classes have booked, their caps and what is left, in bit/s; each stream of the file that
 /// doesn't fit there, with the slope that it asks, what more important bookings take, the cap and
 /// by how much it misses, in bit/s, the failure code (IEEE Std 802.1Q-2018, 35.2.2.8.7), and
-/// whether Listeners of it are registered there; and of each class that has booked something its
-/// credit-based shaper (8.6.8.2), idleSlope and sendSlope in kbit/s, hiCredit and loCredit in
-/// octets. The network is on the scenario's tree, and no port has booked past its caps, as at every
-/// moment of a run.
+/// whether Listeners of it are registered there; where there are such streams, what is booked and
+/// what they ask together; and of each class that has booked something its credit-based shaper
+/// (8.6.8.2), idleSlope and sendSlope in kbit/s, hiCredit and loCredit in octets. Last, whether the
+/// network is quiet, and in step. The network is on the scenario's tree, and no port has booked past
+/// its caps, as at every moment of a run.
 pub fn margins_text(alloc: Global, scenario: &Scenario, world: &World) -> Result<Vec<u8>, NoMemory>
     requires tree { world.now.tree ≡ scenario.now.tree }
     requires limits { IsWithinLimits scenario.now world.now }
@@ -39,6 +41,7 @@ pub fn margins_text(alloc: Global, scenario: &Scenario, world: &World) -> Result
     let mut out = Vec::new(alloc);
     let ports = ports_of_links(alloc, world.tree())?;
     put_each(&mut out, scenario, world, ports.as_slice())?;
+    put_end(&mut out, world.quiet(), world.in_step())?;
     Ok(out)
 }
 
@@ -127,9 +130,30 @@ fn put_place(
     let class_a = node.slope(at, Class::A) as u64;
     let class_b = node.slope(at, Class::B) as u64;
     put_margins(out, port, caps, class_a, class_b)?;
-    put_refusals(out, port, node, at, scenario)?;
+    put_refused(out, port, caps, scenario, node, at, class_a, class_b)?;
     put_shapers(out, port, link.rate, caps, class_a, class_b)?;
     Ok(())
+}
+
+// What a port refuses.
+fn put_refused(
+    out: &mut Vec<u8>,
+    port: &[u8],
+    caps: Caps,
+    scenario: &Scenario,
+    node: &Node,
+    at: PortNo,
+    class_a: u64,
+    class_b: u64,
+) -> Result<(), NoMemory>
+    requires { IsLinkPort at (ports_of node.now.state) }
+    ensures { OnOk result (out.new.items ≡ out.old.items
+        ++ refusals_at port.now caps scenario.now.streams (place_of at) node.now.state
+        class_a class_b) }
+{
+    let streams = scenario.streams.as_slice();
+    put_refusals(out, port, node, at, scenario)?;
+    put_shortage(out, port, caps, streams, node, at, class_a, class_b)
 }
 
 // What is booked and left, of class A and of both classes.

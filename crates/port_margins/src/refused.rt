@@ -41,8 +41,8 @@ fn want_of_reg(reg: TalkerReg) -> Option<Want>
     }
 }
 
-// What a stream's Talker, as it is registered at a node, asks of each other port.
-fn asked_of(node: &Node, stream: StreamId) -> Option<Want>
+/// What a stream's Talker, as it is registered at a node, asks of each other port.
+pub(crate) fn asked_of(node: &Node, stream: StreamId) -> Option<Want>
     ensures { result ≡ asked_of_spec stream node.now.state }
 {
     want_of_reg(node.talker(stream))
@@ -56,15 +56,17 @@ fn has_listeners(node: &Node, at: PortNo, stream: StreamId) -> bool
     node.content(at, MsrpKey::Listener(stream)).is_some()
 }
 
-// The line of a want that doesn't fit.
+// The line of a want that doesn't fit, of a stream of this name.
 fn put_fit(
     out: &mut Vec<u8>,
     port: &[u8],
+    name: &[u8],
     heard: bool,
     want: Option<Want>,
     fit: Option<Fit>,
 ) -> Result<(), NoMemory>
-    ensures { OnOk result (out.new.items ≡ out.old.items ++ fit_line port.now heard want fit) }
+    ensures { OnOk result (out.new.items
+        ≡ out.old.items ++ fit_line port.now name.now heard want fit) }
 {
     match (want, fit) {
         (
@@ -82,7 +84,7 @@ fn put_fit(
                 cap,
                 code,
             };
-            put_refused(out, port, &want, lack, heard)
+            put_refused(out, port, name, &want, lack, heard)
         }
         _ => Ok(()),
     }
@@ -105,6 +107,7 @@ fn put_stream(
     put_fit(
         out,
         port,
+        entry.name.as_slice(),
         heard,
         asked_of(node, stream),
         node.fit(at, stream),
