@@ -213,7 +213,12 @@ fn item_from(octets: &[u8], array: &[u8], number: usize, opening: Line) -> Optio
     ensures end { IfSome result (λ line. line.end
         ≡ length (first_lines line.number octets.now)) }
 {
-    let line = numbered_line(octets_from(octets, opening.start), LineKind::Item, array, number)?;
+    let line = numbered_line(
+        octets_from(octets, opening.start),
+        LineKind::Item,
+        array,
+        number,
+    )?;
     Some(Line {
         number: place_behind(octets, opening.number - 1, line.number),
         start: place_behind(octets, opening.start, line.start),
