@@ -22,6 +22,10 @@ srpnet: the Stream Reservation Protocol (IEEE Std 802.1Q-2018) over a file
                     stands there, or that it keeps all rules
   srpnet explain ledger
                     says the same of a ledger file
+  srpnet explain groups
+                    says it of a file of groups
+  srpnet explain plan
+                    says it of a plan file
   srpnet run        reads a scenario file on standard input, runs its network
                     through the ticks and its frames through the shapers, and
                     prints what is registered and booked at each port, what
@@ -74,16 +78,20 @@ srpnet: the Stream Reservation Protocol (IEEE Std 802.1Q-2018) over a file
   srpnet decode msrp
   srpnet decode mmrp
                     reads captured PDUs of that application on standard input,
-                    one in a line as hexadecimal digits, and prints what each
-                    says, or where it breaks
+                    one in a line as hexadecimal digits, or as hex dumps, and
+                    prints what each says, or where it breaks
   srpnet capture    reads a capture file of a link on standard input, as tcpdump
                     or Wireshark saves it, and prints what each frame of MVRP,
                     MSRP and MMRP in it says
+  srpnet replay     reads some TOML, a line that is === capture, and a capture
+                    file of a link on standard input, and prints what stood at
+                    its ends, what was owed there, and what was broken
   srpnet gen N      makes the scenario of the number N, 0 to 4294967295, runs
                     it, and prints the run in short; reads no input
   srpnet gen N plan prints that scenario as a file, so that its run can be
                     audited
-  srpnet --help     this page; so do -h and help
+  srpnet --help     this page; so do -h and help (and no word at all, with
+                    status 2)
   srpnet --version  the version
 
 Statuses: 0 done; 2 bad words; 3 the input couldn't be read; 4 it is too long;
