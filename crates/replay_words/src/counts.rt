@@ -12,8 +12,8 @@ pub struct Counts {
     /// The attributes that were let go.
     pub owed: u64,
     /// The words on registrars that aren't what the observers hold, neither when they are said nor
-    /// once what crosses them is there, the streams of which one PDU declares a Talker Advertise and
-    /// a Talker Failed, and the malformed PDUs.
+    /// once what crosses them is there, the events that declare a Talker Failed of a stream of which
+    /// the same PDU declares a Talker Advertise, and the malformed PDUs.
     pub broken: u64,
     /// The frames of MRP of either end.
     pub frames: u64,
