@@ -8,7 +8,7 @@ use Rattle.rule_words.specs.declared.keys.Key.TheVariants.{Nodes, Links, Streams
 -- what the rules on a scenario's file as a whole ask
 abbrev pub scenario_asks : ℕ → List ℕ
 scenario_asks rule =
-    if rule == 1 then codes "ticks is a whole number from 1 to 12000"
+    if rule == 1 then codes "ticks, of 10 ms each, is a whole number from 1 to 12000"
     else if rule == 2 then codes "the keys of the file are known, and node, link, stream, event and frame are arrays of tables"
     else if rule == 3 then codes "leave_time is a whole number from 60 to 100, and periodic and domains are true or false"
     else if rule == 5 then codes "there are 2 to 64 nodes, and nodes times ticks are at most 400000"

@@ -135,7 +135,7 @@ size_keys _ = Nodes ∷ Ticks ∷ []
 abbrev pub keys_asked : FileKind → ℕ → Members → List Key
 keys_asked kind rule ms =
     if rule == 5 then size_keys kind
-    else if rule == 6 || rule == 17 then Name ∷ []
+    else if rule == 6 || rule == 13 || rule == 14 || rule == 17 then Name ∷ []
     else if rule == 7 then NodeId ∷ []
     else if nat_le 9 rule && nat_le rule 12 then A ∷ B ∷ []
     else if rule == 18 then StreamId ∷ []

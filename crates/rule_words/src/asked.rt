@@ -11,7 +11,7 @@ fn scenario_asks(rule: u8) -> &'static str
     ensures { result.now ≡ scenario_asks_spec rule }
 {
     if rule == 1 {
-        "ticks is a whole number from 1 to 12000"
+        "ticks, of 10 ms each, is a whole number from 1 to 12000"
     } else if rule == 2 {
         "the keys of the file are known, and node, link, stream, event and frame are arrays of tables"
     } else if rule == 3 {

@@ -232,7 +232,7 @@ pub(crate) fn keys_asked(kind: FileKind, rule: u8, table: &Table) -> &'static [K
 {
     match rule {
         5 => size_keys(kind),
-        6 | 17 => NAME.as_slice(),
+        6 | 13 | 14 | 17 => NAME.as_slice(),
         7 => NODE_ID.as_slice(),
         9..=12 => ENDS.as_slice(),
         18 => STREAM_ID.as_slice(),

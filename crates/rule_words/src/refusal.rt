@@ -345,8 +345,8 @@ fn put_refusal(
 
 /// What is said of a rule that a file of this kind breaks first at this entry: what the rule asks,
 /// the entry with its array and its name, the line of the file in which it begins, or in which the
-/// key of the file stands, the key that breaks the rule, what has to stand there, and what does. The entry 0 is the file as a whole.
-/// The table is that of the octets.
+/// key of the file stands, the key that breaks the rule, what has to stand there, and what does. The
+/// entry 0 is the file as a whole. The table is that of the octets.
 pub fn refusal_text(
     alloc: Global,
     kind: FileKind,
