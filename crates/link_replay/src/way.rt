@@ -1,13 +1,14 @@
 //! One way over a link: what one end declares, and how it stands at the other.
 
-ghost use Rattle.std.specs.Prelude.{◌≡◌, ◌<◌, ◌^◌, ◌++◌, [], flat_map, length, filter, slice_get, option_map, IfOk, OnOk, string_bytes, not, if◌then◌else◌};
+ghost use Rattle.std.specs.Prelude.{◌≡◌, ◌<◌, ◌^◌, ◌++◌, [], false, flat_map, fold, length, filter, slice_get, option_map, IfOk, OnOk, IsTrue, string_bytes, not, if◌then◌else◌};
 ghost use Rattle.std.specs.Option.{option_map_or};
-ghost use Rattle.mrp_participant.specs.Lookup.{find};
+ghost use Rattle.std.specs.declared.cmp.Ordering.TheVariants.{Less};
+ghost use Rattle.mrp_participant.specs.Lookup.{Ascends, find};
 ghost use Rattle.mrp_participant.specs.Row.{registered_in};
-ghost use Rattle.mrp_participant.specs.State.{IsTime};
+ghost use Rattle.mrp_participant.specs.State.{IsTime, received_state};
 ghost use Rattle.attribute_propagation.specs.Dirty.{is_awaiting, all_marked};
 ghost use Rattle.link_replay.specs.Moments.{cs_cmp, is_up_to, later_than as later_than_spec};
-ghost use Rattle.link_replay.specs.Way.{new_way, stands_as, withdrawn_by, ends_by, ends_up_to, gone_text, passing_text, let_go_count, passing_way, owed_text, leaving_of, leaving_text, leave_all_text, leave_all_way, joining_text, withdrawing_text, heard_text, hearing_way, all_heard_text, all_hearing_way, is_held, is_broken, word_text};
+ghost use Rattle.link_replay.specs.Way.{new_way, stands_as, withdrawn_by, ends_by, ends_up_to, gone_text, passing_text, let_go_count, passing_way, owed_text, leaving_of, leaving_text, leave_all_text, leave_all_way, joining_text, withdrawing_text, heard_text, until_of, hearing_way, all_heard_text, all_hearing_way, is_held, is_broken, word_text};
 
 use crate::app::WatchedApp;
 use crate::lines::{
@@ -16,9 +17,11 @@ use crate::lines::{
 use crate::observer::Observer;
 use attribute_propagation::Dirty;
 use mrp_participant::Msgs;
+use mrp_participant::laws::{each_key_after_receive, rows_stay_rows};
 use registrar::Registrar;
 use srp_base::{Cs, MrpEvent, NoMemory, Seq};
 use std::alloc::Global;
+use std::cmp::Ordering;
 use std::marker::Model;
 
 /// One way over a link: the observer of the end that hears what the other, the speaker, declares.
@@ -229,6 +232,126 @@ impl<A: WatchedApp> Way<A> {
             ++ all_heard_text A.Key.cmp A.Content.eq A.key_text A.content_text at self.old
             events.now) }
     {
+        if keys_ascend(events) {
+            self.hear_at_once(out, at, events)
+        } else {
+            self.hear_in_turn(out, at, events)
+        }
+    }
+
+    // Takes events of the speaker whose keys ascend. The observer takes them in one list, so that
+    // its rows move once.
+    fn hear_at_once(
+        &mut self,
+        out: &mut String,
+        at: Cs,
+        events: &[(MrpEvent, A::Key, A::Content)],
+    ) -> Result<(), NoMemory>
+        requires time { at.0 < 2 ^ 62 }
+        requires keys { Ascends A.Key.cmp (λ e. e.1) events.now }
+        ensures way { OnOk result (self.new ≡ all_hearing_way A.Key.cmp at self.old events.now) }
+        ensures text { OnOk result (string_bytes out.new ≡ string_bytes out.old
+            ++ all_heard_text A.Key.cmp A.Content.eq A.key_text A.content_text at self.old
+            events.now) }
+    {
+        let until = Cs(at.0 + self.leave_time.0);
+        self.hears_alike(at, until, events);
+        self.write_each_heard(out, at, events)?;
+        let heard = Vec::from_slice(self.alloc, events)?;
+        self.observe(at, heard)?;
+        self.keep_all(events, until)
+    }
+
+    // Of events whose keys ascend the same is said as of each by itself, and the observer may take
+    // them in one list. It is a law, and does nothing.
+    fn hears_alike(&self, at: Cs, until: Cs, events: &[(MrpEvent, A::Key, A::Content)])
+        requires until { until ≡ until_of at self.now }
+        requires keys { Ascends A.Key.cmp (λ e. e.1) events.now }
+        ensures way { all_hearing_way A.Key.cmp at self.now events.now ≡ record self.now {
+          observer = received_state A.Key.cmp at false events.now self.now.observer;
+          ends = fold (λ ends e. ends_by e.0 until ends) self.now.ends events.now;
+          withdrawn = fold (λ keys e. withdrawn_by A.Key.cmp e.0 e.1 keys) self.now.withdrawn
+            events.now;
+        } }
+        ensures text { all_heard_text A.Key.cmp A.Content.eq A.key_text A.content_text at self.now
+            events.now
+            ≡ flat_map (λ e. heard_text A.Key.cmp A.Content.eq A.key_text A.content_text at
+            self.now e.0 e.1 e.2) events.now }
+    {
+        self.observer.keeps();
+        each_key_after_receive::<A>();
+        rows_stay_rows::<A>();
+    }
+
+    // Says of each of some events what it changes by itself.
+    fn write_each_heard(
+        &self,
+        out: &mut String,
+        at: Cs,
+        events: &[(MrpEvent, A::Key, A::Content)],
+    ) -> Result<(), NoMemory>
+        requires { at.0 < 2 ^ 62 }
+        ensures { OnOk result (string_bytes out.new ≡ string_bytes out.old
+            ++ flat_map (λ e. heard_text A.Key.cmp A.Content.eq A.key_text A.content_text at
+            self.now e.0 e.1 e.2) events.now) }
+    {
+        for event in events {
+            self.write_heard(out, at, *event)?;
+        }
+        Ok(())
+    }
+
+    // Gives events of the speaker to the observer, in one list.
+    fn observe(
+        &mut self,
+        at: Cs,
+        events: Vec<(MrpEvent, A::Key, A::Content)>,
+    ) -> Result<(), NoMemory>
+        requires { at.0 < 2 ^ 62 }
+        ensures { OnOk result (self.new ≡ record self.old {
+          observer = received_state A.Key.cmp at false events.items self.old.observer;
+        }) }
+    {
+        let msgs = Msgs {
+            leave_all: false,
+            events: Seq::from_vec(events),
+        };
+        self.observer.comes(at, &msgs)?;
+        Ok(())
+    }
+
+    // Keeps which leave timers events start, to end at a moment, and which keys they withdraw.
+    fn keep_all(
+        &mut self,
+        events: &[(MrpEvent, A::Key, A::Content)],
+        until: Cs,
+    ) -> Result<(), NoMemory>
+        ensures { OnOk result (self.new ≡ record self.old {
+          ends = fold (λ ends e. ends_by e.0 until ends) self.old.ends events.now;
+          withdrawn = fold (λ keys e. withdrawn_by A.Key.cmp e.0 e.1 keys) self.old.withdrawn
+            events.now;
+        }) }
+    {
+        for event in events {
+            self.mark_end(event.0, until)?;
+            self.withdraw(*event)?;
+        }
+        Ok(())
+    }
+
+    // Takes events of the speaker one by one, whatever their order.
+    fn hear_in_turn(
+        &mut self,
+        out: &mut String,
+        at: Cs,
+        events: &[(MrpEvent, A::Key, A::Content)],
+    ) -> Result<(), NoMemory>
+        requires { at.0 < 2 ^ 62 }
+        ensures way { OnOk result (self.new ≡ all_hearing_way A.Key.cmp at self.old events.now) }
+        ensures text { OnOk result (string_bytes out.new ≡ string_bytes out.old
+            ++ all_heard_text A.Key.cmp A.Content.eq A.key_text A.content_text at self.old
+            events.now) }
+    {
         for event in events {
             self.hear(out, at, *event)?;
         }
@@ -251,11 +374,7 @@ impl<A: WatchedApp> Way<A> {
         self.write_heard(out, at, event)?;
         let mut events = Vec::new(self.alloc);
         events.push(event)?;
-        let msgs = Msgs {
-            leave_all: false,
-            events: Seq::from_vec(events),
-        };
-        self.observer.comes(at, &msgs)?;
+        self.observe(at, events)?;
         self.mark_end(event.0, Cs(at.0 + self.leave_time.0))?;
         self.withdraw(event)
     }
@@ -412,4 +531,27 @@ fn later_than(alloc: Global, moments: &[Cs], at: Cs) -> Result<Dirty<Cs>, NoMemo
         set.mark(*moment)?;
     }
     Ok(set)
+}
+
+// Whether the keys of events ascend strictly. That it says so wherever they do is for the sake of
+// speed alone, and no clause asks it.
+fn keys_ascend<K: Copy + Ord, C: Copy>(events: &[(MrpEvent, K, C)]) -> bool
+    ensures { IsTrue result → Ascends K.cmp (λ e. e.1) events.now }
+{
+    for i in 1..events.len() {
+        if !is_below(&events[i - 1], &events[i]) {
+            return false;
+        }
+    }
+    true
+}
+
+// Whether the key of an event is below another's.
+fn is_below<K: Copy + Ord, C: Copy>(one: &(MrpEvent, K, C), next: &(MrpEvent, K, C)) -> bool
+    ensures { IsTrue result → K.cmp one.now.1 next.now.1 ≡ Less }
+{
+    match one.1.cmp(&next.1) {
+        Ordering::Less => true,
+        Ordering::Equal | Ordering::Greater => false,
+    }
 }

@@ -1,6 +1,6 @@
 use Rattle.std.proofs.Common.{◌≡◌, ◌++◌, drop, string_bytes}
 use Rattle.link_replay.specs.{all_heard_text, all_hearing_way}
-use Rattle.link_replay.proofs.way.Way.hears.Given as goal
+use Rattle.link_replay.proofs.way.Way.hear_in_turn.Given as goal
 
 -- what is left is heard from where the way is now, and said behind the text so far
 abbrev pub invariant-loop-event : goal.invariant-loop-event
