@@ -86,8 +86,8 @@ module _ {K C : Type 0} (cmp : K → K → Ordering) (eq : C → C → Bool) (ke
   still-same at e s others [] are above all = tt
   still-same at e s others (x ∷ events) are above all = (
     receive s at false (e ∷ []) are x.1
-    ∙ ap (λ (r : Ordering). if is_eq r then after_hear e.0 e.1 e.2 (after at s.leave_time) (find cmp x.1 s.rows) else find cmp x.1 s.rows) above.0
-    ∙ all.0,
+        ∙ ap (λ (r : Ordering). if is_eq r then after_hear e.0 e.1 e.2 (after at s.leave_time) (find cmp x.1 s.rows) else find cmp x.1 s.rows) above.0
+        ∙ all.0,
     still-same at e s others events are above.1 all.1,
   )
 

@@ -271,7 +271,7 @@ impl<A: WatchedApp> Way<A> {
           observer = received_state A.Key.cmp at false events.now self.now.observer;
           ends = fold (λ ends e. ends_by e.0 until ends) self.now.ends events.now;
           withdrawn = fold (λ keys e. withdrawn_by A.Key.cmp e.0 e.1 keys) self.now.withdrawn
-            events.now;
+              events.now;
         } }
         ensures text { all_heard_text A.Key.cmp A.Content.eq A.key_text A.content_text at self.now
             events.now
@@ -329,7 +329,7 @@ impl<A: WatchedApp> Way<A> {
         ensures { OnOk result (self.new ≡ record self.old {
           ends = fold (λ ends e. ends_by e.0 until ends) self.old.ends events.now;
           withdrawn = fold (λ keys e. withdrawn_by A.Key.cmp e.0 e.1 keys) self.old.withdrawn
-            events.now;
+              events.now;
         }) }
     {
         for event in events {
