@@ -5,7 +5,6 @@
 //! rules              toml_rules: rules over a TOML table
 //! scenario           topology_file: a scenario that is read
 //! places             file_places: where a file is at fault
-//! pdus               pdu_words: what captured PDUs say
 //! refusals           rule_words: what is said of a file that is refused
 //! needs              port_needs: what a network needs
 //! shaper             credit_shaper: frames at one port through its shaper
@@ -42,8 +41,6 @@ mod flow;
 mod frames;
 #[cfg(test)]
 mod needs;
-#[cfg(test)]
-mod pdus;
 #[cfg(test)]
 mod places;
 #[cfg(test)]
