@@ -17,7 +17,7 @@ use Rattle.mvrp.specs.Part.{Part as VlanPart}
 use Rattle.msrp.specs.Part.{Part as StreamPart}
 use Rattle.flat_side.specs.Side.{are_still}
 use Rattle.port_ledger.specs.Book.{entry_of}
-use Rattle.msrp.specs.{PortState.PortState, Part.registered_talker, Stream.advertise_of, Stream.first_talker, Stream.heard_from, Stream.is_listened, Stream.is_talker_port, Stream.talk_of, Side.Streams, Side.are_still as streams_are_still, Side.clocked_port, Side.clocked_streams, Side.heard_of}
+use Rattle.msrp.specs.{PortState.PortState, Part.registered_talker, Stream.advertise_of, Stream.first_talker, Stream.heard_from, Stream.is_listened, Stream.is_talker_port, Stream.talk_of, Side.Streams, Side.are_still as streams_are_still, Side.clocked_port, Side.clocked_streams, Side.has_listen, Side.heard_of}
 use Rattle.node_core.specs.declared.{types.NodeEvent.NodeEvent, types.NodeStep.NodeStep, types.PortStep.PortStep}
 use Rattle.node_core.specs.declared.types.NodeEvent.TheVariants as node_events
 use Rattle.node_core.specs.declared.types.PortStep.TheVariants.{Due, Settle, Send}
@@ -29,7 +29,7 @@ use Rattle.world_core.specs.{Ticks.IsLegalTick, Ticks.after_script, Ticks.closin
 use Rattle.world_core.specs.declared.events.WorldReply.TheVariants.{Missed}
 use Rattle.world_core.proofs.Timelines.{after_both}
 use Rattle.network_laws.specs.Streams.{has_booked}
-use Rattle.wishes.specs.RunMoments.{heard_marks, node_marks, port_marks}
+use Rattle.wishes.specs.RunMoments.{heard_marks, node_marks, port_marks, stream_marks}
 use Rattle.wishes.specs.Watching.{is_idle}
 
 -- ---- what a step is of
@@ -252,11 +252,11 @@ heard-clocked stream now side =
     then heard_from (first_talker (advertise_of (talk_of stream side.talks) ∷ rest)) else None) talkers
 
 heard-marks : (now : ℕ) (side : Streams) (es : List StreamEntry)
-    → flat_map (λ (e : StreamEntry). heard_marks (heard_of e.id (clocked_streams now side))) es ≡ flat_map (λ (e : StreamEntry). heard_marks (heard_of e.id side)) es
+    → flat_map (stream_marks (clocked_streams now side)) es ≡ flat_map (stream_marks side) es
 heard-marks now side [] = refl
 heard-marks now side (e ∷ es) =
-    ap (λ (front : List Bool). front ++ flat_map (λ (f : StreamEntry). heard_marks (heard_of f.id (clocked_streams now side))) es) (ap heard_marks (heard-clocked e.id now side))
-    ∙ ap (λ (back : List Bool). heard_marks (heard_of e.id side) ++ back) (heard-marks now side es)
+    ap (λ (front : List Bool). front ++ flat_map (stream_marks (clocked_streams now side)) es) (ap (heard_marks (has_listen e.id side)) (heard-clocked e.id now side))
+    ∙ ap (λ (back : List Bool). stream_marks side e ++ back) (heard-marks now side es)
 
 -- a node whose clock went on hears what it did
 pub node-same : (streams : List StreamEntry) (x : ℕ) (w : WorldState) (s t : NodeState) → IsClocked (streams_at x w) s.streams → slice_get w.nodes x ≡ Some t
@@ -264,7 +264,7 @@ pub node-same : (streams : List StreamEntry) (x : ℕ) (w : WorldState) (s t : N
 node-same streams x w s t clocked h =
     let one : Some t.streams ≡ Some (clocked_streams clocked.0 s.streams) = sym (ap (option_map (λ (u : NodeState). u.streams)) h) ∙ clocked.1 in
     let same : t.streams ≡ clocked_streams clocked.0 s.streams = cc in
-    sym (ap (λ (side : Streams). flat_map (λ (e : StreamEntry). heard_marks (heard_of e.id side)) streams) same ∙ heard-marks clocked.0 s.streams streams)
+    sym (ap (λ (side : Streams). flat_map (stream_marks side) streams) same ∙ heard-marks clocked.0 s.streams streams)
 
 -- whether a stream is booked at a place of what MSRP keeps
 abbrev booked_in : StreamId → ℕ → Streams → Bool

@@ -1,16 +1,16 @@
 -- What stands by what stood before is what stands, where the nodes that rest hear and have booked what they did.
 use Rattle.std.proofs.Common.{◌≡◌, ℕ, zero, suc, ◌+◌, ◌-◌, Bool, true, false, if◌then◌else◌, List, [], ◌∷◌, ◌++◌, length, take, drop, refl, sym, ap, ◌∙◌, arith}
 use Rattle.std.specs.Prelude.{flat_map, slice_get, Option, Some}
-use Rattle.srp_base.specs.declared.{numbers.EgressPort.EgressPort, streams.ListenerKind.ListenerKind}
+use Rattle.srp_base.specs.declared.numbers.EgressPort.{EgressPort}
 use Rattle.srp_base.proofs.Lists.{mapped_length}
 use Rattle.tree_topology.specs.Topology.{link_ports}
 use Rattle.topology_file.specs.declared.entries.StreamEntry.{StreamEntry}
-use Rattle.msrp.specs.Side.{heard_of}
+use Rattle.msrp.specs.Side.{Streams}
 use Rattle.node_core.specs.State.{NodeState}
 use Rattle.world_core.specs.World.{WorldState}
 use Rattle.network_laws.specs.Streams.{has_booked}
-use Rattle.wishes.specs.RunMoments.{heard_marks, marks_of, node_marks, port_marks}
-use Rattle.wishes.specs.Watching.{behind_node, marks_since, node_since, nodes_since, port_since, ports_since, rests_at}
+use Rattle.wishes.specs.RunMoments.{marks_of, node_marks, port_marks, stream_marks}
+use Rattle.wishes.specs.Watching.{behind_node, marks_since, node_since, nodes_since, port_since, ports_since, rests_at, three_rows}
 
 -- ---- the first of a list, and the rest
 
@@ -31,10 +31,21 @@ two-fronts zero b xs ys h = front-is b xs ys (omega (arith, h))
 two-fronts (suc a) b [] ys h = absurd (omega (arith, h))
 two-fronts {X = X} (suc a) b (x ∷ xs) ys h = ap (λ (zs : List X). x ∷ zs) (two-fronts a b xs ys (omega (arith, h)))
 
+three-fronts : {X : Type 0} (a b c : ℕ) (xs ys : List X) → length xs ≡ a + (b + c)
+    → take a (xs ++ ys) ++ (take b (drop a (xs ++ ys)) ++ take c (drop b (drop a (xs ++ ys)))) ≡ xs
+three-fronts zero b c xs ys h = two-fronts b c xs ys (omega (arith, h))
+three-fronts (suc a) b c [] ys h = absurd (omega (arith, h))
+three-fronts {X = X} (suc a) b c (x ∷ xs) ys h = ap (λ (zs : List X). x ∷ zs) (three-fronts a b c xs ys (omega (arith, h)))
+
 two-rests : {X : Type 0} (a b : ℕ) (xs ys : List X) → length xs ≡ a + b → drop b (drop a (xs ++ ys)) ≡ ys
 two-rests zero b xs ys h = rest-is b xs ys (omega (arith, h))
 two-rests (suc a) b [] ys h = absurd (omega (arith, h))
 two-rests (suc a) b (x ∷ xs) ys h = two-rests a b xs ys (omega (arith, h))
+
+three-rests : {X : Type 0} (a b c : ℕ) (xs ys : List X) → length xs ≡ a + (b + c) → drop c (drop b (drop a (xs ++ ys))) ≡ ys
+three-rests zero b c xs ys h = two-rests b c xs ys (omega (arith, h))
+three-rests (suc a) b c [] ys h = absurd (omega (arith, h))
+three-rests (suc a) b c (x ∷ xs) ys h = three-rests a b c xs ys (omega (arith, h))
 
 append-assoc : {X : Type 0} (xs ys zs : List X) → (xs ++ ys) ++ zs ≡ xs ++ (ys ++ zs)
 append-assoc [] ys zs = refl
@@ -46,15 +57,15 @@ append-length (x ∷ xs) ys = let rest : length (xs ++ ys) ≡ length xs + lengt
 
 -- ---- how many marks there are
 
-two-each : (heard : StreamEntry → Option ListenerKind) (es : List StreamEntry) → length (flat_map (λ (e : StreamEntry). heard_marks (heard e)) es) ≡ length es + length es
-two-each heard [] = refl
-two-each heard (e ∷ es) =
-    let rest : length (flat_map (λ (f : StreamEntry). heard_marks (heard f)) es) ≡ length es + length es = two-each heard es in
+three-each : (side : Streams) (es : List StreamEntry) → length (flat_map (stream_marks side) es) ≡ length es + (length es + length es)
+three-each side [] = refl
+three-each side (e ∷ es) =
+    let rest : length (flat_map (stream_marks side) es) ≡ length es + (length es + length es) = three-each side es in
     omega (arith, rest)
 
 module _ (streams : List StreamEntry) where
-  node-length : (s : NodeState) → length (node_marks streams s) ≡ length streams + length streams
-  node-length s = two-each (λ (e : StreamEntry). heard_of e.id s.streams) streams
+  node-length : (s : NodeState) → length (node_marks streams s) ≡ length streams + (length streams + length streams)
+  node-length s = three-each s.streams streams
 
   port-length : (w : WorldState) (p : EgressPort) → length (port_marks streams w p) ≡ length streams
   port-length w p = mapped_length (λ (e : StreamEntry). has_booked w e.id p) streams
@@ -85,8 +96,8 @@ module _ (streams : List StreamEntry) where
       old = node_marks streams s ++ later
 
       by : (b : Bool) → (b ≡ true → node_marks streams s ≡ node_marks streams t)
-          → (if b then take (length streams) old ++ take (length streams) (drop (length streams) old) else node_marks streams t) ≡ node_marks streams t
-      by true is = two-fronts (length streams) (length streams) (node_marks streams s) later (node-length s) ∙ is refl
+          → (if b then three_rows streams old else node_marks streams t) ≡ node_marks streams t
+      by true is = three-fronts (length streams) (length streams) (length streams) (node_marks streams s) later (node-length s) ∙ is refl
       by false is = refl
 
   -- the marks of all nodes
@@ -99,7 +110,7 @@ module _ (streams : List StreamEntry) where
       let own : List Bool = node_marks streams s in
       let others : List Bool = flat_map (node_marks streams) ss in
       let all : (own ++ others) ++ later ≡ own ++ (others ++ later) = append-assoc own others later in
-      let rest : behind_node streams (own ++ (others ++ later)) ≡ others ++ later = two-rests (length streams) (length streams) own (others ++ later) (node-length s) in
+      let rest : behind_node streams (own ++ (others ++ later)) ≡ others ++ later = three-rests (length streams) (length streams) (length streams) own (others ++ later) (node-length s) in
       ap (λ (old : List Bool). node_since streams rests old x t ++ nodes_since streams rests (behind_node streams old) (x + 1) ts) all
       ∙ ap (λ (front : List Bool). front ++ nodes_since streams rests (behind_node streams (own ++ (others ++ later))) (x + 1) ts) (node-exact rests x s t (others ++ later) h.0)
       ∙ ap (λ (old : List Bool). node_marks streams t ++ nodes_since streams rests old (x + 1) ts) rest

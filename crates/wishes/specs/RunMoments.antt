@@ -8,7 +8,7 @@ use Rattle.tree_topology.specs.Topology.{link_ports}
 use Rattle.topology_file.specs.declared.entries.StreamEntry.{StreamEntry}
 use Rattle.topology_file.specs.Plan.{Plan}
 use Rattle.srp_base.specs.declared.{numbers.EgressPort.EgressPort, streams.ListenerKind.ListenerKind}
-use Rattle.msrp.specs.Side.{heard_of}
+use Rattle.msrp.specs.Side.{Streams, has_listen, heard_of}
 use Rattle.node_core.specs.State.{NodeState}
 use Rattle.world_core.specs.declared.journal.Tick.{Tick}
 use Rattle.world_core.specs.World.{WorldState, is_in_step, is_quiet}
@@ -18,13 +18,17 @@ use Rattle.wishes.specs.declared.moments.{Moments.Moments, Span.Span}
 
 -- ---- what stands
 
--- whether anything is heard, and whether that is Ready
-abbrev pub heard_marks : Option ListenerKind → List Bool
-heard_marks heard = is_some heard ∷ is_ready_heard heard ∷ []
+-- whether an application listens, whether anything is heard, and whether that is Ready
+abbrev pub heard_marks : Bool → Option ListenerKind → List Bool
+heard_marks listens heard = listens ∷ is_some heard ∷ is_ready_heard heard ∷ []
 
--- what the application of a node hears of each of some streams
+-- what the application of a node hears of a stream
+abbrev pub stream_marks : Streams → StreamEntry → List Bool
+stream_marks side e = heard_marks (has_listen e.id side) (heard_of e.id side)
+
+-- what it hears of each of some streams
 abbrev pub node_marks : List StreamEntry → NodeState → List Bool
-node_marks streams s = flat_map (λ (e : StreamEntry). heard_marks (heard_of e.id s.streams)) streams
+node_marks streams s = flat_map (stream_marks s.streams) streams
 
 -- which of them a port has booked
 abbrev pub port_marks : List StreamEntry → WorldState → EgressPort → List Bool

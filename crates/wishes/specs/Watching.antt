@@ -88,15 +88,19 @@ all_rest rests = if length rests == 0 then false else list_all (λ b. b) rests
 
 -- ---- what stands, by what stood
 
+-- as many marks as there are streams, twice and three times
+abbrev pub two_rows : List StreamEntry → List Bool → List Bool
+two_rows streams old = take (length streams) old ++ take (length streams) (drop (length streams) old)
+
+abbrev pub three_rows : List StreamEntry → List Bool → List Bool
+three_rows streams old = take (length streams) old ++ two_rows streams (drop (length streams) old)
+
 -- what a node hears, and what of the old marks is behind its own: its old ones where it rests
 abbrev pub node_since : List StreamEntry → List Bool → List Bool → ℕ → NodeState → List Bool
-node_since streams rests old x s =
-    if rests_at rests x
-    then take (length streams) old ++ take (length streams) (drop (length streams) old)
-    else node_marks streams s
+node_since streams rests old x s = if rests_at rests x then three_rows streams old else node_marks streams s
 
 abbrev pub behind_node : List StreamEntry → List Bool → List Bool
-behind_node streams old = drop (length streams) (drop (length streams) old)
+behind_node streams old = drop (length streams) (drop (length streams) (drop (length streams) old))
 
 -- what some nodes hear, of which the first is at place x
 abbrev pub nodes_since : List StreamEntry → List Bool → List Bool → ℕ → List NodeState → List Bool

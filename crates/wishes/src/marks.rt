@@ -5,7 +5,7 @@ ghost use Rattle.std.specs.List.{AllByRecursion, list_all};
 ghost use Rattle.tree_topology.specs.Topology.{HasPort, link_ports};
 ghost use Rattle.network_laws.specs.Streams.{has_booked as has_booked_spec, is_ready_heard};
 ghost use Rattle.wishes.specs.RunMoments.{are_same_marks as are_same_marks_spec, heard_marks, node_marks, port_marks};
-ghost use Rattle.wishes.specs.Watching.{all_rest as all_rest_spec, behind_node as behind_node_spec, is_idle as is_idle_spec, marks_since as marks_since_spec, node_since, nodes_since, port_since, ports_since, rests_at as rests_at_spec};
+ghost use Rattle.wishes.specs.Watching.{all_rest as all_rest_spec, behind_node as behind_node_spec, is_idle as is_idle_spec, marks_since as marks_since_spec, node_since, nodes_since, port_since, ports_since, rests_at as rests_at_spec, two_rows};
 
 use node_core::{Node, is_sending_time};
 use report_words::ports_of_links;
@@ -164,7 +164,8 @@ fn push_nodes(
 fn behind_node<'a>(streams: &[StreamEntry], old: &'a [bool]) -> &'a [bool]
     ensures { result.now ≡ behind_node_spec streams.now old.now }
 {
-    behind(behind(old, streams.len()), streams.len())
+    let count = streams.len();
+    behind(behind(behind(old, count), count), count)
 }
 
 // What the node at a place hears.
@@ -183,6 +184,18 @@ fn push_node_since(
         return push_node(marks, streams, node);
     }
     marks.extend_from_slice(front(old, streams.len()))?;
+    push_two_rows(marks, streams, behind(old, streams.len()))
+}
+
+// As many of the old marks as there are streams, twice.
+fn push_two_rows(
+    marks: &mut Vec<bool>,
+    streams: &[StreamEntry],
+    old: &[bool],
+) -> Result<(), NoMemory>
+    ensures { OnOk result (marks.new.items ≡ marks.old.items ++ two_rows streams.now old.now) }
+{
+    marks.extend_from_slice(front(old, streams.len()))?;
     marks.extend_from_slice(front(behind(old, streams.len()), streams.len()))?;
     Ok(())
 }
@@ -193,14 +206,20 @@ fn push_node(marks: &mut Vec<bool>, streams: &[StreamEntry], node: &Node) -> Res
         ≡ marks.old.items ++ node_marks streams.now node.now.state) }
 {
     for entry in streams {
-        push_heard(marks, node.heard(entry.id))?;
+        push_heard(marks, node.listens(entry.id), node.heard(entry.id))?;
     }
     Ok(())
 }
 
-fn push_heard(marks: &mut Vec<bool>, heard: Option<ListenerKind>) -> Result<(), NoMemory>
-    ensures { OnOk result (marks.new.items ≡ marks.old.items ++ heard_marks heard) }
+// Whether an application listens, and what it hears.
+fn push_heard(
+    marks: &mut Vec<bool>,
+    listens: bool,
+    heard: Option<ListenerKind>,
+) -> Result<(), NoMemory>
+    ensures { OnOk result (marks.new.items ≡ marks.old.items ++ heard_marks listens heard) }
 {
+    marks.push(listens)?;
     marks.push(heard.is_some())?;
     marks.push(is_ready(heard))?;
     Ok(())
