@@ -14,6 +14,14 @@ const NODES: &str =
 /// The same two nodes, written inline.
 const INLINE: &str = "ticks = 5\nnode = [\n  { name = 'a' },\n  { name = 'b' },\n]\n";
 
+/// The same two nodes with a mark in front and their names between quotes, and a table beside them.
+const QUOTED: &str =
+    "\u{feff}[[\"node\"]]\nname = 'a'\n[[ 'node' ]]\n\"name\" = 'b'\n[\"stream\".x]\n";
+
+/// A key between quotes behind a mark, a dotted one, and nodes that are written inline.
+const KEYS: &str =
+    "\u{feff}\"ticks\" = 5\nmrp.time = 60\n'node' = [{ name = 'a' },\n{ name = 'b' }]\n";
+
 /// No value in line 2, behind a letter of two octets.
 const BROKEN: &str = "a = 1\n'\u{e9}' = \nb = 2\n";
 
@@ -99,4 +107,16 @@ fn an_entry_begins_in_a_line(rt: HostRuntime) {
     assert!(rt; stands_in(alloc, INLINE, "node", Some(2)));
     assert!(rt; stands_in(alloc, NODES, "name", None));
     assert!(rt; are_put(alloc));
+}
+
+#[test]
+fn a_mark_and_quotes_hide_no_line(rt: HostRuntime) {
+    let alloc = rt.alloc();
+    assert!(rt; begins_in(alloc, QUOTED, 1, Some(1)));
+    assert!(rt; begins_in(alloc, QUOTED, 2, Some(3)));
+    assert!(rt; stands_in(alloc, QUOTED, "stream", Some(5)));
+    assert!(rt; begins_in(alloc, KEYS, 2, Some(4)));
+    assert!(rt; stands_in(alloc, KEYS, "ticks", Some(1)));
+    assert!(rt; stands_in(alloc, KEYS, "mrp", Some(2)));
+    assert!(rt; stands_in(alloc, KEYS, "node", Some(3)));
 }
