@@ -44,6 +44,14 @@ fn breaks_at(alloc: Global, text: &str, line: usize, column: usize) -> bool {
     break_at(alloc, text.as_bytes(), line, column)
 }
 
+/// Whether a text is no document for this reason, as toml's reader words it.
+fn breaks_since(alloc: Global, text: &str, reason: &str) -> bool {
+    match toml_place(alloc, text.as_bytes()) {
+        Ok(Some(place)) => place.message.as_slice() == reason.as_bytes(),
+        _ => false,
+    }
+}
+
 /// Whether a text is a document.
 fn is_whole(alloc: Global, text: &str) -> bool {
     match toml_place(alloc, text.as_bytes()) {
@@ -87,6 +95,13 @@ fn a_file_breaks_at_a_line_and_a_column(rt: HostRuntime) {
     assert!(rt; breaks_at(alloc, BROKEN, 2, 7));
     assert!(rt; breaks_at(alloc, RETURNS, 3, 5));
     assert!(rt; breaks_at(alloc, MARKED, 1, 5));
+}
+
+#[test]
+fn the_reason_is_that_of_the_reader(rt: HostRuntime) {
+    let alloc = rt.alloc();
+    assert!(rt; breaks_since(alloc, "a = 1\na = 2\n", "duplicate key"));
+    assert!(rt; breaks_since(alloc, "a = 9223372036854775808\n", "number out of range"));
 }
 
 #[test]
