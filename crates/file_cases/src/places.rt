@@ -14,6 +14,14 @@ const NODES: &str =
 /// The same two nodes, written inline.
 const INLINE: &str = "ticks = 5\nnode = [\n  { name = 'a' },\n  { name = 'b' },\n]\n";
 
+/// The same two nodes with a mark in front and their names between quotes, and a table beside them.
+const QUOTED: &str =
+    "\u{feff}[[\"node\"]]\nname = 'a'\n[[ 'node' ]]\n\"name\" = 'b'\n[\"stream\".x]\n";
+
+/// A key between quotes behind a mark, a dotted one, and nodes that are written inline.
+const KEYS: &str =
+    "\u{feff}\"ticks\" = 5\nmrp.time = 60\n'node' = [{ name = 'a' },\n{ name = 'b' }]\n";
+
 /// No value in line 2, behind a letter of two octets.
 const BROKEN: &str = "a = 1\n'\u{e9}' = \nb = 2\n";
 
@@ -34,6 +42,14 @@ fn break_at(alloc: Global, octets: &[u8], line: usize, column: usize) -> bool {
 /// Whether a text is no document at this place.
 fn breaks_at(alloc: Global, text: &str, line: usize, column: usize) -> bool {
     break_at(alloc, text.as_bytes(), line, column)
+}
+
+/// Whether a text is no document for this reason, as toml's reader words it.
+fn breaks_since(alloc: Global, text: &str, reason: &str) -> bool {
+    match toml_place(alloc, text.as_bytes()) {
+        Ok(Some(place)) => place.message.as_slice() == reason.as_bytes(),
+        _ => false,
+    }
 }
 
 /// Whether a text is a document.
@@ -82,6 +98,13 @@ fn a_file_breaks_at_a_line_and_a_column(rt: HostRuntime) {
 }
 
 #[test]
+fn the_reason_is_that_of_the_reader(rt: HostRuntime) {
+    let alloc = rt.alloc();
+    assert!(rt; breaks_since(alloc, "a = 1\na = 2\n", "duplicate key"));
+    assert!(rt; breaks_since(alloc, "a = 9223372036854775808\n", "number out of range"));
+}
+
+#[test]
 fn octets_stop_being_utf8_at_a_line_and_a_column(rt: HostRuntime) {
     let alloc = rt.alloc();
     assert!(rt; break_at(alloc, b"\xfca = 1\n", 1, 1));
@@ -99,4 +122,16 @@ fn an_entry_begins_in_a_line(rt: HostRuntime) {
     assert!(rt; stands_in(alloc, INLINE, "node", Some(2)));
     assert!(rt; stands_in(alloc, NODES, "name", None));
     assert!(rt; are_put(alloc));
+}
+
+#[test]
+fn a_mark_and_quotes_hide_no_line(rt: HostRuntime) {
+    let alloc = rt.alloc();
+    assert!(rt; begins_in(alloc, QUOTED, 1, Some(1)));
+    assert!(rt; begins_in(alloc, QUOTED, 2, Some(3)));
+    assert!(rt; stands_in(alloc, QUOTED, "stream", Some(5)));
+    assert!(rt; begins_in(alloc, KEYS, 2, Some(4)));
+    assert!(rt; stands_in(alloc, KEYS, "ticks", Some(1)));
+    assert!(rt; stands_in(alloc, KEYS, "mrp", Some(2)));
+    assert!(rt; stands_in(alloc, KEYS, "node", Some(3)));
 }

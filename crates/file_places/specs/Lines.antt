@@ -1,12 +1,12 @@
 -- The lines of a file, by what they begin with.
 use Rattle.std.specs.Prelude.{ℕ, zero, suc, ◌+◌, ◌-◌, ◌==◌, Bool, false, ◌&&◌, ◌||◌, nat_eq, if◌then◌else◌, List, [], ◌∷◌, ◌++◌, take, drop, length, codes, count_by, Option, Some, None, is_some, option_map}
-use Rattle.std.specs.Option.{option_map_or}
+use Rattle.std.specs.Option.{option_map_or, option_or}
 use Rattle.std.specs.Cmp.Lexicographic.{pointwise}
 use Rattle.srp_base.specs.Firsts.{first_where}
 use Rattle.toml_rules.specs.Fields.{◌>>=◌}
 use Rattle.file_places.specs.declared.lines.LineKind.{LineKind}
-use Rattle.file_places.specs.declared.lines.LineKind.TheVariants.{Header, Key, Opening, Item}
-use Rattle.file_places.specs.Places.{is_feed}
+use Rattle.file_places.specs.declared.lines.LineKind.TheVariants.{Header, Key, Table, Opening, Item}
+use Rattle.file_places.specs.Places.{is_feed, mark_length}
 
 -- ---- lines
 
@@ -49,18 +49,31 @@ behind word octets = if pointwise nat_eq (take (length word) octets) word then S
 abbrev pub behind_blanks : List ℕ → List ℕ → Option (List ℕ)
 behind_blanks word octets = behind word (unblanked octets)
 
+-- what stands behind a word between these quotes and the blanks in front of them
+abbrev pub behind_quoted : List ℕ → List ℕ → List ℕ → Option (List ℕ)
+behind_quoted quote word octets = do
+  name ← behind_blanks quote octets
+  end ← behind word name
+  behind quote end
+
+-- what stands behind a name, between quotes of either kind or bare, and the blanks in front of it
+abbrev pub behind_name : List ℕ → List ℕ → Option (List ℕ)
+behind_name word octets =
+    option_or (behind_quoted (codes "\"") word octets)
+    (option_or (behind_quoted (codes "'") word octets) (behind_blanks word octets))
+
 -- what stands behind the header of an array of tables, `[[array]]` with blanks or without, where a
 -- line begins with it
 abbrev pub behind_header : List ℕ → List ℕ → Option (List ℕ)
 behind_header array line = do
   name ← behind_blanks (codes "[[") line
-  end ← behind_blanks array name
+  end ← behind_name array name
   behind_blanks (codes "]]") end
 
 -- what stands behind a key and its `=`, where a line begins with them
 abbrev pub behind_key : List ℕ → List ℕ → Option (List ℕ)
 behind_key word line = do
-  end ← behind_blanks word line
+  end ← behind_name word line
   behind_blanks (codes "=") end
 
 -- what stands behind the bracket with which an array opens that is written inline, where a line
@@ -74,14 +87,29 @@ behind_opening array line = do
 abbrev pub has_item : List ℕ → Bool
 has_item octets = is_some (behind_blanks (codes "{") octets)
 
--- whether a line begins so, for an array or a key of this word: with the header of an entry, with the
--- key, with the key and the bracket behind it, or with an entry that is written inline, behind the
--- bracket or by itself
+-- what stands behind the bracket or the two with which a header begins, where a line does
+abbrev pub behind_brackets : List ℕ → Option (List ℕ)
+behind_brackets line = option_or (behind_blanks (codes "[[") line) (behind_blanks (codes "[") line)
+
+-- a text begins with a name, behind which one of two signs stands
+abbrev pub has_name : List ℕ → List ℕ → List ℕ → List ℕ → Bool
+has_name word sign other octets =
+    option_map_or (λ end. is_some (behind_blanks sign end) || is_some (behind_blanks other end)) (behind_name word octets) false
+
+-- whether a line begins so, for an array or a key of this word: with the header of an entry; with the
+-- key, or the first name of a dotted one; with the header of the key's table, or of one in it; with the
+-- key and the bracket behind it; or with an entry that is written inline, behind the bracket or by
+-- itself
+abbrev pub begins_with : LineKind → List ℕ → List ℕ → Bool
+begins_with Header word line = is_some (behind_header word line)
+begins_with Key word line = has_name word (codes "=") (codes ".") line
+begins_with Table word line = option_map_or (has_name word (codes "]") (codes ".")) (behind_brackets line) false
+begins_with Opening word line = is_some (behind_opening word line)
+begins_with Item word line = has_item line || option_map_or has_item (behind_opening word line) false
+
+-- whether it does without the byte order mark, which the first line of a file may have in front
 abbrev pub is_of_kind : LineKind → List ℕ → List ℕ → Bool
-is_of_kind Header word line = is_some (behind_header word line)
-is_of_kind Key word line = is_some (behind_key word line)
-is_of_kind Opening word line = is_some (behind_opening word line)
-is_of_kind Item word line = has_item line || option_map_or has_item (behind_opening word line) false
+is_of_kind kind word line = begins_with kind word (drop (mark_length line) line)
 
 -- the line is of a kind, and of so many with those before it
 abbrev pub is_numbered : LineKind → List ℕ → ℕ → List (List ℕ) → List ℕ → Bool

@@ -12,6 +12,7 @@
 //!                         and those before it one with 2
 //!
 //!   octets, "ticks"   --> the first line that begins with ticks =  --> line: 2              line_of_key
+//!                         or with the header of a table, [ticks]
 //!                         if the lines up to it are a document with the key,
 //!                         and those before it aren't
 //! ```
@@ -28,11 +29,13 @@
 //! entries, and those before it one in which it has one entry less (`specs/Entries.antt`): a line that
 //! only looks like one, as in a text of several lines, isn't taken for it. Lines that end within an
 //! array are a document with the bracket that closes it. So it is with the line of a key of the file.
-//! Where several entries stand in one line, no line is told of the second.
+//! A name stands bare or between quotes of either kind, and in front of the first line there may be a
+//! byte order mark, which toml's reader passes over. No line is told of the second of several entries
+//! that stand in one line, nor of a name that is written with an escape (`"n\u006fde"`).
 //!
 //! A further word of a place is a field of `Place` with a line of `IsPlaceOf`, and a piece of
 //! `place_line`. A further spelling of a line is a variant of `LineKind` with its case in
-//! `is_of_kind`.
+//! `begins_with`, and a further spelling of a name an alternative of `behind_name`.
 #![tactic(auto)]
 
 mod entries;

@@ -1,15 +1,20 @@
 //! The lines of a file, by what they begin with.
 
-ghost use Rattle.std.specs.Prelude.{◌≡◌, ◌≤◌, ◌<◌, ◌+◌, ◌-◌, ◌^◌, ◌==◌, ◌&&◌, cond, drop, length, option_map, IfSome};
-ghost use Rattle.file_places.specs.Lines.{behind as behind_spec, behind_blanks as behind_blanks_spec, behind_header as behind_header_spec, behind_key as behind_key_spec, behind_opening as behind_opening_spec, first_line, first_lines, has_item as has_item_spec, is_blank as is_blank_spec, is_of_kind as is_of_kind_spec, item_from as item_from_spec, item_line as item_line_spec, numbered_line as numbered_line_spec, unblanked as unblanked_spec};
+ghost use Rattle.std.specs.Prelude.{◌≡◌, ◌≤◌, ◌<◌, ◌+◌, ◌-◌, ◌^◌, ◌==◌, ◌&&◌, ◌||◌, codes, cond, drop, is_some, length, option_map, IfSome};
+ghost use Rattle.std.specs.Option.{option_or};
+ghost use Rattle.file_places.specs.Lines.{begins_with as begins_with_spec, behind as behind_spec, behind_blanks as behind_blanks_spec, behind_brackets as behind_brackets_spec, behind_header as behind_header_spec, behind_key as behind_key_spec, behind_name as behind_name_spec, behind_opening as behind_opening_spec, behind_quoted as behind_quoted_spec, first_line, first_lines, has_item as has_item_spec, has_name as has_name_spec, is_blank as is_blank_spec, is_of_kind as is_of_kind_spec, item_from as item_from_spec, item_line as item_line_spec, numbered_line as numbered_line_spec, unblanked as unblanked_spec};
+
+use crate::place::mark_length;
 
 /// What a line begins with.
 #[derive(Clone, Copy)]
 pub(crate) enum LineKind {
     /// The header of an entry of an array of tables: `[[array]]`.
     Header,
-    /// A key: `word =`.
+    /// A key, or the first name of a dotted one: `word =`, `word.other =`.
     Key,
+    /// The header of a table at the key, or of one in it: `[word]`, `[[word]]`, `[word.other]`.
+    Table,
     /// The key of an array that is written inline, and its bracket: `array = [`.
     Opening,
     /// An entry that is written inline, behind the bracket or by itself: `{`.
@@ -60,12 +65,43 @@ fn behind_blanks<'a>(word: &[u8], octets: &'a [u8]) -> Option<&'a [u8]>
     behind(word, unblanked(octets))
 }
 
+// What stands behind a word between these quotes.
+fn behind_quoted<'a>(quote: &[u8], word: &[u8], octets: &'a [u8]) -> Option<&'a [u8]>
+    ensures { option_map (λ t. t.now) result ≡ behind_quoted_spec quote.now word.now octets.now }
+{
+    let name = behind_blanks(quote, octets)?;
+    let end = behind(word, name)?;
+    behind(quote, end)
+}
+
+// What stands behind a word between the other quotes, or bare.
+fn behind_other<'a>(word: &[u8], octets: &'a [u8]) -> Option<&'a [u8]>
+    ensures { option_map (λ t. t.now) result
+        ≡ option_or (behind_quoted_spec (codes "'") word.now octets.now)
+        (behind_blanks_spec word.now octets.now) }
+{
+    match behind_quoted(b"'", word, octets) {
+        Some(end) => Some(end),
+        None => behind_blanks(word, octets),
+    }
+}
+
+// What stands behind a name, between quotes or bare.
+fn behind_name<'a>(word: &[u8], octets: &'a [u8]) -> Option<&'a [u8]>
+    ensures { option_map (λ t. t.now) result ≡ behind_name_spec word.now octets.now }
+{
+    match behind_quoted(b"\"", word, octets) {
+        Some(end) => Some(end),
+        None => behind_other(word, octets),
+    }
+}
+
 // What stands behind the header of an array of tables, where a line begins with it.
 fn behind_header<'a>(array: &[u8], line: &'a [u8]) -> Option<&'a [u8]>
     ensures { option_map (λ t. t.now) result ≡ behind_header_spec array.now line.now }
 {
     let name = behind_blanks(b"[[", line)?;
-    let end = behind_blanks(array, name)?;
+    let end = behind_name(array, name)?;
     behind_blanks(b"]]", end)
 }
 
@@ -73,7 +109,7 @@ fn behind_header<'a>(array: &[u8], line: &'a [u8]) -> Option<&'a [u8]>
 fn behind_key<'a>(word: &[u8], line: &'a [u8]) -> Option<&'a [u8]>
     ensures { option_map (λ t. t.now) result ≡ behind_key_spec word.now line.now }
 {
-    let end = behind_blanks(word, line)?;
+    let end = behind_name(word, line)?;
     behind_blanks(b"=", end)
 }
 
@@ -94,7 +130,7 @@ fn has_item(octets: &[u8]) -> bool
 
 // Whether a line begins with an entry that is written inline.
 fn is_item(array: &[u8], line: &[u8]) -> bool
-    ensures { result ≡ is_of_kind_spec LineKind.Item array.now line.now }
+    ensures { result ≡ begins_with_spec LineKind.Item array.now line.now }
 {
     if has_item(line) {
         return true;
@@ -105,16 +141,62 @@ fn is_item(array: &[u8], line: &[u8]) -> bool
     }
 }
 
+// What stands behind the bracket or the two with which a header begins.
+fn behind_brackets(line: &[u8]) -> Option<&[u8]>
+    ensures { option_map (λ t. t.now) result ≡ behind_brackets_spec line.now }
+{
+    match behind_blanks(b"[[", line) {
+        Some(name) => Some(name),
+        None => behind_blanks(b"[", line),
+    }
+}
+
+// Whether a text begins with one of two signs.
+fn has_sign(sign: &[u8], other: &[u8], octets: &[u8]) -> bool
+    ensures { result ≡ (is_some (behind_blanks_spec sign.now octets.now)
+        || is_some (behind_blanks_spec other.now octets.now)) }
+{
+    behind_blanks(sign, octets).is_some() || behind_blanks(other, octets).is_some()
+}
+
+// Whether a text begins with a name, behind which one of two signs stands.
+fn has_name(word: &[u8], sign: &[u8], other: &[u8], octets: &[u8]) -> bool
+    ensures { result ≡ has_name_spec word.now sign.now other.now octets.now }
+{
+    match behind_name(word, octets) {
+        Some(end) => has_sign(sign, other, end),
+        None => false,
+    }
+}
+
+// Whether a line begins with the header of a table at a key, or of one in it.
+fn is_table(word: &[u8], line: &[u8]) -> bool
+    ensures { result ≡ begins_with_spec LineKind.Table word.now line.now }
+{
+    match behind_brackets(line) {
+        Some(name) => has_name(word, b"]", b".", name),
+        None => false,
+    }
+}
+
 // Whether a line begins so, for an array or a key of this word.
-fn is_of_kind(kind: LineKind, word: &[u8], line: &[u8]) -> bool
-    ensures { result ≡ is_of_kind_spec kind word.now line.now }
+fn begins_with(kind: LineKind, word: &[u8], line: &[u8]) -> bool
+    ensures { result ≡ begins_with_spec kind word.now line.now }
 {
     match kind {
         LineKind::Header => behind_header(word, line).is_some(),
-        LineKind::Key => behind_key(word, line).is_some(),
+        LineKind::Key => has_name(word, b"=", b".", line),
+        LineKind::Table => is_table(word, line),
         LineKind::Opening => behind_opening(word, line).is_some(),
         LineKind::Item => is_item(word, line),
     }
+}
+
+// Whether it does without the byte order mark, which the first line of a file may have in front.
+fn is_of_kind(kind: LineKind, word: &[u8], line: &[u8]) -> bool
+    ensures { result ≡ is_of_kind_spec kind word.now line.now }
+{
+    begins_with(kind, word, &line[mark_length(line)..])
 }
 
 // The end of the line that begins at a place.

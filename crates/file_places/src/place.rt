@@ -74,8 +74,8 @@ fn spot_of(octets: &[u8], end: usize) -> Spot
 /// The byte order mark, which an editor may write before a text and doesn't show.
 const MARK: [u8; 3] = [239, 187, 191];
 
-// How many octets the byte order mark has, where there is one.
-fn mark_length(octets: &[u8]) -> usize
+/// How many octets the byte order mark has, where there is one.
+pub(crate) fn mark_length(octets: &[u8]) -> usize
     ensures length { result ≡ mark_length_spec octets.now }
     ensures within { result ≤ length octets.now }
 {

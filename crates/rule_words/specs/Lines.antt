@@ -4,6 +4,7 @@ use Rattle.std.specs.Fmt.{decimal}
 use Rattle.srp_base.specs.Text.{whole_of}
 use Rattle.toml.specs.Data.{Data, Members, get_member, at, as_table}
 use Rattle.toml_rules.specs.Fields.{◌>>=◌, text}
+use Rattle.file_places.specs.Entries.{entry_line as begin_line, line_of_entry}
 use Rattle.rule_words.specs.declared.{kinds.FileKind.FileKind, keys.Key.Key}
 use Rattle.rule_words.specs.{Asked.what_rule_asks, Keys.word_of, Values.quoted, Values.value_words}
 
@@ -32,6 +33,15 @@ there_words key (Some d) = whole_of (word_of key ∷ codes " = " ∷ value_words
 
 abbrev pub there_line : Members → Key → List ℕ
 there_line ms key = whole_of (codes "there: " ∷ there_words key (get_member (word_of key) ms) ∷ codes "\n" ∷ [])
+
+-- `line: N`, where it is known in which line an entry begins
+abbrev pub line_words : Option ℕ → List ℕ
+line_words None = []
+line_words (Some n) = begin_line n
+
+-- of the entry of this number of an array, in a file of these octets
+abbrev pub line_at : Key → ℕ → List ℕ → List ℕ
+line_at array entry octets = line_words (line_of_entry (word_of array) entry octets)
 
 -- the table that is the entry of this number, from 1 on, of an array
 abbrev pub entry_of : Key → ℕ → Members → Option Members

@@ -1,9 +1,37 @@
--- The listeners of a plan's stream that aren't stations, are its talker, or stand twice.
-use Rattle.std.specs.Prelude.{ℕ, ◌==◌, Bool, if◌then◌else◌, List, [], ◌∷◌, ◌++◌, codes, count_by, Option, Some, None}
+-- The listeners of a plan's stream that aren't names, aren't stations, are its talker, or stand
+-- twice.
+use Rattle.std.specs.Prelude.{ℕ, ◌+◌, ◌==◌, Bool, if◌then◌else◌, List, [], ◌∷◌, ◌++◌, codes, count_by, Option, Some, None}
+use Rattle.std.specs.Fmt.{decimal}
 use Rattle.srp_base.specs.Text.{whole_of}
 use Rattle.toml.specs.Data.{Data, array, Items, no_items, item, Members, get_member, as_str}
 use Rattle.toml_rules.specs.Fields.{text}
-use Rattle.rule_words.specs.{Alike.is_same_text, Named.quoted_end, Named.station_line}
+use Rattle.rule_words.specs.{Alike.is_same_text, Forms.is_name_data, Named.quoted_end, Named.station_line, Values.value_words}
+
+-- ---- names
+
+-- a listener by its number
+abbrev pub listener_words : ℕ → List ℕ
+listener_words n = whole_of (codes "other: value " ∷ decimal n ∷ codes " of its listeners is " ∷ [])
+
+-- `other: value 2 of its listeners is 7`
+abbrev pub nameless_line : ℕ → Data → List ℕ
+nameless_line n d = whole_of (listener_words n ∷ value_words d ∷ codes "\n" ∷ [])
+
+-- of the first of these items that isn't a name; the first of them is of number n
+abbrev pub nameless_of_items : ℕ → Items → List ℕ
+nameless_of_items n no_items = []
+nameless_of_items n (item d ds) = if is_name_data d then nameless_of_items (n + 1) ds else nameless_line n d
+
+-- of an array
+abbrev pub nameless_of_data : Option Data → List ℕ
+nameless_of_data (Some (array ds)) = nameless_of_items 1 ds
+nameless_of_data _ = []
+
+-- of a stream
+abbrev pub nameless_lines : Members → List ℕ
+nameless_lines e = nameless_of_data (get_member (codes "listeners") e)
+
+-- ---- stations
 
 -- `other: "x" is its talker`
 abbrev pub talks_line : List ℕ → List ℕ

@@ -9,7 +9,7 @@ use Rattle.toml_rules.specs.Fields.{◌>>=◌, number, number_or, text}
 use Rattle.topology_file.specs.{Frames.count_at, Frames.last_copy, Frames.run_end, Scenario.ticks_at}
 use Rattle.rule_words.specs.declared.{lines.Broken.Broken, keys.Key.Key}
 use Rattle.rule_words.specs.declared.keys.Key.TheVariants.{Nodes, Links, Streams, Events, Frames, Wants, Ticks, PortRate, Tick}
-use Rattle.rule_words.specs.{Alike.alike_words, Alike.earlier_alike, Alike.is_same_text, Asked.array_of, Joined.all_ends, Joined.ends_at, Joined.joined_line, Keys.word_of, Lines.entry_of, Lines.name_words, Lines.there_words, Matters.keys_asked, Named.first_called, Listeners.listeners_of, Named.is_called, Named.name_lines, Search.entries_of, Search.first_entry}
+use Rattle.rule_words.specs.{Alike.alike_words, Alike.earlier_alike, Alike.is_same_text, Asked.array_of, Joined.all_ends, Joined.ends_at, Joined.joined_line, Keys.word_of, Lines.entry_of, Lines.line_at, Lines.name_words, Lines.there_words, Matters.keys_asked, Named.first_called, Listeners.listeners_of, Listeners.nameless_lines, Named.is_called, Named.name_lines, Search.entries_of, Search.first_entry}
 
 -- ---- an entry by its number
 
@@ -110,18 +110,18 @@ first_with word entries = first_entry (λ n x. has_key word x) entries
 abbrev pub misplaced_words : Key → List ℕ
 misplaced_words key = whole_of (codes " has " ∷ word_of key ∷ codes ": a key behind a line [[..]] belongs to that entry\n" ∷ [])
 
--- of an entry that has a key of the file
-abbrev pub misplaced_line : Key → Key → Members → Option ℕ → List ℕ
-misplaced_line key array ms None = []
-misplaced_line key array ms (Some n) = numbered_words array n ms ++ misplaced_words key
+-- of an entry that has a key of the file, with the line in which it begins
+abbrev pub misplaced_line : Key → Key → Members → List ℕ → Option ℕ → List ℕ
+misplaced_line key array ms octets None = []
+misplaced_line key array ms octets (Some n) = numbered_words array n ms ++ misplaced_words key ++ line_at array n octets
 
 -- of the first entry of each of these arrays that has it
-abbrev pub misplaced_in : Key → Members → Key → List ℕ
-misplaced_in key ms array = misplaced_line key array ms (first_with (word_of key) (entries_of array ms))
+abbrev pub misplaced_in : Key → Members → List ℕ → Key → List ℕ
+misplaced_in key ms octets array = misplaced_line key array ms octets (first_with (word_of key) (entries_of array ms))
 
 -- where the file doesn't have it itself
-abbrev pub misplaced_lines : Key → Members → List Key → List ℕ
-misplaced_lines key ms arrays = if has_key (word_of key) ms then [] else flat_map (misplaced_in key ms) arrays
+abbrev pub misplaced_lines : Key → Members → List ℕ → List Key → List ℕ
+misplaced_lines key ms octets arrays = if has_key (word_of key) ms then [] else flat_map (misplaced_in key ms octets) arrays
 
 -- words of an entry that has a key
 abbrev pub if_has : List ℕ → Members → List ℕ → List ℕ
@@ -213,9 +213,22 @@ numbers_words name n [] = []
 numbers_words name n (l ∷ ls) = number_words name n l ++ numbers_words name (n + 1) ls
 
 -- `other: its links are [[link]] 1 3`
-abbrev pub links_line : List Members → Option (List ℕ) → List ℕ
-links_line links None = []
-links_line links (Some name) = whole_of (codes "other: its links are [[link]]" ∷ numbers_words name 1 links ∷ codes "\n" ∷ [])
+abbrev pub links_line : List Members → List ℕ → List ℕ
+links_line links name = whole_of (codes "other: its links are [[link]]" ∷ numbers_words name 1 links ∷ codes "\n" ∷ [])
+
+-- the line in which a link begins, where it has such an end
+abbrev pub link_begin : List ℕ → List ℕ → ℕ → Members → List ℕ
+link_begin octets name n l = if has_end name l then line_at Links n octets else []
+
+-- those of these links, the first of them of number n
+abbrev pub link_begins : List ℕ → List ℕ → ℕ → List Members → List ℕ
+link_begins octets name n [] = []
+link_begins octets name n (l ∷ ls) = link_begin octets name n l ++ link_begins octets name (n + 1) ls
+
+-- the links of a station of this name, and the lines in which they begin
+abbrev pub links_lines : List ℕ → List Members → Option (List ℕ) → List ℕ
+links_lines octets links None = []
+links_lines octets links (Some name) = links_line links name ++ link_begins octets name 1 links
 
 -- ---- the links that join the nodes of a link already
 
@@ -229,41 +242,43 @@ already_line n ms e = joined_before n (entries_of Nodes ms) (entries_of Links ms
 
 -- ---- which rules have another side
 
--- of an entry that breaks a rule
-abbrev pub others_at : Broken → Key → Members → Members → List ℕ
-others_at broken array ms e =
+-- of an entry that breaks a rule, in a file of these members and these octets
+abbrev pub others_at : Broken → Key → Members → List ℕ → Members → List ℕ
+others_at broken array ms octets e =
     let rule = broken.rule in
     if rule == 6 || rule == 7 || rule == 11 || rule == 17 || rule == 18 || rule == 52 then earlier_line rule array broken.entry ms e
     else if rule == 9 || rule == 19 || rule == 24 then unknown_lines broken ms e
     else if rule == 12 then already_line broken.entry ms e
-    else if rule == 14 then links_line (entries_of Links ms) (text (codes "name") e)
+    else if rule == 14 then links_lines octets (entries_of Links ms) (text (codes "name") e)
     else if rule == 16 then stream_lines e
     else if rule == 20 || rule == 41 then past_line ms e
     else if rule == 21 || rule == 34 || rule == 42 then before_line array broken.entry ms
     else if rule == 22 || rule == 43 then event_lines broken ms e
     else if rule == 23 then copy_line ms e
     else if rule == 33 then want_lines e
+    else if rule == 51 then nameless_lines e
     else if rule == 53 then plan_stream_lines broken ms e
     else []
 
 -- where the entry is there
-abbrev pub others_of_entry : Broken → Key → Members → Option Members → List ℕ
-others_of_entry broken array ms None = []
-others_of_entry broken array ms (Some e) = others_at broken array ms e
+abbrev pub others_of_entry : Broken → Key → Members → List ℕ → Option Members → List ℕ
+others_of_entry broken array ms octets None = []
+others_of_entry broken array ms octets (Some e) = others_at broken array ms octets e
 
 -- the entry of the array of which a rule speaks
-abbrev pub others_in_array : Broken → Members → Option Key → List ℕ
-others_in_array broken ms None = []
-others_in_array broken ms (Some array) = others_of_entry broken array ms (entry_of array broken.entry ms)
+abbrev pub others_in_array : Broken → Members → List ℕ → Option Key → List ℕ
+others_in_array broken ms octets None = []
+others_in_array broken ms octets (Some array) = others_of_entry broken array ms octets (entry_of array broken.entry ms)
 
 -- of a file as a whole
-abbrev pub others_of_file : ℕ → Members → List ℕ
-others_of_file rule ms =
-    if rule == 1 then misplaced_lines Ticks ms (Nodes ∷ Links ∷ Streams ∷ Events ∷ Frames ∷ [])
-    else if rule == 31 then misplaced_lines PortRate ms (Wants ∷ [])
+abbrev pub others_of_file : ℕ → Members → List ℕ → List ℕ
+others_of_file rule ms octets =
+    if rule == 1 then misplaced_lines Ticks ms octets (Nodes ∷ Links ∷ Streams ∷ Events ∷ Frames ∷ [])
+    else if rule == 31 then misplaced_lines PortRate ms octets (Wants ∷ [])
     else []
 
 -- the other side of a refusal, where there is one
-abbrev pub other_lines : Broken → Members → List ℕ
-other_lines broken ms =
-    if broken.entry == 0 then others_of_file broken.rule ms else others_in_array broken ms (array_of broken.rule)
+abbrev pub other_lines : Broken → Members → List ℕ → List ℕ
+other_lines broken ms octets =
+    if broken.entry == 0 then others_of_file broken.rule ms octets
+    else others_in_array broken ms octets (array_of broken.rule)

@@ -6,16 +6,11 @@ use Rattle.std.specs.Prelude.{ℕ, Bool, ◌==◌, if◌then◌else◌, List, []
 use Rattle.std.specs.Option.{option_or}
 use Rattle.srp_base.specs.Text.{whole_of}
 use Rattle.toml.specs.Data.{Members}
-use Rattle.file_places.specs.Entries.{entry_line as begin_line, line_of_entry, line_of_key}
+use Rattle.file_places.specs.Entries.{line_of_key}
 use Rattle.rule_words.specs.declared.{kinds.FileKind.FileKind, lines.Broken.Broken, keys.Key.Key, tables.TableForm.TableForm}
-use Rattle.rule_words.specs.{Asked.array_of, Faults.stray_key, Faults.wrong_key, Forms.form_words, Keys.word_of, Keys.form_of, Lines.asks_line, Lines.entry_line, Lines.entry_of, Lines.rule_line, Lines.there_line, Matters.has_domains, Matters.form_asked, Matters.keys_asked, Others.other_lines, Tables.keys_of, Tables.keys_together, Values.quoted}
+use Rattle.rule_words.specs.{Asked.array_of, Faults.stray_key, Faults.wrong_key, Forms.form_words, Keys.word_of, Keys.form_of, Lines.asks_line, Lines.entry_line, Lines.entry_of, Lines.line_at, Lines.line_words, Lines.rule_line, Lines.there_line, Matters.has_domains, Matters.form_asked, Matters.keys_asked, Others.other_lines, Tables.keys_of, Tables.keys_together, Values.quoted}
 
 -- ---- lines
-
--- `line: N`, where it is known in which line an entry begins
-abbrev pub line_words : Option ℕ → List ℕ
-line_words None = []
-line_words (Some n) = begin_line n
 
 -- `key: rate has to be 100, 1000 or 10000`
 abbrev pub wrong_line : Key → List ℕ
@@ -88,7 +83,7 @@ file_lines broken domains ms octets = fault_line broken domains ms octets ++ tab
 abbrev pub lines_of_entry : Broken → Bool → Key → List ℕ → Option Members → List ℕ
 lines_of_entry broken domains array octets None = []
 lines_of_entry broken domains array octets (Some ms) = whole_of (
-    entry_line array broken.entry ms ∷ line_words (line_of_entry (word_of array) broken.entry octets)
+    entry_line array broken.entry ms ∷ line_at array broken.entry octets
     ∷ table_lines broken domains ms ∷ [])
 
 -- the entry of the array of which a rule speaks
@@ -106,7 +101,7 @@ place_lines broken ms octets =
 -- what is said of the first rule that a file of these members and these octets breaks
 abbrev pub broken_text : Broken → Members → List ℕ → List ℕ
 broken_text broken ms octets = whole_of (
-    rule_line broken.rule broken.entry ∷ asks_line broken.kind broken.rule ∷ place_lines broken ms octets ∷ other_lines broken ms ∷ [])
+    rule_line broken.rule broken.entry ∷ asks_line broken.kind broken.rule ∷ place_lines broken ms octets ∷ other_lines broken ms octets ∷ [])
 
 -- what is said of a rule that a file of this kind, with these members and these octets, breaks
 -- first at this entry

@@ -5,7 +5,7 @@ ghost use Rattle.toml.specs.Data.{get_member};
 ghost use Rattle.toml.specs.View.{table_view, view};
 ghost use Rattle.toml_rules.specs.Fields.{text as text_spec};
 ghost use Rattle.rule_words.specs.Keys.{word_of as word_of_spec};
-ghost use Rattle.rule_words.specs.Lines.{rule_line, asks_line, name_words, entry_line, there_words, there_line, entry_of as entry_of_spec};
+ghost use Rattle.rule_words.specs.Lines.{rule_line, asks_line, name_words, entry_line, there_words, there_line, line_at, entry_of as entry_of_spec};
 ghost use Rattle.rule_words.specs.Values.{quoted};
 
 use crate::asked::what_rule_asks;
@@ -13,6 +13,7 @@ use crate::keys::{Key, word_of};
 use crate::kinds::FileKind;
 use crate::pieces::{put, put_number};
 use crate::values::{put_quoted, put_value};
+use file_places::{line_of_entry, put_line};
 use srp_base::NoMemory;
 use std::alloc::AllocError;
 use toml::{Table, Value};
@@ -133,6 +134,22 @@ pub(crate) fn put_each_there(out: &mut Vec<u8>, table: &Table, keys: &[Key]) -> 
         put_there(out, table, *key)?;
     }
     Ok(())
+}
+
+/// The line in which the entry of this number of an array begins, where it is known.
+pub(crate) fn put_line_at(
+    out: &mut Vec<u8>,
+    array: Key,
+    entry: usize,
+    octets: &[u8],
+) -> Result<(), NoMemory>
+    ensures { OnOk result (out.new.items ≡ out.old.items ++ line_at array entry octets.now) }
+{
+    let alloc = *out.allocator();
+    match line_of_entry(alloc, octets, word_of(array), entry)? {
+        Some(line) => put_line(out, line),
+        None => Ok(()),
+    }
 }
 
 /// The table that is the entry of this number of an array.

@@ -1,10 +1,11 @@
-//! The listeners of a plan's stream that aren't stations, are its talker, or stand twice.
+//! The listeners of a plan's stream that aren't names, aren't stations, are its talker, or stand
+//! twice.
 
 ghost use Rattle.std.specs.Prelude.{◌≡◌, ◌++◌, map, [], codes, count_by, Some, OnOk};
 ghost use Rattle.std.specs.Option.{option_copied};
 ghost use Rattle.toml.specs.Data.{as_str, get_member};
 ghost use Rattle.toml.specs.View.{items_view, table_view, view};
-ghost use Rattle.rule_words.specs.Listeners.{is_second_line, is_talker_line, is_text as is_text_spec, line_of_listener, lines_of_data, lines_of_items, listener_line, listeners_of, talks_line, twice_line};
+ghost use Rattle.rule_words.specs.Listeners.{is_second_line, is_talker_line, is_text as is_text_spec, line_of_listener, lines_of_data, lines_of_items, listener_line, listener_words, listeners_of, nameless_line, nameless_lines, nameless_of_data, nameless_of_items, talks_line, twice_line};
 ghost use Rattle.rule_words.specs.Others.{listeners_lines, plan_stream_lines};
 
 use crate::alike::is_same_text;
@@ -12,11 +13,68 @@ use crate::events::put_unknown;
 use crate::keys::Key;
 use crate::lines::Broken;
 use crate::named::{put_quoted_end, put_station};
+use crate::names::gives_name;
 use crate::pieces::put;
 use crate::search::entries_of;
+use crate::values::put_value;
 use srp_base::NoMemory;
+use std::alloc::AllocError;
 use toml::{Table, Value};
 use toml_rules::{text, value_at};
+
+// A listener by its number.
+fn put_listener_number(out: &mut Vec<u8>, number: u64) -> Result<(), AllocError>
+    ensures { OnOk result (out.new.items ≡ out.old.items ++ listener_words number) }
+{
+    let alloc = *out.allocator();
+    let words = format!(in alloc; "other: value {number} of its listeners is ")?;
+    put(out, &words)
+}
+
+// A value of a number that isn't a name.
+fn put_nameless_value(out: &mut Vec<u8>, number: u64, value: &Value) -> Result<(), NoMemory>
+    ensures { OnOk result (out.new.items
+        ≡ out.old.items ++ nameless_line number (view value.now)) }
+{
+    put_listener_number(out, number)?;
+    put_value(out, value)?;
+    Ok(put(out, "\n")?)
+}
+
+// The first of these values that isn't one.
+fn put_first_nameless(out: &mut Vec<u8>, values: &[Value]) -> Result<(), NoMemory>
+    ensures { OnOk result (out.new.items
+        ≡ out.old.items ++ nameless_of_items 1 (items_view values.now)) }
+{
+    for i in 0..values.len() {
+        if !gives_name(&values[i]) {
+            return put_nameless_value(out, i as u64 + 1, &values[i]);
+        }
+    }
+    Ok(())
+}
+
+// That of an array.
+fn put_nameless_in(out: &mut Vec<u8>, value: &Value) -> Result<(), NoMemory>
+    ensures { OnOk result (out.new.items
+        ≡ out.old.items ++ nameless_of_data (Some (view value.now))) }
+{
+    match value {
+        Value::Array(values) => put_first_nameless(out, values.as_slice()),
+        _ => Ok(()),
+    }
+}
+
+/// The first of the listeners of a plan's stream that isn't a name.
+pub(crate) fn put_nameless(out: &mut Vec<u8>, stream: &Table) -> Result<(), NoMemory>
+    ensures { OnOk result (out.new.items
+        ≡ out.old.items ++ nameless_lines (table_view stream.now)) }
+{
+    match value_at(stream, "listeners") {
+        Some(value) => put_nameless_in(out, value),
+        None => Ok(()),
+    }
+}
 
 // A listener that is the talker.
 fn put_talks(out: &mut Vec<u8>, name: &str) -> Result<(), NoMemory>

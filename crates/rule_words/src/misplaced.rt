@@ -7,6 +7,7 @@ ghost use Rattle.rule_words.specs.Others.{first_with as first_with_spec, has_key
 ghost use Rattle.rule_words.specs.Search.{entries_of as entries_of_spec};
 
 use crate::keys::{Key, word_of};
+use crate::lines::put_line_at;
 use crate::numbered::put_numbered;
 use crate::pieces::put;
 use crate::search::{entries_of, first_entry};
@@ -39,31 +40,39 @@ fn put_misplaced(out: &mut Vec<u8>, key: Key) -> Result<(), AllocError>
     put(out, ": a key behind a line [[..]] belongs to that entry\n")
 }
 
-// An entry that has a key of the file.
+// An entry that has a key of the file, and the line in which it begins.
 fn put_misplaced_at(
     out: &mut Vec<u8>,
     key: Key,
     array: Key,
     number: usize,
     table: &Table,
+    octets: &[u8],
 ) -> Result<(), NoMemory>
     requires { 1 ≤ number }
     ensures { OnOk result (out.new.items ≡ out.old.items
-        ++ misplaced_line key array (table_view table.now) (Some number)) }
+        ++ misplaced_line key array (table_view table.now) octets.now (Some number)) }
 {
     put_numbered(out, array, number, table)?;
-    Ok(put_misplaced(out, key)?)
+    put_misplaced(out, key)?;
+    put_line_at(out, array, number, octets)
 }
 
 // The first entry of an array that has it.
-fn put_misplaced_in(out: &mut Vec<u8>, key: Key, table: &Table, array: Key) -> Result<(), NoMemory>
+fn put_misplaced_in(
+    out: &mut Vec<u8>,
+    key: Key,
+    table: &Table,
+    octets: &[u8],
+    array: Key,
+) -> Result<(), NoMemory>
     ensures { OnOk result (out.new.items ≡ out.old.items
-        ++ misplaced_in key (table_view table.now) array) }
+        ++ misplaced_in key (table_view table.now) octets.now array) }
 {
     let alloc = *out.allocator();
     let entries = entries_of(alloc, array, table)?;
     match first_with(word_of(key), &entries) {
-        Some(number) => put_misplaced_at(out, key, array, number, table),
+        Some(number) => put_misplaced_at(out, key, array, number, table, octets),
         None => Ok(()),
     }
 }
@@ -73,32 +82,34 @@ fn put_misplaced_among(
     out: &mut Vec<u8>,
     key: Key,
     table: &Table,
+    octets: &[u8],
     arrays: &[Key],
 ) -> Result<(), NoMemory>
     ensures { OnOk result (out.new.items ≡ out.old.items
-        ++ flat_map (misplaced_in key (table_view table.now)) arrays.now) }
+        ++ flat_map (misplaced_in key (table_view table.now) octets.now) arrays.now) }
 {
     for array in arrays {
-        put_misplaced_in(out, key, table, *array)?;
+        put_misplaced_in(out, key, table, octets, *array)?;
     }
     Ok(())
 }
 
 /// The first entry of each of these arrays that has a key of the file, where the file doesn't have
-/// it itself.
+/// it itself, with the line in which that entry begins.
 pub(crate) fn put_all_misplaced(
     out: &mut Vec<u8>,
     key: Key,
     table: &Table,
+    octets: &[u8],
     arrays: &[Key],
 ) -> Result<(), NoMemory>
     ensures { OnOk result (out.new.items ≡ out.old.items
-        ++ misplaced_lines key (table_view table.now) arrays.now) }
+        ++ misplaced_lines key (table_view table.now) octets.now arrays.now) }
 {
     if has_key(word_of(key), table) {
         Ok(())
     } else {
-        put_misplaced_among(out, key, table, arrays)
+        put_misplaced_among(out, key, table, octets, arrays)
     }
 }
 

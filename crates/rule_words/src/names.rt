@@ -31,8 +31,8 @@ fn is_name(word: &[u8]) -> bool
     1 <= word.len() && word.len() <= 32 && has_name_chars(word)
 }
 
-// Whether a value gives a name.
-fn gives_name(value: &Value) -> bool
+/// Whether a value gives a name.
+pub(crate) fn gives_name(value: &Value) -> bool
     ensures { result ≡ is_name_data (view value.now) }
 {
     match value.as_str() {

@@ -3,27 +3,29 @@
 ghost use Rattle.std.specs.Prelude.{◌≡◌, ◌≤◌, ◌++◌, flat_map, option_map, option_and_then, Some, IfOk, OnOk};
 ghost use Rattle.std.specs.Option.{option_copied, option_or};
 ghost use Rattle.toml.specs.View.{table_view};
-ghost use Rattle.file_places.specs.Entries.{line_of_entry as line_of_entry_spec, line_of_key as line_of_key_spec};
+ghost use Rattle.file_places.specs.Entries.{line_of_key as line_of_key_spec};
 ghost use Rattle.rule_words.specs.Asked.{array_of as array_of_spec};
 ghost use Rattle.rule_words.specs.Faults.{stray_key as stray_key_spec, wrong_key as wrong_key_spec};
 ghost use Rattle.rule_words.specs.Keys.{word_of as word_of_spec};
-ghost use Rattle.rule_words.specs.Lines.{there_line, entry_of as entry_of_spec};
+ghost use Rattle.rule_words.specs.Lines.{line_words, there_line, entry_of as entry_of_spec};
 ghost use Rattle.rule_words.specs.Matters.{form_asked as form_asked_spec};
 ghost use Rattle.rule_words.specs.Tables.{keys_of as keys_of_spec};
-ghost use Rattle.rule_words.specs.Refusal.{line_words, broken_text, fault_line, file_lines, first_word as first_word_spec, word_at_fault as word_at_fault_spec, wrong_line, listed, stray_words, known_words, unknown_line, value_lines, fault_lines, table_lines, lines_of_entry, lines_in_array, place_lines, refusal_text as refusal_text_spec};
+ghost use Rattle.rule_words.specs.Refusal.{broken_text, fault_line, file_lines, first_word as first_word_spec, word_at_fault as word_at_fault_spec, wrong_line, listed, stray_words, known_words, unknown_line, value_lines, fault_lines, table_lines, lines_of_entry, lines_in_array, place_lines, refusal_text as refusal_text_spec};
 
 use crate::asked::array_of;
 use crate::faults::{unknown_key, wrong_key};
 use crate::forms::put_form;
 use crate::keys::{Key, form_of, word_of};
 use crate::kinds::FileKind;
-use crate::lines::{Broken, entry_of, put_asks, put_each_there, put_entry, put_rule, put_there};
+use crate::lines::{
+    Broken, entry_of, put_asks, put_each_there, put_entry, put_line_at, put_rule, put_there,
+};
 use crate::matters::{form_asked, has_domains, keys_asked};
 use crate::others::put_others;
 use crate::pieces::put;
 use crate::tables::{TableForm, is_closed, keys_of, keys_together};
 use crate::values::put_quoted;
-use file_places::{line_of_entry, line_of_key, put_line};
+use file_places::{line_of_key, put_line};
 use srp_base::NoMemory;
 use std::alloc::{AllocError, Global};
 use toml::Table;
@@ -141,18 +143,6 @@ fn put_table(
     }
 }
 
-// The line in which an entry begins, where it is known.
-fn put_line_of(out: &mut Vec<u8>, array: Key, entry: u32, octets: &[u8]) -> Result<(), NoMemory>
-    ensures { OnOk result (out.new.items
-        ≡ out.old.items ++ line_words (line_of_entry_spec (word_of_spec array) entry octets.now)) }
-{
-    let alloc = *out.allocator();
-    match line_of_entry(alloc, octets, word_of(array), entry as usize)? {
-        Some(line) => put_line(out, line),
-        None => Ok(()),
-    }
-}
-
 // An entry with the line in which it begins, and what is wrong at it.
 fn put_entry_and_table(
     out: &mut Vec<u8>,
@@ -166,7 +156,7 @@ fn put_entry_and_table(
         ++ lines_of_entry broken domains array octets.now (Some (table_view table.now))) }
 {
     put_entry(out, array, broken.entry, table)?;
-    put_line_of(out, array, broken.entry, octets)?;
+    put_line_at(out, array, broken.entry as usize, octets)?;
     put_table(out, broken, domains, table)
 }
 
@@ -340,7 +330,7 @@ fn put_refusal(
     put_rule(out, broken)?;
     put_asks(out, broken)?;
     put_place(out, broken, table, octets)?;
-    put_others(out, broken, table)
+    put_others(out, broken, table, octets)
 }
 
 /// What is said of a rule that a file of this kind breaks first at this entry: what the rule asks,
