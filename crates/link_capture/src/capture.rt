@@ -35,6 +35,10 @@ fn tick_at(ticks: &[Tick], t: u64) -> &Tick
 /// carried, 10,000,000 ns a tick; in a tick those of end `a` stand first. A PDU that is lost on its
 /// way is there, and what comes in a second time or is forged isn't: no end sent it.
 ///
+/// The scenario has a link of that number, from 1 in the order of its file. The ticks of the run are
+/// legal ones of the scenario, from its start to the run's network (`AreLegalTicks`), as those of
+/// every run are that `srp_schedule` or `port_worker` makes of it.
+///
 /// What is read of the file is the law `what_is_captured_is_read`.
 ///
 /// # Errors

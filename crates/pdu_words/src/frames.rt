@@ -19,7 +19,12 @@ use std::fmt::Write;
 /// frames from 1, when it was captured, its source address and its application, and then what
 /// `decoded_text` has of its PDU; or that the capture has cut it. Then the offset at which the file
 /// breaks off, if it does, and how many frames are MRP's and how many others. Of octets that are no
-/// capture, or that have an interface of a link type whose frames aren't read, a line says so.
+/// capture, or that have an interface of a link type whose frames aren't read, a line says so. The
+/// file has fewer than 2^32 octets.
+///
+/// # Errors
+///
+/// `NoMemory` where memory runs out.
 pub fn captured_text(alloc: Global, file: &[u8]) -> Result<String, NoMemory>
     requires { length file.now < 2 ^ 32 }
     ensures { IfOk result (λ text. string_bytes text ≡ captured_text_spec file.now) }

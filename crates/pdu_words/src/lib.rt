@@ -19,11 +19,11 @@
 //! (`specs/Capture`). Lines with offsets are a hex dump, and one PDU; of a dump of a whole frame it is
 //! what stands behind the EtherType (`specs/Dump`). A file that is no text of octets has one line
 //! that says so (`specs/TextFile`). What octets say is the reading of mvrp_codec, msrp_codec or
-//! mmrp_codec and nothing else (`specs/Decoded`): the laws of those crates join it with the grammar. `specs/Events` has each
-//! printed line once. `decoded_text` has what is said of a whole text as its contract, and
-//! `captured_text` that of a whole capture file, by the readings of capture_file and mrp_frames
-//! (`specs/Captured`): behind where a PDU was found both say the very same of it, as the laws
-//! `a_frame_says_what_its_line_says` and `a_dump_says_what_its_frame_says` have it.
+//! mmrp_codec and nothing else (`specs/Decoded`): the laws of those crates join it with the grammar.
+//! `specs/Events` has each printed line once. `decoded_text` has what is said of a whole text as its
+//! contract, and `captured_text` that of a whole capture file, by the readings of capture_file and
+//! mrp_frames (`specs/Captured`): behind where a PDU was found both say the very same of it, as the
+//! laws `a_frame_says_what_its_line_says` and `a_dump_says_what_its_frame_says` have it.
 //!
 //! Who prints these words in lines of its own, as a replay of a link does, calls `app_name` and the
 //! writers of keys, contents, and of what is malformed, cut or breaks off.

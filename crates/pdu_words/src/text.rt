@@ -22,7 +22,11 @@ use std::fmt::Write;
 /// or that it has no octets. An empty line and a line that begins with `#` say nothing. Lines with
 /// offsets in front, the first of them 0, are a hex dump: one PDU, said at its first line, or a
 /// frame of Ethernet that has it behind its EtherType. Of a file that is no text, or that has
-/// neither a line of octets nor a dump, one line says so.
+/// neither a line of octets nor a dump, one line says so. The capture has fewer than 2^32 octets.
+///
+/// # Errors
+///
+/// `NoMemory` where memory runs out.
 pub fn decoded_text(alloc: Global, form: AppForm, capture: &[u8]) -> Result<String, NoMemory>
     requires { length capture.now < 2 ^ 32 }
     ensures { IfOk result (λ text. string_bytes text ≡ decoded_text_spec form capture.now) }
