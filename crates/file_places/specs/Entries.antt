@@ -66,7 +66,8 @@ abbrev pub if_key_begun : List ℕ → List ℕ → Option ℕ → Option ℕ
 if_key_begun word octets None = None
 if_key_begun word octets (Some n) = if is_key_begun word octets n then Some n else None
 
--- The line in which a key of the file stands first: its own, or that of the first header that has it
+-- The line in which a key of the file stands first: its own, or that of the first header that has
+-- it
 abbrev pub line_of_key : List ℕ → List ℕ → Option ℕ
 line_of_key word octets =
     option_or (if_key_begun word octets (numbered_line kinds.Key word 1 octets))

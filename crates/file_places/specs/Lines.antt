@@ -96,10 +96,10 @@ abbrev pub has_name : List ℕ → List ℕ → List ℕ → List ℕ → Bool
 has_name word sign other octets =
     option_map_or (λ end. is_some (behind_blanks sign end) || is_some (behind_blanks other end)) (behind_name word octets) false
 
--- whether a line begins so, for an array or a key of this word: with the header of an entry; with the
--- key, or the first name of a dotted one; with the header of the key's table, or of one in it; with the
--- key and the bracket behind it; or with an entry that is written inline, behind the bracket or by
--- itself
+-- whether a line begins so, for an array or a key of this word: with the header of an entry; with
+-- the key, or the first name of a dotted one; with the header of the key's table, or of one in it;
+-- with the key and the bracket behind it; or with an entry that is written inline, behind the
+-- bracket or by itself
 abbrev pub begins_with : LineKind → List ℕ → List ℕ → Bool
 begins_with Header word line = is_some (behind_header word line)
 begins_with Key word line = has_name word (codes "=") (codes ".") line

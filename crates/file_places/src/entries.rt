@@ -211,9 +211,9 @@ fn if_key_begun(
 }
 
 /// The line in which a key of the file stands first, counted from 1: its own, or that of the first
-/// header that has it, where the lines up to it are a TOML document that has the key, and those before it
-/// aren't, either with the bracket that closes an array where that is open; None where it isn't so.
-/// It reads eight documents at most.
+/// header that has it, where the lines up to it are a TOML document that has the key, and those
+/// before it aren't, either with the bracket that closes an array where that is open; None where it
+/// isn't so. It reads eight documents at most.
 pub fn line_of_key(alloc: Global, octets: &[u8], word: &str) -> Result<Option<usize>, NoMemory>
     ensures { IfOk result (λ line. line ≡ line_of_key_spec word.now octets.now) }
 {

@@ -29,9 +29,9 @@
 //! entries, and those before it one in which it has one entry less (`specs/Entries.antt`): a line that
 //! only looks like one, as in a text of several lines, isn't taken for it. Lines that end within an
 //! array are a document with the bracket that closes it. So it is with the line of a key of the file.
-//! A name stands bare or between quotes of either kind, and in front of the first line there may be a
-//! byte order mark, which toml's reader passes over. No line is told of the second of several entries
-//! that stand in one line, nor of a name that is written with an escape (`"n\u006fde"`).
+//! A name stands bare or between quotes of either kind, and in front of the first line there may be
+//! a byte order mark, which toml's reader passes over. No line is told of the second of several
+//! entries that stand in one line, nor of a name that is written with an escape (`"n\u006fde"`).
 //!
 //! A further word of a place is a field of `Place` with a line of `IsPlaceOf`, and a piece of
 //! `place_line`. A further spelling of a line is a variant of `LineKind` with its case in
