@@ -138,6 +138,9 @@ def pdu_of(draws, app, leave_all, events):
             messages.append((kind, len(value), []))
         messages[-1][2].append(vector_of(run, mark))
         last = kind
+    if app == "mmrp" and draws.one_in(5):
+        # a service requirement, of all groups or of those without filters
+        messages.append((1, 1, [b"\0\1" + bytes([draws.below(2)]) + packed([draws.below(6)], 6, 3)]))
     if leave_all and not runs:
         kind, value = {"mvrp": (1, b"\0\1"), "msrp": (3, bytes(8)), "mmrp": (2, bytes(6))}[app]
         messages.append((kind, len(value), [struct.pack(">H", 1 << 13) + value]))
@@ -346,12 +349,14 @@ class Drawn:
         """A PDU that no participant sent: any events of any keys, in any order."""
         draws = self.draws
         keys = [some_key(draws, app) for _ in range(draws.below(8))]
-        events = [(draws.one_of(EVENTS), key, some_content(draws, key)) for key in keys]
+        contents = ["ignored" if key[0] == "listener" and draws.one_in(5) else some_content(draws, key) for key in keys]
+        events = [(draws.one_of(EVENTS), key, content) for key, content in zip(keys, contents)]
         leave_all = not events or draws.one_in(3)
         frame = Frame(name, app, pdu_of(draws, app, leave_all, events), leave_all, events)
         self.captured(frame)
         if draws.one_in(2):
-            self.on_way.append((self.ends[app, other(name)], leave_all, events))
+            said = [event for event in events if event[2] != "ignored"]
+            self.on_way.append((self.ends[app, other(name)], leave_all, said))
 
     def strange(self, app, name):
         """A frame that says nothing of the link's ends."""

@@ -248,8 +248,10 @@ class Link:
             self.broken += 1
             self.lines.append(f"{front} {frame.app} malformed {frame.malformed}")
         else:
-            self.doubles(front, frame.events)
-            self.lines += self.watches[frame.app].says(self.at, who, frame.leave_all, frame.events)
+            # a Listener that is ignored says nothing (35.2.2.7.2)
+            events = [event for event in frame.events if event[2] != "ignored"]
+            self.doubles(front, events)
+            self.lines += self.watches[frame.app].says(self.at, who, frame.leave_all, events)
 
     def doubles(self, front, events):
         """Looks for streams with a Talker Advertise and a Talker Failed in one PDU (35.2.2.8)."""
