@@ -1,9 +1,11 @@
 mod Lists
 mod TurnLemmas
+mod BegunLemmas
 mod CrossingLemmas
 mod WorkedLemmas
 mod MarkLemmas
 mod GatherLemmas
-mod GroupLemmas
+mod NumberedLemmas
+mod WorkingLemmas
 mod TickLemmas
 mod RunLemmas

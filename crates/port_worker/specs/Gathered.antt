@@ -1,7 +1,6 @@
 -- The steps of all nodes of a network in a tick.
-use Rattle.std.specs.Prelude.{◌≡◌, ℕ, ◌+◌, List, [], ◌∷◌, map, flat_map, Result, Ok}
+use Rattle.std.specs.Prelude.{◌≡◌, ℕ, ◌+◌, List, [], ◌∷◌, map}
 use Rattle.node_core.specs.Holding.{NodeHolding}
-use Rattle.srp_base.specs.declared.memory.NoMemory.{NoMemory}
 use Rattle.world_core.specs.declared.journal.NodeSteps.{NodeSteps}
 use Rattle.world_core.specs.{OneByOne.steps_before, Marks.MarksState}
 use Rattle.port_worker.specs.declared.{node.Task.Task, node.Worked.Worked}
@@ -18,14 +17,6 @@ AreWorked [] [] = Unit {0}
 AreWorked [] (worked ∷ later) = ⊥
 AreWorked (task ∷ tasks) [] = ⊥
 AreWorked (task ∷ tasks) (worked ∷ later) = IsWorked task worked × AreWorked tasks later
-
--- lists one after the other
-abbrev pub joined : {X : Type 0} → List (List X) → List X
-joined lists = flat_map (λ xs. xs) lists
-
--- there was memory for all parts, and this is all of them
-abbrev pub AreParts : {X : Type 0} → List (Result (List X) NoMemory) → List X → Type 0
-AreParts {X = X} each all = (parts : List (List X)) × (each ≡ map Ok parts) × (all ≡ joined parts)
 
 -- the steps of these nodes, of those that made some
 abbrev pub steps_made : List Worked → List NodeSteps

@@ -1,10 +1,14 @@
 pub mod Turns
+pub mod Begun
 pub mod Worked
+pub mod Working
 pub mod Marked
 pub mod Gathered
 pub mod Tick
 pub use Turns.*
 pub use Worked.*
+pub use Begun.*
+pub use Working.*
 pub use Marked.*
 pub use Gathered.*
 pub use Tick.*

@@ -25,10 +25,14 @@ pub record IsTurn (hub : Hub) (jobs : List (List PortStep)) (turn : Turn) : Type
   pub few : turn.done ≤ length (own_jobs jobs turn.pass)
   pub made : asked_by turn.pass ≡ asks_of turn.pass.number (take turn.done (own_jobs jobs turn.pass))
 
+-- the first ports of a hub's node have had their turns, ports ascending
+abbrev pub AreTaken : Hub → List (List PortStep) → List Turn → Type 0
+AreTaken hub jobs turns = (k : ℕ) (turn : Turn) → slice_get turns k ≡ Some turn → (turn.pass.number ≡ k + 1) × IsTurn hub jobs turn
+
 -- each port of a hub's node has had its turn, ports ascending
 pub record AreTurns (hub : Hub) (jobs : List (List PortStep)) (turns : List Turn) : Type 0 where
   pub count : length turns ≡ hub.lock.passes
-  pub each : (k : ℕ) (turn : Turn) → slice_get turns k ≡ Some turn → (turn.pass.number ≡ k + 1) × IsTurn hub jobs turn
+  pub each : AreTaken hub jobs turns
 
 -- a port has done all its jobs at a hub, and has asked for nothing else
 pub record IsDone (hub : Hub) (jobs : List (List PortStep)) (pass : PortPass) : Type 0 where

@@ -29,15 +29,22 @@
 //! thread, what is left of its jobs is made after the joins, with the same pass, before the hub is
 //! closed. No clause says that threads run beside each other: tests with gates show it.
 //!
+//! What is known of a thread's result is what it has promised (`WorkOf` of a node, `TurnOf` of a
+//! port; `specs/Working.antt`, `specs/Begun.antt`). A thread has a stack of 256 KiB
+//! (`src/stack.rt`). Where none can be made, and for the last of several nodes or ports, who would
+//! start it does its work.
+//!
 //! A further kind of step that takes or says a PDU is an arm of `Notice` (bridge_book) and one of
 //! `follow_one` (`src/gather.rt`); a further thing that is noted in a tick stands in `make_tick`
 //! (`src/tick.rt`), as in srp_schedule's.
 #![tactic(auto)]
 
 mod gather;
-mod group;
 mod node;
+mod node_threads;
+mod port_threads;
 mod run;
+mod stack;
 mod tick;
 mod turn;
 

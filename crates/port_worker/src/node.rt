@@ -1,14 +1,15 @@
 //! The steps of one node in a tick, which its port threads make.
 
-ghost use Rattle.std.specs.Prelude.{◌≡◌, ◌<◌, ◌^◌, [], false, true, length, map, IfOk};
+ghost use Rattle.std.specs.Prelude.{◌≡◌, ◌<◌, ◌^◌, false, true, length, map, IfOk};
 ghost use Rattle.std.specs.List.{range_with_len};
 ghost use Rattle.node_core.specs.State.{NodeState, ports_of, job_list};
 ghost use Rattle.turn_lock.specs.Passes.{first_passes};
 ghost use Rattle.bridge_book.specs.Hub.{first_node};
-ghost use Rattle.port_worker.specs.Turns.{IsTurn, AreTurns, AreDone};
+ghost use Rattle.port_worker.specs.Turns.{AreTurns, AreDone};
 ghost use Rattle.port_worker.specs.Worked.{has_jobs, IsNodeWorked, IsWorked};
 
-use crate::turn::{Turn, finish, take_turn};
+use crate::port_threads::take_turns;
+use crate::turn::{Turn, finish};
 use bridge_book::laws::ports_make_their_steps;
 use bridge_book::{Gate, HubCloseErr, HubClosed, NodeHub, Notice, PortPass};
 use node_core::laws::steps_keep_what_a_node_is;
@@ -16,7 +17,6 @@ use node_core::{Node, NodeStep, PortStep, is_sending_time, no_key};
 use srp_base::{NoMemory, NodeNo, PortNo, Seq};
 use std::alloc::Global;
 use std::sync::Wait;
-use std::thread;
 use std::thread::Threads;
 
 /// A node with its number.
@@ -141,26 +141,6 @@ fn begin(alloc: Global, number: NodeNo, node: Node) -> Result<(NodeHub, Vec<Port
         Ok((hub, passes)) => Ok((hub, passes.into_vec())),
         Err(_) => Err(NoMemory),
     }
-}
-
-// Lets each port take its turn, in a thread of its own where one can be made.
-fn take_turns<R: Threads + Wait + Sync, G: Gate>(
-    rt: &R,
-    gate: &G,
-    hub: &NodeHub,
-    number: NodeNo,
-    jobs: &[Seq<PortStep>],
-    passes: Vec<PortPass>,
-) -> Result<Vec<Turn>, NoMemory>
-    requires { passes.items ≡ first_passes hub.now.lock hub.now.lock.passes }
-    ensures { IfOk result (λ turns. AreTurns hub.now jobs.now turns.items) }
-{
-    let take = |pass: PortPass| -> Turn
-        requires { (pass.lock ≡ hub.now.lock) × (pass.seen ≡ []) }
-        ensures { IsTurn hub.entry.now jobs.entry.now result × (result.pass.number ≡ pass.number) }
-    { take_turn(rt, gate, hub, number, jobs, pass) };
-    let turns = thread::map_vec(rt, passes, &take)?;
-    Ok(turns)
 }
 
 // Finishes the turn of each port.

@@ -18,8 +18,8 @@ use world_core::{History, Journal, Run, World};
 /// each tick its events, the jobs of each node's ports in the interleaving that the threads come
 /// to, the carrying of each port's PDUs, and the clock. Answers the network at the end, the journal
 /// of all ticks, nodes ascending in each, and the timeline of what was in force at each port after
-/// each tick's steps. The gate is told where each port is. It may wait; its one failure is want of
-/// memory.
+/// each tick's steps. The gate is told where each port is, mostly on a thread with a stack of
+/// 256 KiB. It may wait; its one failure is want of memory.
 pub fn run_ports<R: Threads + Wait + Sync, G: Gate>(
     rt: &R,
     alloc: Global,

@@ -5,7 +5,7 @@ ghost use Rattle.world_core.specs.{World.CanHappen, World.world_step, During.IsD
 ghost use Rattle.port_worker.specs.Tick.{AreSteps, DuringLaws, IsTickMade, StepLaws};
 
 use crate::gather::{few_are_on_their_way, gather, numbered};
-use crate::group::work_all;
+use crate::node_threads::work_all;
 use bridge_book::Gate;
 use srp_base::{NoMemory, Seq};
 use std::alloc::Global;

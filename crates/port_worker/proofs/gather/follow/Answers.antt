@@ -1,5 +1,5 @@
 use Rattle.std.proofs.Common.{sym, ◌∙◌}
-use Rattle.port_worker.proofs.GroupLemmas.{all_followed}
+use Rattle.port_worker.proofs.NumberedLemmas.{all_followed}
 use Rattle.port_worker.proofs.gather.follow.Goals as goal
 
 pub loop-i-preserved : goal.loop-i-preserved

@@ -3,7 +3,7 @@ use Rattle.srp_base.proofs.Lists.{within as get_within}
 use Rattle.bridge_book.specs.declared.notice.Notice.TheVariants.{Quiet}
 use Rattle.world_core.specs.Marks.{MarksState}
 use Rattle.port_worker.specs.{marks_by, CanMarkAll}
-use Rattle.port_worker.proofs.GroupLemmas.{followed_at, none_followed}
+use Rattle.port_worker.proofs.NumberedLemmas.{followed_at, none_followed}
 use Rattle.port_worker.proofs.gather.follow_at.Goals as goal
 
 pub unreachable-requires : goal.unreachable-requires

@@ -6,7 +6,7 @@ use Rattle.world_core.specs.declared.journal.NodeSteps.{NodeSteps}
 use Rattle.world_core.specs.{Marks.MarksState, OneByOne.steps_before}
 use Rattle.port_worker.specs.declared.node.Worked.{Worked}
 use Rattle.port_worker.specs.{marks_by, CanFollow, marks_made, nodes_of, steps_made}
-use Rattle.port_worker.proofs.{Lists.rest_less, Lists.rest_none, GroupLemmas.steps_more, GroupLemmas.marks_more}
+use Rattle.port_worker.proofs.{Lists.rest_less, Lists.rest_none, NumberedLemmas.steps_more, NumberedLemmas.marks_more}
 use Rattle.port_worker.proofs.gather.gather.Goals as goal
 
 pub loop-worked-init : goal.loop-worked-init

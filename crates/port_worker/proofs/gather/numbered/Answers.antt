@@ -3,7 +3,7 @@ use Rattle.std.proofs.lemmas.List.{map-append, length-map}
 use Rattle.srp_base.proofs.Lists.{no_more as no_items}
 use Rattle.node_core.specs.Holding.{NodeHolding}
 use Rattle.port_worker.specs.{Task, AreNumbered}
-use Rattle.port_worker.proofs.{Lists.rest_less, Lists.rest_none, GroupLemmas.numbered_more}
+use Rattle.port_worker.proofs.{Lists.rest_less, Lists.rest_none, NumberedLemmas.numbered_more}
 use Rattle.port_worker.proofs.gather.numbered.Goals as goal
 
 pub loop-node-init : goal.loop-node-init
