@@ -7,6 +7,7 @@
 //! schedule, listeners             srp_schedule: its run from tick to tick
 //! ports                           port_worker: a run with a thread for each port
 //! text                            srp_report: what is told of a run
+//! captures                        link_capture: what went over a link in a run, as a capture file
 //! verdicts                        journal_audit: the journal of a run, and such journals with one
 //!                                 line changed
 //! ```
@@ -22,6 +23,8 @@
 mod allowed;
 #[cfg(test)]
 mod apart;
+#[cfg(test)]
+mod captures;
 #[cfg(test)]
 mod leaving;
 #[cfg(test)]
