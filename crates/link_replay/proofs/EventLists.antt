@@ -1,13 +1,14 @@
--- Events whose keys ascend: what a way hears of each is as if it were the first.
-use Rattle.std.proofs.Common.{◌≡◌, ◌∙◌, ℕ, suc, ◌+◌, Bool, false, if◌then◌else◌, List, [], ◌∷◌, ◌++◌, length, get_or, fold, refl, ap, sym, subst, arith}
+-- Events of which each key has at most one: what a way hears of each is as if it were the first.
+use Rattle.std.proofs.Common.{◌≡◌, ◌∙◌, ℕ, suc, ◌+◌, ◌≤◌, Bool, true, false, if◌then◌else◌, List, [], ◌∷◌, ◌++◌, length, get_or, filter, fold, cond, IsPermutation, refl, ap, sym, subst, arith}
 use Rattle.std.specs.Prelude.{Option, flat_map}
-use Rattle.std.specs.{declared.cmp.Ordering.Ordering, declared.cmp.Ordering.TheVariants.Less, Ordering.is_eq, Cmp.IsTotalOrder, List.AllByRecursion, List.AllAdjacentBelow}
+use Rattle.std.specs.{declared.cmp.Ordering.Ordering, declared.cmp.Ordering.TheVariants.Less, declared.cmp.Ordering.TheVariants.Equal, declared.cmp.Ordering.TheVariants.Greater, Ordering.is_eq, Ordering.ordering_reverse, Cmp.IsTotalOrder, List.AllByRecursion, List.AllAdjacentBelow}
+use Rattle.std.proofs.lemmas.List.{Sums.length-filter, Sorted.sum_by-IsPermutation}
 use Rattle.srp_base.specs.declared.{numbers.Cs.Cs, mrp.MrpEvent.MrpEvent}
 use Rattle.srp_base.specs.declared.mrp.MrpEvent.TheVariants.{New, JoinIn, OnlyIn, JoinMt, OnlyMt, Lv}
 use Rattle.registrar.specs.Table.{is_in}
 use Rattle.mrp_participant.specs.declared.row.Row.{Row}
 use Rattle.mrp_participant.specs.{Lookup.Ascends, Lookup.find, Row.registrar_of, Row.after_hear, Row.row_after_receive, State.State, State.AreRows, State.after, State.received_state}
-use Rattle.link_replay.specs.{WayState, until_of, ends_by, withdrawn_by, hearing_way, all_hearing_way, stands_as, heard_text, all_heard_text, stands_line, leaves_line}
+use Rattle.link_replay.specs.{WayState, IsOneOfEach, until_of, ends_by, withdrawn_by, hearing_way, all_hearing_way, stands_as, heard_text, all_heard_text, stands_line, leaves_line}
 
 -- ---- keys that ascend
 
@@ -34,6 +35,100 @@ module _ {K C : Type 0} (cmp : K → K → Ordering) (o : IsTotalOrder cmp) wher
       let rest : Ascends cmp (λ x. x.1) (f ∷ events) = ascending (f ∷ events) (later e (f ∷ events) next) in
       let less : cmp e.1 f.1 ≡ Less = next 0 e (omega arith) in
       ((less, below e.1 f.1 events less rest.0), rest)
+
+-- ---- one event of each key
+
+equal_by : (r : Ordering) → is_eq r ≡ true → r ≡ Equal
+equal_by Less h = cc
+equal_by Equal h = refl
+equal_by Greater h = cc
+
+not_less : (r : Ordering) → r ≡ Less → is_eq (ordering_reverse r) ≡ false
+not_less r is = ap (λ (x : Ordering). is_eq (ordering_reverse x)) is
+
+itself : (r : Ordering) → r ≡ ordering_reverse r → is_eq r ≡ true
+itself Less h = cc
+itself Equal h = refl
+itself Greater h = cc
+
+reversed : (r : Ordering) → is_eq (ordering_reverse r) ≡ is_eq r
+reversed Less = refl
+reversed Equal = refl
+reversed Greater = refl
+
+module _ {K C : Type 0} (cmp : K → K → Ordering) (o : IsTotalOrder cmp) where
+  abbrev of_key : K → MrpEvent × K × C → Bool
+  of_key k e = is_eq (cmp e.1 k)
+
+  -- above a key none is equal to it
+  none_above : (q k : K) (events : List (MrpEvent × K × C)) → cmp q k ≡ Equal → AllByRecursion (λ e. cmp q e.1 ≡ Less) events
+      → filter (of_key k) events ≡ []
+  none_above q k [] is all = refl
+  none_above q k (e ∷ events) is all =
+      let up : cmp k e.1 ≡ Less = sym (o.congr q k e.1 is) ∙ all.0 in
+      let here : of_key k e ≡ false = ap is_eq (o.antisymm e.1 k) ∙ not_less (cmp k e.1) up in
+      let rest : filter (of_key k) events ≡ [] = none_above q k events is all.1 in
+      rw (here, rest) refl
+
+  one_by : (b : Bool) (k : K) (e : MrpEvent × K × C) (events : List (MrpEvent × K × C)) → of_key k e ≡ b → AllByRecursion (λ x. cmp e.1 x.1 ≡ Less) events
+      → length (filter (of_key k) events) ≤ 1 → length (if b then e ∷ filter (of_key k) events else filter (of_key k) events) ≤ 1
+  one_by true k e events is all rest =
+      let none : filter (of_key k) events ≡ [] = none_above e.1 k events (equal_by (cmp e.1 k) is) all in
+      subst (λ (l : List (MrpEvent × K × C)). length (e ∷ l) ≤ 1) (sym none) (omega arith)
+  one_by false k e events is all rest = rest
+
+  -- keys that ascend have one each
+  once : (events : List (MrpEvent × K × C)) → Ascends cmp (λ e. e.1) events → IsOneOfEach cmp events
+  once [] up k = omega arith
+  once (e ∷ events) up k = one_by (of_key k e) k e events refl up.0 (once events up.1 k)
+
+  -- so it is in every order
+  in-every-order : (events sorted : List (MrpEvent × K × C)) → IsPermutation events sorted → Ascends cmp (λ e. e.1) sorted → IsOneOfEach cmp events
+  in-every-order events sorted moved up k =
+      let few : length (filter (of_key k) sorted) ≤ 1 = once sorted up k in
+      let same_count : length (filter (of_key k) events) ≡ length (filter (of_key k) sorted)
+      = length-filter (of_key k) events
+      ∙ sym (sum_by-IsPermutation (λ e. cond (of_key k e) 1 0) events sorted moved)
+      ∙ sym (length-filter (of_key k) sorted) in
+      subst (λ (n : ℕ). n ≤ 1) (sym same_count) few
+
+  pub one-of-each : (events copied sorted : List (MrpEvent × K × C)) → copied ≡ events → IsPermutation copied sorted → Ascends cmp (λ e. e.1) sorted
+      → IsOneOfEach cmp events
+  one-of-each events copied sorted is moved up = subst (IsOneOfEach cmp) is (in-every-order copied sorted moved up)
+
+  -- each key is another than all later ones
+  abbrev pub AreApart : List (MrpEvent × K × C) → Type 0
+  AreApart [] = Unit {0}
+  AreApart (e ∷ events) = AllByRecursion (λ x. is_eq (cmp e.1 x.1) ≡ false) events × AreApart events
+
+  tail_by : (b : Bool) (k : K) (e : MrpEvent × K × C) (events : List (MrpEvent × K × C))
+      → length (if b then e ∷ filter (of_key k) events else filter (of_key k) events) ≤ 1 → length (filter (of_key k) events) ≤ 1
+  tail_by true k e events few = omega (arith, few)
+  tail_by false k e events few = few
+
+  none_by : (b : Bool) (k : K) (x : MrpEvent × K × C) (events : List (MrpEvent × K × C)) → of_key k x ≡ b
+      → length (if b then x ∷ filter (of_key k) events else filter (of_key k) events) ≤ 0
+      → (of_key k x ≡ false) × (length (filter (of_key k) events) ≤ 0)
+  none_by true k x events is few = let no_room : ⊥ = omega (arith, few) in absurd no_room
+  none_by false k x events is few = (is, few)
+
+  apart_from : (k : K) (events : List (MrpEvent × K × C)) → length (filter (of_key k) events) ≤ 0 → AllByRecursion (λ x. is_eq (cmp k x.1) ≡ false) events
+  apart_from k [] few = tt
+  apart_from k (x ∷ events) few =
+      let here = none_by (of_key k x) k x events refl few in
+      (ap is_eq (o.antisymm k x.1) ∙ reversed (cmp x.1 k) ∙ here.0, apart_from k events here.1)
+
+  head_by : (b : Bool) (k : K) (e : MrpEvent × K × C) (events : List (MrpEvent × K × C)) → b ≡ true
+      → length (if b then e ∷ filter (of_key k) events else filter (of_key k) events) ≤ 1 → length (filter (of_key k) events) ≤ 0
+  head_by true k e events is few = omega (arith, few)
+  head_by false k e events is few = cc
+
+  pub apart : (events : List (MrpEvent × K × C)) → IsOneOfEach cmp events → AreApart events
+  apart [] one = tt
+  apart (e ∷ events) one = (
+    apart_from e.1 events (head_by (of_key e.1 e) e.1 e events (itself (cmp e.1 e.1) (o.antisymm e.1 e.1)) (one e.1)),
+    apart events (λ k. tail_by (of_key k e) k e events (one k)),
+  )
 
 -- ---- what becomes of a way
 
@@ -66,7 +161,7 @@ module _ {K C : Type 0} (cmp : K → K → Ordering) where
 
 -- ---- what is said
 
-module _ {K C : Type 0} (cmp : K → K → Ordering) (eq : C → C → Bool) (key_text : K → List ℕ) (content_text : C → List ℕ)
+module _ {K C : Type 0} (cmp : K → K → Ordering) (o : IsTotalOrder cmp) (eq : C → C → Bool) (key_text : K → List ℕ) (content_text : C → List ℕ)
     (stay : (s : State K C) (now : Cs) (leave_all : Bool) (events : List (MrpEvent × K × C)) → AreRows cmp s.rows
     → AreRows cmp (received_state cmp now leave_all events s).rows)
     (receive : (s : State K C) (now : Cs) (leave_all : Bool) (events : List (MrpEvent × K × C)) → AreRows cmp s.rows → (k : K)
@@ -79,14 +174,14 @@ module _ {K C : Type 0} (cmp : K → K → Ordering) (eq : C → C → Bool) (ke
   same rows [] = tt
   same rows (e ∷ events) = (refl, same rows events)
 
-  -- an event of a lower key leaves it so
+  -- an event of another key leaves it so
   still-same : (at : Cs) (e : MrpEvent × K × C) (s : State K C) (others : List (Row K C)) (events : List (MrpEvent × K × C))
-      → AreRows cmp s.rows → AllByRecursion (λ x. cmp e.1 x.1 ≡ Less) events → HaveSame s.rows others events
+      → AreRows cmp s.rows → AllByRecursion (λ x. is_eq (cmp e.1 x.1) ≡ false) events → HaveSame s.rows others events
       → HaveSame (received_state cmp at false (e ∷ []) s).rows others events
   still-same at e s others [] are above all = tt
   still-same at e s others (x ∷ events) are above all = (
     receive s at false (e ∷ []) are x.1
-        ∙ ap (λ (r : Ordering). if is_eq r then after_hear e.0 e.1 e.2 (after at s.leave_time) (find cmp x.1 s.rows) else find cmp x.1 s.rows) above.0
+        ∙ ap (λ (b : Bool). if b then after_hear e.0 e.1 e.2 (after at s.leave_time) (find cmp x.1 s.rows) else find cmp x.1 s.rows) above.0
         ∙ all.0,
     still-same at e s others events are above.1 all.1,
   )
@@ -107,7 +202,7 @@ module _ {K C : Type 0} (cmp : K → K → Ordering) (eq : C → C → Bool) (ke
   said at way s ends withdrawn Lv k c is = ap (λ (r : Option (Row K C)). if is_in (registrar_of r) then leaves_line at way.speaker (key_text k) (until_of at way) else []) is
 
   said-each : (at : Cs) (way : WayState K C) (events : List (MrpEvent × K × C)) (s : State K C) (ends : List Cs) (withdrawn : List K)
-      → AreRows cmp s.rows → Ascends cmp (λ e. e.1) events → HaveSame s.rows way.observer.rows events
+      → AreRows cmp s.rows → AreApart {C = C} cmp o events → HaveSame s.rows way.observer.rows events
       → all_heard_text cmp eq key_text content_text at (with_heard way s ends withdrawn) events
       ≡ flat_map (λ e. heard_text cmp eq key_text content_text at way e.0 e.1 e.2) events
   said-each at way [] s ends withdrawn are up all = refl
@@ -121,6 +216,6 @@ module _ {K C : Type 0} (cmp : K → K → Ordering) (eq : C → C → Bool) (ke
       ∙ ap (λ (t : List ℕ). heard_text cmp eq key_text content_text at way e.0 e.1 e.2 ++ t) rest
 
   -- so of all of them the same is said as of each by itself
-  pub each-heard : (at : Cs) (way : WayState K C) (events : List (MrpEvent × K × C)) → AreRows cmp way.observer.rows → Ascends cmp (λ e. e.1) events
+  pub each-heard : (at : Cs) (way : WayState K C) (events : List (MrpEvent × K × C)) → AreRows cmp way.observer.rows → AreApart {C = C} cmp o events
       → all_heard_text cmp eq key_text content_text at way events ≡ flat_map (λ e. heard_text cmp eq key_text content_text at way e.0 e.1 e.2) events
   each-heard at way events are up = said-each at way events way.observer way.ends way.withdrawn are up (same way.observer.rows events)

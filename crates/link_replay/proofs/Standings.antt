@@ -12,7 +12,7 @@ use Rattle.registrar.specs.declared.RegEvent.TheVariants.{RxNew, RxJoin, RxLv, R
 use Rattle.registrar.specs.Table as registrar
 use Rattle.mrp_participant.specs.declared.row.Row.{Row}
 use Rattle.mrp_participant.specs.{Lookup.same, Row.is_live, Row.kept_row, Row.fresh_row, Row.after_declare, Row.after_withdraw, Row.after_leave, Row.after_hear, Row.leave_all_row, Row.row_hearing, Row.row_after_receive, Row.leave_is_due, Row.after_leave_due, Row.periodic_row, Sending.sent_row}
-use Rattle.link_replay.specs.Standing.{Standing, Standing.Stands, Standing.Leaves, Standing.Gone, held_by, standing}
+use Rattle.link_replay.specs.Standing.{Standing, Standing.Stands, Standing.Leaves, Standing.Gone, held_by, standing, passing}
 
 module _ {C : Type 0} where
   -- ---- what each event makes of what stood
@@ -37,12 +37,6 @@ module _ {C : Type 0} where
   ended (Stands c) = Stands c
   ended (Leaves c u) = Gone
   ended Gone = Gone
-
-  -- a moment, at which the timer fires where it is due
-  abbrev pub passing : ℕ → Standing C → Standing C
-  passing now (Stands c) = Stands c
-  passing now (Leaves c u) = if nat_le u.0 now then Gone else Leaves c u
-  passing now Gone = Gone
 
   -- ---- that the table makes it of them
 

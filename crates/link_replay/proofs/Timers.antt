@@ -1,16 +1,15 @@
 -- Each leave timer of a way that runs ends at a moment that the way knows.
-use Rattle.std.proofs.Common.{◌≡◌, ◌∙◌, ◌<◌, ◌≤◌, ℕ, Bool, true, false, not, if◌then◌else◌, nat_le, List, [], ◌∷◌, ◌++◌, filter, fold, refl, ap, sym, subst, arith}
-use Rattle.std.specs.Prelude.{Option, Some, None, option_map, option_and_then, ◌||◌}
+use Rattle.std.proofs.Common.{◌≡◌, ◌∙◌, ◌<◌, ◌≤◌, Bool, true, false, not, if◌then◌else◌, nat_le, List, [], ◌∷◌, ◌++◌, filter, fold, refl, ap, sym, subst, arith}
+use Rattle.std.specs.Prelude.{option_map, option_and_then, ◌||◌}
 use Rattle.std.specs.{declared.cmp.Ordering.Ordering, declared.cmp.Ordering.TheVariants.Less, declared.cmp.Ordering.TheVariants.Equal, declared.cmp.Ordering.TheVariants.Greater, Ordering.is_eq, List.AllByRecursion}
 use Rattle.std.proofs.lemmas.Bool.Decides.{nat_tests}
 use Rattle.srp_base.specs.declared.{numbers.Cs.Cs, mrp.MrpEvent.MrpEvent}
 use Rattle.srp_base.specs.declared.mrp.MrpEvent.TheVariants.{New, JoinIn, OnlyIn, JoinMt, OnlyMt, Lv}
 use Rattle.attribute_propagation.specs.Dirty.{is_awaiting, with_key, all_marked, marked_at}
-use Rattle.mrp_participant.specs.declared.row.Row.{Row}
 use Rattle.mrp_participant.specs.{Lookup.same, Lookup.find, Row.row_after_receive, Row.after_leave_due, Row.periodic_row, State.State, State.Messages, State.AreRows, State.after, State.received_state, State.due_state, State.is_periodic_due, State.leave_timers_state, State.due_leave_all_state, State.periodic_fired_state, State.is_leave_all_due, State.leave_all_state}
-use Rattle.link_replay.specs.Standing.{Standing, Standing.Stands, Standing.Leaves, Standing.Gone, standing}
-use Rattle.link_replay.specs.{cs_cmp, is_up_to, later_than, WayState, ends_by, ends_up_to, leave_all_way, hearing_way, all_hearing_way, passing_way, Ways, ways_ends_up_to, begun_way, said_way, IsEndKnown, AreEndsKnown}
-use Rattle.link_replay.proofs.Standings.{leaving, hearing, passing, received, receives, passes, periodic}
+use Rattle.link_replay.specs.Standing.{Standing, Standing.Stands, Standing.Leaves, Standing.Gone, standing, passing}
+use Rattle.link_replay.specs.{cs_cmp, is_up_to, later_than, WayState, ends_by, ends_up_to, leave_all_way, hearing_way, all_hearing_way, passing_way, Ways, ways_ends_up_to, begun_way, said_way, IsEndKnown, AreEndsKnown, IsKnownUpTo}
+use Rattle.link_replay.proofs.Standings.{leaving, hearing, received, receives, passes, periodic}
 
 -- ---- moments
 
@@ -81,16 +80,6 @@ module _ (at : Cs) where
 if_time : {K C : Type 0} (b : Bool) (s t : State K C) → s.leave_time ≡ t.leave_time → (if b then s else t).leave_time ≡ t.leave_time
 if_time true s t e = e
 if_time false s t e = refl
-
-module _ {K C : Type 0} (cmp : K → K → Ordering) where
-  -- a way whose timers are known, as of some moment that isn't after another
-  pub record IsKnownUpTo (at : Cs) (way : WayState K C) : Type 0 where
-    pub rows : AreRows cmp way.observer.rows
-    pub some : 1 ≤ way.leave_time.0
-    pub time : way.observer.leave_time ≡ way.leave_time
-    pub before : Cs
-    pub low : before.0 ≤ at.0
-    pub ends : AreEndsKnown cmp before way
 
 -- ---- what stands
 
@@ -414,13 +403,16 @@ module _ {K C : Type 0} (cmp : K → K → Ordering)
       grouped false b c = refl
 
   pub due_a : (at : Cs) (w : Ways K C) (u : Cs) → nat_le u.0 at.0 ≡ true → is_awaiting cs_cmp u w.from_a.ends ≡ true
-      → is_awaiting cs_cmp u (all_marked cs_cmp (ways_ends_up_to at w) []) ≡ true
+      → is_awaiting cs_cmp u (ways_ends_up_to at w) ≡ true
   due_a at w u due here =
-      all u (ways_ends_up_to at w) []
-      ∙ or_first _ _ (in_both u (ends_up_to at w.from_a) (ends_up_to at w.from_b) ∙ or_first _ _ (stays_in (is_up_to at) u w.from_a.ends due here))
+      in_both u (ends_up_to at w.from_a) (ends_up_to at w.from_b) ∙ or_first _ _ (stays_in (is_up_to at) u w.from_a.ends due here)
 
   pub due_b : (at : Cs) (w : Ways K C) (u : Cs) → nat_le u.0 at.0 ≡ true → is_awaiting cs_cmp u w.from_b.ends ≡ true
-      → is_awaiting cs_cmp u (all_marked cs_cmp (ways_ends_up_to at w) []) ≡ true
+      → is_awaiting cs_cmp u (ways_ends_up_to at w) ≡ true
   due_b at w u due here =
-      all u (ways_ends_up_to at w) []
-      ∙ or_first _ _ (in_both u (ends_up_to at w.from_a) (ends_up_to at w.from_b) ∙ or_true _ _ (stays_in (is_up_to at) u w.from_b.ends due here))
+      in_both u (ends_up_to at w.from_a) (ends_up_to at w.from_b) ∙ or_true _ _ (stays_in (is_up_to at) u w.from_b.ends due here)
+
+  -- a set of them has each
+  pub in_set : (at : Cs) (w : Ways K C) (u : Cs) → is_awaiting cs_cmp u (ways_ends_up_to at w) ≡ true
+      → is_awaiting cs_cmp u (all_marked cs_cmp (ways_ends_up_to at w) []) ≡ true
+  in_set at w u here = all u (ways_ends_up_to at w) [] ∙ or_first _ _ here

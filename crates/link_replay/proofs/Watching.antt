@@ -12,9 +12,9 @@ use Rattle.registrar.specs.Table.{is_in}
 use Rattle.mrp_participant.specs.declared.row.Row.{Row}
 use Rattle.mrp_participant.specs.{Lookup.same, Lookup.find, Lookup.ChangesOnly, Row.after_declare, Row.after_withdraw, Row.after_leave, Row.row_after_receive, Row.after_leave_due, Row.periodic_row, Sending.word_of, State.State, State.Messages, State.AreRows, State.after, State.is_active, State.is_silent, State.declared_state, State.withdrawn_state, State.left_state, State.received_state, State.due_state, State.leave_all_state, State.periodic_state, State.sent_state, State.sent_messages, State.event_sent, State.row_sent, State.takes, State.is_periodic_due, State.is_leave_all_due, State.leave_timers_state, State.due_leave_all_state, State.periodic_fired_state}
 use Rattle.mrp_participant.specs.{Link.Link, Link.EndEvent, Link.EndEvent.Declares, Link.EndEvent.Withdraws, Link.EndEvent.Leaves, Link.EndEvent.Fires, Link.EndEvent.FiresLeaveAll, Link.EndEvent.FiresPeriodic, Link.EndEvent.Sends, Link.EndEvent.Receives, Link.EndEvent.Loses, Link.EndEvent.Repeats, Link.LinkEvent, Link.LinkEvent.AtNear, Link.LinkEvent.AtFar, Link.after_end_event, Link.after_receiving, Link.after_sending, Link.after_spoiling, Link.other_view}
-use Rattle.link_replay.specs.Standing.{Standing, held_by, standing, is_standing, agrees}
+use Rattle.link_replay.specs.Standing.{Standing, held_by, standing, passing, is_standing, agrees}
 use Rattle.link_replay.specs.{Observer.Sight.Goes, own_leave_all_state, all_seen, seen_state, IsObserved, AreObserved, Watched, coming_seen, observer_after, after_watched, all_watched}
-use Rattle.link_replay.proofs.Standings.{leaving, ended, passing, received, receives, sent, ends, passes, periodic, declares, withdraws}
+use Rattle.link_replay.proofs.Standings.{leaving, ended, received, receives, sent, ends, passes, periodic, declares, withdraws}
 
 -- the laws of a participant that are cited
 pub record Laws {K C : Type 0} (base : ℕ) (octets : C → ℕ) (cmp : K → K → Ordering) (eq : C → C → Bool) : Type 0 where

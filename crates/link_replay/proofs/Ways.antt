@@ -70,13 +70,19 @@ module _ {K C : Type 0} (cmp : K → K → Ordering) where
   spoken-of at A m w = refl
   spoken-of at B m w = refl
 
-  pub none-doubted : (at : Cs) (who : End) (w : Ways K C) (m : Messages K C) (s : State K C)
+  none-said : (at : Cs) (who : End) (w : Ways K C) (m : Messages K C) (s : State K C)
       → (begun_way cmp at m.leave_all (way_of (other_end who) w)).observer ≡ s
       → ((e : MrpEvent × K × C) → Contains m.events e → agrees e.0 (is_standing (standing (find cmp e.1 s.rows))) ≡ true)
       → doubted cmp (ways_saying cmp at who m w) who m.events ≡ []
-  none-doubted at who w m s is agree =
+  none-said at who w m s is agree =
       none (λ e. (who, e)) (is_word_broken cmp (ways_saying cmp at who m w) who) m.events (λ e c.
       unbroken cmp (way_of (other_end who) (ways_saying cmp at who m w)) e
       (ap (λ (way : WayState K C). agrees e.0 (is_standing (standing (find cmp e.1 way.observer.rows)))) (spoken-of at who m w)
       ∙ ap (λ (t : State K C). agrees e.0 (is_standing (standing (find cmp e.1 t.rows)))) is
       ∙ agree e c))
+
+  pub none-doubted : (at : Cs) (who : End) (w : Ways K C) (leave_all : Bool) (events : List (MrpEvent × K × C)) (s : State K C)
+      → (begun_way cmp at leave_all (way_of (other_end who) w)).observer ≡ s
+      → ((e : MrpEvent × K × C) → Contains events e → agrees e.0 (is_standing (standing (find cmp e.1 s.rows))) ≡ true)
+      → doubted cmp (ways_saying cmp at who (record { leave_all = leave_all; events = events }) w) who events ≡ []
+  none-doubted at who w leave_all events s is agree = none-said at who w (record { leave_all = leave_all; events = events }) s is agree

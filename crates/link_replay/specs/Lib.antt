@@ -7,6 +7,7 @@ pub mod Way
 pub mod BothWays
 pub mod LinkWatch
 pub mod Ticks
+pub mod Following
 pub use Standing.*
 pub use Observer.*
 pub use Watch.*
@@ -16,3 +17,4 @@ pub use Way.*
 pub use BothWays.*
 unfoldable pub use LinkWatch.*
 pub use Ticks.*
+pub use Following.*

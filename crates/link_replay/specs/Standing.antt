@@ -1,6 +1,6 @@
 -- What stands of an attribute at one end of a link: what the registrar there holds of its key (IEEE
 -- Std 802.1Q-2018, 10.7.8), and what a word about a registrar says of it (10.7.5).
-use Rattle.std.specs.Prelude.{Bool, true, false, not, Option, Some, None}
+use Rattle.std.specs.Prelude.{ℕ, Bool, true, false, not, nat_le, if◌then◌else◌, Option, Some, None}
 use Rattle.srp_base.specs.declared.{numbers.Cs.Cs, mrp.MrpEvent.MrpEvent}
 use Rattle.srp_base.specs.declared.mrp.MrpEvent.TheVariants.{New, JoinIn, OnlyIn, JoinMt, OnlyMt, Lv}
 use Rattle.registrar.specs.declared.Registrar.{Registrar}
@@ -23,6 +23,12 @@ held_by Empty c until = Gone
 abbrev pub standing : {K C : Type 0} → Option (Row K C) → Standing C
 standing None = Gone
 standing (Some r) = held_by r.registrar r.heard r.leave
+
+-- what a moment leaves of it: the leave timer fires where it is due
+abbrev pub passing : {C : Type 0} → ℕ → Standing C → Standing C
+passing now (Stands c) = Stands c
+passing now (Leaves c until) = if nat_le until.0 now then Gone else Leaves c until
+passing now Gone = Gone
 
 -- whether a registrar is IN
 abbrev pub is_standing : {C : Type 0} → Standing C → Bool

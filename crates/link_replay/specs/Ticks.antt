@@ -1,11 +1,12 @@
 -- Two participants at the ends of a link that go by ticks, as a network of this project does, beside
 -- what is told of the link from their PDUs: in a tick each end takes what the other sent in the one
--- before, its timers fire, and it sends (IEEE Std 802.1Q-2018, 10.7). Ticks are this project's.
-use Rattle.std.specs.Prelude.{◌≡◌, ℕ, ◌+◌, ◌&&◌, Bool, if◌then◌else◌, List, [], ◌∷◌, ◌++◌, map, fold}
+-- before, its timers fire, and it sends (IEEE Std 802.1Q-2018, 10.7). Ticks are this project's. What
+-- goes over the link is what is read there of the events that an end writes: `read` says it of them.
+use Rattle.std.specs.Prelude.{◌≡◌, ℕ, ◌+◌, ◌&&◌, Bool, if◌then◌else◌, List, [], ◌∷◌, ◌++◌, map, fold, Contains}
 use Rattle.std.specs.declared.cmp.Ordering.{Ordering}
-use Rattle.srp_base.specs.declared.numbers.Cs.{Cs}
+use Rattle.srp_base.specs.declared.{numbers.Cs.Cs, mrp.MrpEvent.MrpEvent}
 use Rattle.attribute_propagation.specs.Dirty.{all_marked}
-use Rattle.mrp_participant.specs.State.{State, Messages, AreRows, new_state, declared_state, withdrawn_state, received_state, due_state, is_silent, sent_messages, sent_state}
+use Rattle.mrp_participant.specs.State.{State, Messages, AreRows, new_state, declared_state, withdrawn_state, received_state, due_state, is_active, is_silent, sent_events, sent_state}
 use Rattle.link_replay.specs.declared.lines.End.{End}
 use Rattle.link_replay.specs.declared.lines.End.TheVariants.{A, B}
 use Rattle.link_replay.specs.{Moments.cs_cmp, Watch.IsObserved, BothWays.ways_ends_up_to, LinkWatch.LinkState, LinkWatch.unseen_link, LinkWatch.link_saying, LinkWatch.link_arriving, LinkWatch.link_judged, LinkWatch.link_passing, LinkWatch.link_broken}
@@ -39,9 +40,27 @@ abbrev pub new_pair : {K C : Type 0} → Cs → (a b : Cs × Bool) → Pair K C
 new_pair leave_time a b =
     record { a = new_state a.0 leave_time a.1; b = new_state b.0 leave_time b.1; from_a = []; from_b = [] }
 
+-- two participants that have said and heard nothing yet, whenever LeaveAll and the periodic event are
+-- due; leave timers last as long at both
+pub record AreFresh {K C : Type 0} (leave_time : Cs) (p : Pair K C) : Type 0 where
+  pub a_rows : p.a.rows ≡ []
+  pub b_rows : p.b.rows ≡ []
+  pub a_time : p.a.leave_time ≡ leave_time
+  pub b_time : p.b.leave_time ≡ leave_time
+  pub from_a : p.from_a ≡ []
+  pub from_b : p.from_b ≡ []
+
+-- ---- what is read of what is written
+
+-- what is read has no event that wasn't written
+abbrev pub ReadsWhatIsWritten : {K C : Type 0} → (List (MrpEvent × K × C) → List (MrpEvent × K × C)) → Type 0
+ReadsWhatIsWritten {K = K} {C = C} read =
+    (events : List (MrpEvent × K × C)) (e : MrpEvent × K × C) → Contains (read events) e → Contains events e
+
 -- ---- a tick at an end
 
-module _ {K C : Type 0} (base : ℕ) (octets : C → ℕ) (cmp : K → K → Ordering) (eq : C → C → Bool) where
+module _ {K C : Type 0} (base : ℕ) (octets : C → ℕ) (cmp : K → K → Ordering) (eq : C → C → Bool)
+    (read : List (MrpEvent × K × C) → List (MrpEvent × K × C)) where
   -- a participant after something is asked for
   abbrev pub asked : State K C → Ask K C → State K C
   asked s (Declares k c) = declared_state cmp eq k c s
@@ -55,9 +74,13 @@ module _ {K C : Type 0} (base : ℕ) (octets : C → ℕ) (cmp : K → K → Ord
   abbrev pub ready : Cs → Asks K C → List (Messages K C) → State K C → State K C
   ready at asks coming s = fold asked (due_state at (took at (fold asked s asks.first) coming)) asks.later
 
+  -- what is read of the list of messages that it sends
+  abbrev pub sent_read : Cs → State K C → Messages K C
+  sent_read at s = record { leave_all = is_active s.leave_all; events = read (sent_events base octets cmp at s) }
+
   -- what it sends then: one list of messages, where there is something to say
   abbrev pub sent_in_tick : Cs → State K C → List (Messages K C)
-  sent_in_tick at s = if is_silent s then [] else sent_messages base octets cmp at s ∷ []
+  sent_in_tick at s = if is_silent s then [] else sent_read at s ∷ []
 
   -- after it
   abbrev pub after_tick : Cs → State K C → State K C
@@ -129,7 +152,7 @@ pub record Replayed (K C : Type 0) : Type 0 where
 abbrev pub unseen : {K C : Type 0} → Cs → Replayed K C
 unseen leave_time = record { upto = record { 0 = 0 }; link = unseen_link leave_time }
 
-module _ {K C : Type 0} (base : ℕ) (octets : C → ℕ) (cmp : K → K → Ordering) (eq : C → C → Bool) where
+module _ {K C : Type 0} (cmp : K → K → Ordering) where
   -- the leave timers fire that end at some moments, in order
   abbrev pub all_passing : LinkState K C → List Cs → LinkState K C
   all_passing l moments = fold (λ l u. link_passing u l) l moments
@@ -138,42 +161,56 @@ module _ {K C : Type 0} (base : ℕ) (octets : C → ℕ) (cmp : K → K → Ord
   abbrev pub arrived : Replayed K C → LinkState K C
   arrived r = link_arriving cmp (record { 0 = r.upto.0 + 1 }) r.link
 
-  -- time goes on to a later moment: that, the words are judged, and the leave timers fire that end by
-  -- then, each at its own moment
-  abbrev pub going_on : Cs → Replayed K C → LinkState K C
-  going_on at r = all_passing (link_judged (arrived r)) (all_marked cs_cmp (ways_ends_up_to at (arrived r).ways) [])
+  -- time goes on: that, the words are judged, and the leave timers fire, each at one of these moments
+  abbrev pub going_by : List Cs → Replayed K C → LinkState K C
+  going_by moments r = all_passing (link_judged (arrived r)) moments
 
-  -- whether neither end says anything in a tick
-  abbrev pub is_quiet : Tick K C → Pair K C → Bool
-  is_quiet t p = is_silent (ready_a base octets cmp eq t p) && is_silent (ready_b base octets cmp eq t p)
-
-  -- after a tick in which something is said
-  abbrev pub said_after : Pair K C → Replayed K C → Tick K C → Replayed K C
-  said_after p r t =
-      record {
-        upto = t.at;
-        link = all_saying base octets cmp eq t.at B
-            (all_saying base octets cmp eq t.at A (going_on t.at r) (sent_in_tick base octets cmp eq t.at (ready_a base octets cmp eq t p)))
-            (sent_in_tick base octets cmp eq t.at (ready_b base octets cmp eq t p));
-      }
-
-  -- after a tick
-  abbrev pub replayed_after : Pair K C → Replayed K C → Tick K C → Replayed K C
-  replayed_after p r t = if is_quiet t p then r else said_after p r t
+  -- the moments up to one at which they end, each once
+  abbrev pub moments_to : Cs → Replayed K C → List Cs
+  moments_to at r = all_marked cs_cmp (ways_ends_up_to at (arrived r).ways) []
 
   -- how many words are judged as broken when time goes on from the last PDU, of which there is one more
   -- or the capture's end
   abbrev pub broken_then : Replayed K C → ℕ
   broken_then r = link_broken cmp (arrived r)
 
+module _ {K C : Type 0} (base : ℕ) (octets : C → ℕ) (cmp : K → K → Ordering) (eq : C → C → Bool)
+    (read : List (MrpEvent × K × C) → List (MrpEvent × K × C)) where
+  -- whether neither end says anything in a tick
+  abbrev pub is_quiet : Tick K C → Pair K C → Bool
+  is_quiet t p = is_silent (ready_a base octets cmp eq read t p) && is_silent (ready_b base octets cmp eq read t p)
+
+  -- after a tick to which time goes on by some moments
+  abbrev pub said_by : List Cs → Pair K C → Replayed K C → Tick K C → Replayed K C
+  said_by moments p r t =
+      record {
+        upto = t.at;
+        link = all_saying base octets cmp eq read t.at B
+            (all_saying base octets cmp eq read t.at A (going_by cmp moments r)
+            (sent_in_tick base octets cmp eq read t.at (ready_a base octets cmp eq read t p)))
+            (sent_in_tick base octets cmp eq read t.at (ready_b base octets cmp eq read t p));
+      }
+
+  -- after one in which something is said
+  abbrev pub said_after : Pair K C → Replayed K C → Tick K C → Replayed K C
+  said_after p r t = said_by (moments_to cmp t.at r) p r t
+
+  -- after a tick
+  abbrev pub replayed_after : Pair K C → Replayed K C → Tick K C → Replayed K C
+  replayed_after p r t = if is_quiet t p then r else said_after p r t
+
   -- how many words a replay tells as broken, of some ticks and of the capture's end
   abbrev pub replay_broken : Pair K C × Replayed K C → List (Tick K C) → ℕ
-  replay_broken x [] = broken_then x.1
+  replay_broken x [] = broken_then cmp x.1
   replay_broken x (t ∷ ticks) =
-      (if is_quiet t x.0 then 0 else broken_then x.1)
-      + replay_broken (pair_after base octets cmp eq x.0 t, replayed_after x.0 x.1 t) ticks
+      (if is_quiet t x.0 then 0 else broken_then cmp x.1)
+      + replay_broken (pair_after base octets cmp eq read x.0 t, replayed_after x.0 x.1 t) ticks
+
+-- the moment after one, in cs
+abbrev pub next_moment : Cs → Cs
+next_moment at = record { 0 = at.0 + 1 }
 
 -- the ticks come one by one, and the first is at this moment
 abbrev pub AreTicksFrom : {K C : Type 0} → Cs → List (Tick K C) → Type 0
 AreTicksFrom at [] = Unit {0}
-AreTicksFrom at (t ∷ ticks) = (t.at ≡ at) × AreTicksFrom (record { 0 = at.0 + 1 }) ticks
+AreTicksFrom at (t ∷ ticks) = (t.at ≡ at) × AreTicksFrom (next_moment at) ticks

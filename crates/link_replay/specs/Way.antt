@@ -1,15 +1,15 @@
 -- One way over a link: what one end declares, and how it stands at the other. What is printed of it
 -- and what becomes of it, by what is seen (IEEE Std 802.1Q-2018, 10.7). The words are this
 -- project's.
-use Rattle.std.specs.Prelude.{◌≡◌, ◌<◌, ℕ, Bool, true, false, not, ◌&&◌, ◌||◌, if◌then◌else◌, List, [], ◌∷◌, ◌++◌, length, filter, flat_map, fold, Option, Some}
+use Rattle.std.specs.Prelude.{◌≡◌, ◌<◌, ◌≤◌, ℕ, Bool, true, false, not, ◌&&◌, ◌||◌, if◌then◌else◌, List, [], ◌∷◌, ◌++◌, length, filter, flat_map, fold, Option, Some}
 use Rattle.std.specs.{declared.cmp.Ordering.Ordering, Option.option_eq}
 use Rattle.srp_base.specs.declared.{numbers.Cs.Cs, mrp.MrpEvent.MrpEvent}
 use Rattle.srp_base.specs.declared.mrp.MrpEvent.TheVariants.{New, JoinIn, OnlyIn, JoinMt, OnlyMt, Lv}
-use Rattle.attribute_propagation.specs.Dirty.{is_awaiting, with_key, without_key, all_marked}
+use Rattle.attribute_propagation.specs.Dirty.{is_awaiting, with_key, without_key}
 use Rattle.registrar.specs.declared.Registrar.{Registrar}
 use Rattle.registrar.specs.Table.{is_in}
 use Rattle.mrp_participant.specs.declared.row.Row.{Row}
-use Rattle.mrp_participant.specs.{Lookup.find, Row.registrar_of, Row.registered_in, State.State, State.after, State.left_keys, State.due_state, State.received_state}
+use Rattle.mrp_participant.specs.{Lookup.same, Lookup.find, Row.registrar_of, Row.registered_in, State.State, State.after, State.left_keys, State.due_state, State.received_state}
 use Rattle.link_replay.specs.declared.lines.End.{End}
 use Rattle.link_replay.specs.{Standing.agrees, Standing.standing, Standing.Standing, Standing.Standing.Stands, Standing.Standing.Leaves, Standing.Standing.Gone, Moments.cs_cmp, Moments.is_up_to, Moments.later_than, Observer.new_observer, Observer.own_leave_all_state, Lines.other_end, Lines.stands_line, Lines.leaves_line, Lines.gone_line, Lines.owes_line, Lines.let_go_line, Lines.word_line}
 
@@ -162,6 +162,11 @@ module _ {K C : Type 0} (cmp : K → K → Ordering) (eq : C → C → Bool) (ke
   abbrev pub all_heard_text : Cs → WayState K C → List (MrpEvent × K × C) → List ℕ
   all_heard_text at way [] = []
   all_heard_text at way (e ∷ events) = heard_text at way e.0 e.1 e.2 ++ all_heard_text at (hearing_way cmp at way e) events
+
+-- ---- events of which each key has at most one
+
+abbrev pub IsOneOfEach : {K C : Type 0} → (K → K → Ordering) → List (MrpEvent × K × C) → Type 0
+IsOneOfEach {K = K} cmp events = (k : K) → length (filter (λ e. same cmp e.1 k) events) ≤ 1
 
 -- ---- leave timers
 

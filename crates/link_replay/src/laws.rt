@@ -5,7 +5,7 @@ ghost use Rattle.std.specs.Prelude.{◌≡◌, ◌≤◌, Bool, true, List, [], 
 ghost use Rattle.srp_base.specs.declared.{numbers.Cs.Cs, mrp.MrpEvent.MrpEvent};
 ghost use Rattle.mrp_participant.specs.Lookup.{find};
 ghost use Rattle.mrp_participant.specs.Link.{Link, LinkEvent, EndEvent, after_end_event};
-ghost use Rattle.mrp_participant.specs.State.{State, Messages, AreRows, new_state, sent_events, sent_messages};
+ghost use Rattle.mrp_participant.specs.State.{State, Messages, AreRows, new_state, is_active, sent_events, sent_messages};
 ghost use Rattle.link_replay.specs.declared.lines.End.{End};
 ghost use Rattle.link_replay.specs.Lines.{other_end};
 ghost use Rattle.link_replay.specs.Standing.{standing, is_standing, agrees};
@@ -15,7 +15,8 @@ ghost use Rattle.link_replay.specs.Watch.{IsObserved, AreObserved, Watched, obse
 ghost use Rattle.link_replay.specs.Way.{WayState, new_way, ends_up_to, passing_way, AreEndsKnown};
 ghost use Rattle.link_replay.specs.BothWays.{Ways, way_of, begun_way, said_way, ways_saying};
 ghost use Rattle.link_replay.specs.LinkWatch.{LinkState, unseen_link, doubted};
-ghost use Rattle.link_replay.specs.Ticks.{Tick, Pair, new_pair, run_after, run_broken, IsTold, unseen, replay_broken, AreTicksFrom};
+ghost use Rattle.link_replay.specs.Ticks.{Tick, Pair, AreFresh, ReadsWhatIsWritten, new_pair, ready_a, ready_b, pair_after, run_after, run_broken, IsTold, Replayed, unseen, broken_then, is_quiet, said_by, next_moment, replay_broken, AreTicksFrom};
+ghost use Rattle.link_replay.specs.Following.{AreMoments, Follows};
 
 use attribute_propagation::laws::each_key_awaits;
 use mrp_participant::MrpApp;
@@ -100,14 +101,17 @@ pub fn a_way_holds_what_was_seen<A: MrpApp>()
 {}
 
 /// No word of a participant on its registrars disagrees when it is said, where its observer has seen
-/// what it has: so none is kept to be judged.
+/// what it has, whichever of its words are read there and in whatever order: so none is kept to be
+/// judged.
 pub fn no_word_of_a_participant_disagrees<A: MrpApp>()
     ensures { (own : State A.Key A.Content) (ways : Ways A.Key A.Content) (who : End) (now : Cs)
+        (events : List (MrpEvent × A.Key × A.Content))
         → AreRows A.Key.cmp own.rows
         → IsObserved A.Key.cmp (way_of (other_end who) ways).observer own
-        → doubted A.Key.cmp
-        (ways_saying A.Key.cmp now who (sent_messages A.base A.octets A.Key.cmp now own) ways) who
-        (sent_events A.base A.octets A.Key.cmp now own) ≡ [] }
+        → ((e : MrpEvent × A.Key × A.Content) → Contains events e
+        → Contains (sent_events A.base A.octets A.Key.cmp now own) e)
+        → doubted A.Key.cmp (ways_saying A.Key.cmp now who
+        (record { leave_all = is_active own.leave_all; events = events }) ways) who events ≡ [] }
 {
     a_way_holds_what_was_seen::<A>();
     what_is_said_of_a_registrar_is_its_observers::<A>();
@@ -116,33 +120,99 @@ pub fn no_word_of_a_participant_disagrees<A: MrpApp>()
 /// In a run of two participants that go by ticks, what is told of the link from their PDUs is right
 /// after every tick: the observers of its ends hold what the registrars there hold, what each end
 /// sent is on its way, and no word disagreed with the observer of the end that said it. So none is
-/// ever broken.
+/// ever broken. `read` is what is read of the events that an end writes, in whatever order.
 pub fn no_word_is_broken_in_a_run<A: MrpApp>()
     ensures new { (leave_time : Cs) (a b : Cs × Bool)
         → IsTold {K = A.Key} {C = A.Content} A.Key.cmp
         (new_pair leave_time a b, unseen_link leave_time) }
-    ensures run { (x : Pair A.Key A.Content × LinkState A.Key A.Content)
+    ensures run { (read : List (MrpEvent × A.Key × A.Content)
+        → List (MrpEvent × A.Key × A.Content))
+        (x : Pair A.Key A.Content × LinkState A.Key A.Content)
         (ticks : List (Tick A.Key A.Content))
+        → ReadsWhatIsWritten read
         → IsTold A.Key.cmp x
-        → IsTold A.Key.cmp (run_after A.base A.octets A.Key.cmp A.Content.eq x ticks) }
-    ensures broken { (x : Pair A.Key A.Content × LinkState A.Key A.Content)
+        → IsTold A.Key.cmp (run_after A.base A.octets A.Key.cmp A.Content.eq read x ticks) }
+    ensures broken { (read : List (MrpEvent × A.Key × A.Content)
+        → List (MrpEvent × A.Key × A.Content))
+        (x : Pair A.Key A.Content × LinkState A.Key A.Content)
         (ticks : List (Tick A.Key A.Content))
+        → ReadsWhatIsWritten read
         → IsTold A.Key.cmp x
-        → run_broken A.base A.octets A.Key.cmp A.Content.eq x ticks ≡ 0 }
+        → run_broken A.base A.octets A.Key.cmp A.Content.eq read x ticks ≡ 0 }
 {
     a_way_holds_what_was_seen::<A>();
     no_word_of_a_participant_disagrees::<A>();
     what_happens_at_an_end_is_seen::<A>();
 }
 
+/// A replay of such a run follows it from tick to tick, from one on before which neither end has said
+/// anything: once what was said last has arrived, each
+/// observer holds what the registrars of its end hold, but for leave timers that have fired since,
+/// and no word is kept. It may pass over a tick in which neither end says anything, and in each may
+/// go on by further moments than those at which leave timers end. When an end comes to send, its rows
+/// are a participant's. No word is broken at any tick.
+pub fn a_replay_follows_a_run<A: MrpApp>()
+    ensures new { (read : List (MrpEvent × A.Key × A.Content)
+        → List (MrpEvent × A.Key × A.Content)) (leave_time first : Cs)
+        (pair : Pair A.Key A.Content)
+        → 1 ≤ leave_time.0
+        → AreFresh leave_time pair
+        → Follows A.base A.octets A.Key.cmp A.Content.eq read first pair (unseen leave_time) }
+    ensures passed_over { (read : List (MrpEvent × A.Key × A.Content)
+        → List (MrpEvent × A.Key × A.Content))
+        (tick : Tick A.Key A.Content) (pair : Pair A.Key A.Content)
+        (replayed : Replayed A.Key A.Content)
+        → ReadsWhatIsWritten read
+        → is_quiet A.base A.octets A.Key.cmp A.Content.eq read tick pair ≡ true
+        → Follows A.base A.octets A.Key.cmp A.Content.eq read tick.at pair replayed
+        → Follows A.base A.octets A.Key.cmp A.Content.eq read (next_moment tick.at)
+        (pair_after A.base A.octets A.Key.cmp A.Content.eq read pair tick) replayed }
+    ensures gone_to { (read : List (MrpEvent × A.Key × A.Content)
+        → List (MrpEvent × A.Key × A.Content))
+        (tick : Tick A.Key A.Content) (pair : Pair A.Key A.Content)
+        (replayed : Replayed A.Key A.Content) (moments : List Cs)
+        → ReadsWhatIsWritten read
+        → AreMoments A.Key.cmp tick.at replayed moments
+        → Follows A.base A.octets A.Key.cmp A.Content.eq read tick.at pair replayed
+        → Follows A.base A.octets A.Key.cmp A.Content.eq read (next_moment tick.at)
+        (pair_after A.base A.octets A.Key.cmp A.Content.eq read pair tick)
+        (said_by A.base A.octets A.Key.cmp A.Content.eq read moments pair replayed tick) }
+    ensures rows { (read : List (MrpEvent × A.Key × A.Content)
+        → List (MrpEvent × A.Key × A.Content))
+        (tick : Tick A.Key A.Content) (pair : Pair A.Key A.Content)
+        (replayed : Replayed A.Key A.Content)
+        → ReadsWhatIsWritten read
+        → Follows A.base A.octets A.Key.cmp A.Content.eq read tick.at pair replayed
+        → AreRows A.Key.cmp
+        (ready_a A.base A.octets A.Key.cmp A.Content.eq read tick pair).rows
+        × AreRows A.Key.cmp
+        (ready_b A.base A.octets A.Key.cmp A.Content.eq read tick pair).rows }
+    ensures unbroken { (read : List (MrpEvent × A.Key × A.Content)
+        → List (MrpEvent × A.Key × A.Content)) (next : Cs) (pair : Pair A.Key A.Content)
+        (replayed : Replayed A.Key A.Content)
+        → Follows A.base A.octets A.Key.cmp A.Content.eq read next pair replayed
+        → broken_then A.Key.cmp replayed ≡ 0 }
+{
+    a_way_holds_what_was_seen::<A>();
+    no_word_of_a_participant_disagrees::<A>();
+    what_happens_at_an_end_is_seen::<A>();
+    each_key_after_due::<A>();
+    each_key_after_receive::<A>();
+    each_key_awaits::<Cs>();
+    rows_stay_rows::<A>();
+}
+
 /// So it is in a replay of such a run, which sees those ticks alone in which something is said: time
 /// goes on from the one to the next, what was said arrives one cs after it was, leave timers fire at
 /// their own moments, and no word is told as broken, up to the capture's end.
 pub fn a_replay_of_a_run_breaks_no_word<A: MrpApp>()
-    ensures { (leave_time first : Cs) (a b : Cs × Bool) (ticks : List (Tick A.Key A.Content))
+    ensures { (read : List (MrpEvent × A.Key × A.Content)
+        → List (MrpEvent × A.Key × A.Content))
+        (leave_time first : Cs) (a b : Cs × Bool) (ticks : List (Tick A.Key A.Content))
+        → ReadsWhatIsWritten read
         → 1 ≤ leave_time.0
         → AreTicksFrom first ticks
-        → replay_broken A.base A.octets A.Key.cmp A.Content.eq
+        → replay_broken A.base A.octets A.Key.cmp A.Content.eq read
         (new_pair leave_time a b, unseen leave_time) ticks ≡ 0 }
 {
     a_way_holds_what_was_seen::<A>();

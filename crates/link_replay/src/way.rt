@@ -1,6 +1,6 @@
 //! One way over a link: what one end declares, and how it stands at the other.
 
-ghost use Rattle.std.specs.Prelude.{◌≡◌, ◌<◌, ◌^◌, ◌++◌, [], false, flat_map, fold, length, filter, slice_get, option_map, IfOk, OnOk, IsTrue, string_bytes, not, if◌then◌else◌};
+ghost use Rattle.std.specs.Prelude.{◌≡◌, ◌<◌, ◌^◌, ◌++◌, [], true, false, flat_map, fold, length, filter, slice_get, option_map, IfOk, OnOk, IsTrue, string_bytes, not, if◌then◌else◌};
 ghost use Rattle.std.specs.Option.{option_map_or};
 ghost use Rattle.std.specs.declared.cmp.Ordering.TheVariants.{Less};
 ghost use Rattle.mrp_participant.specs.Lookup.{Ascends, find};
@@ -8,7 +8,7 @@ ghost use Rattle.mrp_participant.specs.Row.{registered_in};
 ghost use Rattle.mrp_participant.specs.State.{IsTime, received_state};
 ghost use Rattle.attribute_propagation.specs.Dirty.{is_awaiting, all_marked};
 ghost use Rattle.link_replay.specs.Moments.{cs_cmp, is_up_to, later_than as later_than_spec};
-ghost use Rattle.link_replay.specs.Way.{new_way, stands_as, withdrawn_by, ends_by, ends_up_to, gone_text, passing_text, let_go_count, passing_way, owed_text, leaving_of, leaving_text, leave_all_text, leave_all_way, joining_text, withdrawing_text, heard_text, until_of, hearing_way, all_heard_text, all_hearing_way, is_held, is_broken, word_text};
+ghost use Rattle.link_replay.specs.Way.{IsOneOfEach, new_way, stands_as, withdrawn_by, ends_by, ends_up_to, gone_text, passing_text, let_go_count, passing_way, owed_text, leaving_of, leaving_text, leave_all_text, leave_all_way, joining_text, withdrawing_text, heard_text, until_of, hearing_way, all_heard_text, all_hearing_way, is_held, is_broken, word_text};
 
 use crate::app::WatchedApp;
 use crate::lines::{
@@ -232,15 +232,15 @@ impl<A: WatchedApp> Way<A> {
             ++ all_heard_text A.Key.cmp A.Content.eq A.key_text A.content_text at self.old
             events.now) }
     {
-        if keys_ascend(events) {
+        if is_one_of_each(self.alloc, events)? {
             self.hear_at_once(out, at, events)
         } else {
             self.hear_in_turn(out, at, events)
         }
     }
 
-    // Takes events of the speaker whose keys ascend. The observer takes them in one list, so that
-    // its rows move once.
+    // Takes events of the speaker of which each key has at most one. The observer takes them in one
+    // list, so that its rows move once.
     fn hear_at_once(
         &mut self,
         out: &mut String,
@@ -248,7 +248,7 @@ impl<A: WatchedApp> Way<A> {
         events: &[(MrpEvent, A::Key, A::Content)],
     ) -> Result<(), NoMemory>
         requires time { at.0 < 2 ^ 62 }
-        requires keys { Ascends A.Key.cmp (λ e. e.1) events.now }
+        requires keys { IsOneOfEach A.Key.cmp events.now }
         ensures way { OnOk result (self.new ≡ all_hearing_way A.Key.cmp at self.old events.now) }
         ensures text { OnOk result (string_bytes out.new ≡ string_bytes out.old
             ++ all_heard_text A.Key.cmp A.Content.eq A.key_text A.content_text at self.old
@@ -262,11 +262,11 @@ impl<A: WatchedApp> Way<A> {
         self.keep_all(events, until)
     }
 
-    // Of events whose keys ascend the same is said as of each by itself, and the observer may take
-    // them in one list. It is a law, and does nothing.
+    // Of events of which each key has at most one the same is said as of each by itself, and the
+    // observer may take them in one list. It is a law, and does nothing.
     fn hears_alike(&self, at: Cs, until: Cs, events: &[(MrpEvent, A::Key, A::Content)])
         requires until { until ≡ until_of at self.now }
-        requires keys { Ascends A.Key.cmp (λ e. e.1) events.now }
+        requires keys { IsOneOfEach A.Key.cmp events.now }
         ensures way { all_hearing_way A.Key.cmp at self.now events.now ≡ record self.now {
           observer = received_state A.Key.cmp at false events.now self.now.observer;
           ends = fold (λ ends e. ends_by e.0 until ends) self.now.ends events.now;
@@ -533,8 +533,20 @@ fn later_than(alloc: Global, moments: &[Cs], at: Cs) -> Result<Dirty<Cs>, NoMemo
     Ok(set)
 }
 
-// Whether the keys of events ascend strictly. That it says so wherever they do is for the sake of
-// speed alone, and no clause asks it.
+// Whether each key has at most one of some events, in whatever order they come. That it says so
+// wherever it is so is for the sake of speed alone, and no clause asks it.
+fn is_one_of_each<K: Copy + Ord, C: Copy>(
+    alloc: Global,
+    events: &[(MrpEvent, K, C)],
+) -> Result<bool, NoMemory>
+    ensures { IfOk result (λ is. is ≡ true → IsOneOfEach K.cmp events.now) }
+{
+    let mut sorted = Vec::from_slice(alloc, events)?;
+    sorted.sort_by_key(|event| event.1)?;
+    Ok(keys_ascend(sorted.as_slice()))
+}
+
+// Whether the keys of events ascend strictly.
 fn keys_ascend<K: Copy + Ord, C: Copy>(events: &[(MrpEvent, K, C)]) -> bool
     ensures { IsTrue result → Ascends K.cmp (λ e. e.1) events.now }
 {

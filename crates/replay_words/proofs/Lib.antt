@@ -1,6 +1,10 @@
+pub mod BookedFor
 pub mod BookingLemmas
+pub mod CoreLinks
 pub mod CutLemmas
 pub mod Documents
 pub mod Joining
+pub mod Ledgers
+pub mod OneEach
 pub mod Runs
 pub mod UpTo

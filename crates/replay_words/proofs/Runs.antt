@@ -29,7 +29,7 @@ unfolding seen_from seen_said
 of_end at p seen None s = refl
 of_end at p seen (Some who) s = refl
 
-of_frame : (ends : Ends) (at : Cs) (p : Packet) (found : Option Seen) (s : LinkSeen) → (seen_frame ends at p found s).at ≡ s.at
+pub of_frame : (ends : Ends) (at : Cs) (p : Packet) (found : Option Seen) (s : LinkSeen) → (seen_frame ends at p found s).at ≡ s.at
 unfolding seen_frame
 of_frame ends at p None s = refl
 of_frame ends at p (Some seen) s = of_end at p seen (end_at ends seen.address) s

@@ -1,11 +1,11 @@
 -- The moments at which leave timers end by a moment aren't after it.
-use Rattle.std.proofs.Common.{◌≡◌, ◌∙◌, ◌≤◌, ℕ, Bool, true, false, if◌then◌else◌, nat_le, List, [], ◌∷◌, ◌++◌, filter, refl, sym, subst, arith}
+use Rattle.std.proofs.Common.{◌≡◌, ◌∙◌, ◌≤◌, Bool, true, false, if◌then◌else◌, nat_le, List, [], ◌∷◌, ◌++◌, filter, refl, sym, subst, arith}
 use Rattle.std.proofs.lemmas.List.Sums.{fold-append}
 use Rattle.std.specs.{declared.cmp.Ordering.Ordering, declared.cmp.Ordering.TheVariants.Less, declared.cmp.Ordering.TheVariants.Equal, declared.cmp.Ordering.TheVariants.Greater, List.AllByRecursion}
 use Rattle.std.proofs.lemmas.Bool.Decides.{nat_tests}
 use Rattle.srp_base.specs.declared.numbers.Cs.{Cs}
 use Rattle.attribute_propagation.specs.Dirty.{with_key, all_marked, marked_at}
-use Rattle.link_replay.specs.{Moments.cs_cmp, Moments.is_up_to, BothWays.Ways}
+use Rattle.link_replay.specs.{Moments.cs_cmp, Moments.is_up_to}
 use Rattle.replay_words.specs.{Watched.Watched, Watched.watched_ends}
 
 module _ (at : Cs) where

@@ -7,6 +7,7 @@ use Rattle.mrp_participant.specs.State.{Messages}
 use Rattle.mmrp_codec.specs.declared.pdu.GroupPdu.{GroupPdu}
 use Rattle.msrp_codec.specs.declared.pdu.{MsrpKey.MsrpKey, MsrpContent.MsrpContent, MsrpPdu.MsrpPdu}
 use Rattle.mvrp_codec.specs.declared.pdu.MvrpPdu.{MvrpPdu}
+use Rattle.replay_words.specs.Replaced.{without_replaced}
 
 -- `vlan 2`
 abbrev pub vlan_text : ℕ → List ℕ
@@ -31,9 +32,9 @@ no_text _ = []
 abbrev pub vlan_messages : MvrpPdu → Messages ℕ (Unit {0})
 vlan_messages pdu = record { leave_all = pdu.leave_all; events = said_events pdu.events }
 
--- of MSRP
+-- of MSRP: of a Talker that goes from one attribute to the other what it declares
 abbrev pub stream_messages : MsrpPdu → Messages MsrpKey MsrpContent
-stream_messages pdu = record { leave_all = pdu.leave_all; events = pdu.events }
+stream_messages pdu = record { leave_all = pdu.leave_all; events = without_replaced pdu.events }
 
 -- of MMRP
 abbrev pub group_messages : GroupPdu → Messages ℕ (Unit {0})

@@ -3,7 +3,7 @@ use Rattle.std.specs.Prelude.{ℕ, Bool, false, ◌==◌, if◌then◌else◌, L
 use Rattle.capture_file.specs.Packets.{Packet}
 use Rattle.link_replay.specs.declared.lines.End.{End}
 use Rattle.link_replay.specs.declared.lines.End.TheVariants.{A, B}
-use Rattle.mrp_frames.specs.Frames.{Seen, frame_in}
+use Rattle.mrp_frames.specs.Frames.{frame_in}
 use Rattle.replay_words.specs.declared.ends.Ends.{Ends}
 
 -- whether an address is this one, where it is known

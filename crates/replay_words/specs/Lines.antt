@@ -1,6 +1,5 @@
 -- The lines of a replay that aren't link_replay's. A line ends with a line feed.
 use Rattle.std.specs.Prelude.{ℕ, List, [], ◌∷◌, codes}
-use Rattle.std.specs.Fmt.{decimal}
 use Rattle.srp_base.specs.{Hexadecimal.hex12_text, Text.whole_of, declared.numbers.Cs.Cs}
 use Rattle.link_replay.specs.declared.lines.End.{End}
 use Rattle.link_replay.specs.{Moments.moment_text, Lines.end_front}

@@ -1,7 +1,6 @@
 -- A file to be replayed to what is printed of it.
-use Rattle.std.specs.Prelude.{ℕ, List, [], ◌∷◌, ◌++◌, Option, Some, None, Result, Ok, Err, string_bytes}
-use Rattle.std.specs.declared.string.String.{String}
-use Rattle.srp_base.specs.{Results.◌>>=◌, Results.Gives, Text.whole_of}
+use Rattle.std.specs.Prelude.{ℕ, List, [], ◌∷◌, ◌++◌, Option, Some, None, Result, Ok, Err}
+use Rattle.srp_base.specs.{Results.◌>>=◌, Text.whole_of}
 use Rattle.capture_file.specs.{Grammar.Outcome, Packets.Packet, Reading.reading}
 use Rattle.pdu_words.specs.Captured.{broken_line, cause_line}
 use Rattle.stream_importance.specs.declared.slope.Caps.{Caps}

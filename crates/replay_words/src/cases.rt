@@ -26,6 +26,20 @@ const ADVERTISE: &[u8] = &[
     0, 1, 0x70, 0, 0, 0, 0, 0x6c, 0, 0, 0, 0,
 ];
 
+// JoinMt of a Talker Failed of that stream: the bridge 8000:020000000002 refuses it with code 1.
+const FAILED: &[u8] = &[
+    0, 2, 34, 0, 39, 0, 1, 2, 0, 0, 0, 0, 1, 0, 1, 0x91, 0xe0, 0xf0, 0, 0x0e, 0x80, 0, 2, 0, 224,
+    0, 1, 0x70, 0, 0, 0, 0, 0x80, 0, 2, 0, 0, 0, 0, 2, 1, 0x6c, 0, 0, 0, 0,
+];
+
+// JoinMt of the Talker Advertise and Lv of the Talker Failed, in one PDU.
+const FAILS_NO_MORE: &[u8] = &[
+    0, 1, 25, 0, 30, 0, 1, 2, 0, 0, 0, 0, 1, 0, 1, 0x91, 0xe0, 0xf0, 0, 0x0e, 0x80, 0, 2, 0, 224,
+    0, 1, 0x70, 0, 0, 0, 0, 0x6c, 0, 0, 2, 34, 0, 39, 0, 1, 2, 0, 0, 0, 0, 1, 0, 1, 0x91, 0xe0,
+    0xf0, 0, 0x0e, 0x80, 0, 2, 0, 224, 0, 1, 0x70, 0, 0, 0, 0, 0x80, 0, 2, 0, 0, 0, 0, 2, 1, 0xb4,
+    0, 0, 0, 0,
+];
+
 // JoinMt and Lv of a Listener Ready of that stream.
 const READY: &[u8] = &[
     0, 3, 8, 0, 14, 0, 1, 2, 0, 0, 0, 0, 1, 0, 1, 0x6c, 0x80, 0, 0, 0, 0,
@@ -143,5 +157,18 @@ fn a_booking_follows_and_is_dropped(rt: HostRuntime) {
                 2.01 b>a listener 0200000000010001 LV until 2.61\n\
                 2.61 b>a listener 0200000000010001 MT\n2.61 a>b dropped 0200000000010001\n\
                 owed 0\nbroken 0\nframes 4 other 0\n";
+    assert!(rt; shows(rt.alloc(), &frames, text));
+}
+
+#[test]
+fn a_talker_that_fails_no_more_stands(rt: HostRuntime) {
+    let frames = [
+        (100, 1, AppForm::Msrp, FAILED),
+        (200, 1, AppForm::Msrp, FAILS_NO_MORE),
+    ];
+    let text = "1.01 a>b talker 0200000000010001 IN failed bridge 8000020000000002 code 1 dest \
+                91e0f0000e80 vid 2 octets 224 frames 1 priority 3 rank 1 latency 0\n2.01 a>b talker \
+                0200000000010001 IN advertise dest 91e0f0000e80 vid 2 octets 224 frames 1 \
+                priority 3 rank 1 latency 0\nowed 0\nbroken 0\nframes 2 other 0\n";
     assert!(rt; shows(rt.alloc(), &frames, text));
 }

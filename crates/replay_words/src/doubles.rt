@@ -12,6 +12,9 @@ use msrp_codec::{MsrpContent, MsrpKey};
 use srp_base::{Cs, MrpEvent, NoMemory, StreamId};
 use std::alloc::Global;
 
+/// An event of MSRP: of a key, with what it declares.
+pub(crate) type StreamEvent = (MrpEvent, MsrpKey, MsrpContent);
+
 /// Says of which streams the events of a PDU of an end declare both. Answers how many there are.
 #[tactic(auto, unfolding(crate::specs::Doubles::doubles_text, crate::specs::Doubles::doubles_count))]
 pub(crate) fn write_doubles(
@@ -19,7 +22,7 @@ pub(crate) fn write_doubles(
     out: &mut String,
     at: Cs,
     who: End,
-    events: &[(MrpEvent, MsrpKey, MsrpContent)],
+    events: &[StreamEvent],
 ) -> Result<u64, NoMemory>
     ensures text { OnOk result (string_bytes out.new
         ≡ string_bytes out.old ++ doubles_text at who events.now) }
@@ -35,7 +38,7 @@ fn write_among(
     at: Cs,
     who: End,
     streams: &Dirty<StreamId>,
-    events: &[(MrpEvent, MsrpKey, MsrpContent)],
+    events: &[StreamEvent],
 ) -> Result<u64, NoMemory>
     ensures text { OnOk result (string_bytes out.new ≡ string_bytes out.old
         ++ flat_map (double_text at who streams.now.keys) events.now) }
@@ -55,7 +58,7 @@ fn write_one(
     at: Cs,
     who: End,
     streams: &Dirty<StreamId>,
-    event: &(MrpEvent, MsrpKey, MsrpContent),
+    event: &StreamEvent,
 ) -> Result<u64, NoMemory>
     ensures text { OnOk result (string_bytes out.new
         ≡ string_bytes out.old ++ double_text at who streams.now.keys event.now) }
@@ -71,7 +74,7 @@ fn write_one(
 
 // Whether an event declares a Talker Failed of one of some streams.
 #[tactic(auto, unfolding(crate::specs::Doubles::is_double))]
-fn is_double(streams: &Dirty<StreamId>, event: &(MrpEvent, MsrpKey, MsrpContent)) -> bool
+fn is_double(streams: &Dirty<StreamId>, event: &StreamEvent) -> bool
     ensures { result ≡ is_double streams.now.keys event.now }
 {
     is_declaring(event.0) && is_failed_of(streams, event.2)
@@ -89,8 +92,8 @@ fn is_failed_of(streams: &Dirty<StreamId>, content: MsrpContent) -> bool
     }
 }
 
-// Whether an event declares its attribute.
-fn is_declaring(event: MrpEvent) -> bool
+/// Whether an event declares its attribute.
+pub(crate) fn is_declaring(event: MrpEvent) -> bool
     ensures { result ≡ is_declaring event }
 {
     match event {
@@ -99,11 +102,8 @@ fn is_declaring(event: MrpEvent) -> bool
     }
 }
 
-// The streams that the events of a PDU advertise, each once.
-fn advertised(
-    alloc: Global,
-    events: &[(MrpEvent, MsrpKey, MsrpContent)],
-) -> Result<Dirty<StreamId>, NoMemory>
+/// The streams that the events of a PDU advertise, each once.
+pub(crate) fn advertised(alloc: Global, events: &[StreamEvent]) -> Result<Dirty<StreamId>, NoMemory>
     ensures { IfOk result (λ streams. streams.keys ≡ advertised events.now) }
 {
     let mut streams = Dirty::new(alloc);
@@ -115,10 +115,7 @@ fn advertised(
 
 // Keeps the stream that an event advertises.
 #[tactic(auto, unfolding(crate::specs::Doubles::advertised_in))]
-fn mark_advertised(
-    streams: &mut Dirty<StreamId>,
-    event: &(MrpEvent, MsrpKey, MsrpContent),
-) -> Result<(), NoMemory>
+fn mark_advertised(streams: &mut Dirty<StreamId>, event: &StreamEvent) -> Result<(), NoMemory>
     ensures { OnOk result (streams.new.keys
         ≡ all_marked stream_cmp (advertised_in event.now) streams.old.keys) }
 {

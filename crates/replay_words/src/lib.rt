@@ -59,7 +59,12 @@
 //! The ends are those that the head names, or else the first two source addresses of frames of MRP
 //! (`specs/Ends`). A stream is booked at a port (`specs/Bookings`) where its Talker Advertise stands
 //! at the other end and a Listener Ready or Ready Failed at this one: what two ends that keep to the
-//! standard have booked. Where that passes a cap, an end granted more than it may.
+//! standard have booked (law `what_is_booked_stands`), as the lines tell it frame by frame
+//! (`the_lines_tell_the_bookings`). Where that passes a cap, an end granted more than it may.
+//!
+//! A Talker that goes from Failed to Advertise, or back, in one PDU is told as what that declares
+//! (`specs/Replaced`). What two nodes of this project say over a link, with nothing lost, is never
+//! broken: `what_this_core_sends_is_never_broken`, of the link and its capture in `specs/CoreLink`.
 //!
 //! A further application is a `WatchedApp` in `apps`, with its ways in `specs/Watched` and its
 //! reading in `watched`. A further key of the head is a rule in `specs/Head`, with its words in
@@ -81,6 +86,7 @@ mod followed;
 mod head;
 pub mod laws;
 mod lines;
+mod replaced;
 mod replay;
 mod seen;
 mod watched;
@@ -91,5 +97,8 @@ pub use counts::Counts;
 pub use ends::Ends;
 pub use error::ReplayErr;
 pub use head::Head;
-pub use laws::{a_replay_goes_on, moments_never_fall, what_is_booked_stands};
+pub use laws::{
+    a_replay_goes_on, moments_never_fall, the_lines_tell_the_bookings, what_is_booked_stands,
+    what_this_core_sends_is_never_broken,
+};
 pub use replay::replayed_text;

@@ -20,6 +20,7 @@ use crate::apps::{Groups, Streams, Vlans, messages};
 use crate::booking::{Booked, bookings_of};
 use crate::doubles::write_doubles;
 use crate::lines::write_broken_pdu;
+use crate::replaced::without_replaced;
 use attribute_propagation::Dirty;
 use link_replay::{End, LinkWatch};
 use mmrp_codec::GroupPdu;
@@ -251,9 +252,10 @@ impl Watches {
         ensures count { IfOk result (λ n. n ≡ streams_broken (Ok pdu)) }
     {
         let doubles = write_doubles(self.alloc, out, at, who, pdu.events.as_slice())?;
+        let events = without_replaced(self.alloc, pdu.events.as_slice())?;
         let msgs = Msgs {
             leave_all: pdu.leave_all,
-            events: pdu.events,
+            events,
         };
         self.streams.says(out, at, who, msgs)?;
         Ok(doubles)

@@ -13,13 +13,13 @@ returns-clause-new g c = λ leave_time a b. record {
 }
 
 pub returns-clause-run : goal.returns-clause-run
-returns-clause-run g c = λ x ticks told.
-    runs_on g.A.MrpApp.base g.A.MrpApp.octets g.A.Key.Ord.cmp g.A.Content.PartialEq.eq
+returns-clause-run g c = λ read x ticks only told.
+    runs_on g.A.MrpApp.base g.A.MrpApp.octets g.A.Key.Ord.cmp g.A.Content.PartialEq.eq read only
     c.what_happens_at_an_end_is_seen.ensures.event c.what_happens_at_an_end_is_seen.ensures.rows
     c.a_way_holds_what_was_seen.ensures.comes c.a_way_holds_what_was_seen.ensures.goes c.no_word_of_a_participant_disagrees.ensures ticks x told
 
 pub returns-clause-broken : goal.returns-clause-broken
-returns-clause-broken g c = λ x ticks told.
-    none_broken g.A.MrpApp.base g.A.MrpApp.octets g.A.Key.Ord.cmp g.A.Content.PartialEq.eq
+returns-clause-broken g c = λ read x ticks only told.
+    none_broken g.A.MrpApp.base g.A.MrpApp.octets g.A.Key.Ord.cmp g.A.Content.PartialEq.eq read only
     c.what_happens_at_an_end_is_seen.ensures.event c.what_happens_at_an_end_is_seen.ensures.rows
     c.a_way_holds_what_was_seen.ensures.comes c.a_way_holds_what_was_seen.ensures.goes c.no_word_of_a_participant_disagrees.ensures ticks x told
