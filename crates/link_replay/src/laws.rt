@@ -100,9 +100,9 @@ pub fn a_way_holds_what_was_seen<A: MrpApp>()
         → (passing_way now way).observer ≡ seen_state A.Key.cmp way.observer (Passes now) }
 {}
 
-/// No word of a participant on its registrars disagrees when it is said, where its observer has seen
-/// what it has, whichever of its words are read there and in whatever order: so none is kept to be
-/// judged.
+/// No word of a participant on its registrars disagrees when it is said, where its observer has
+/// seen what it has, whichever of its words are read there and in whatever order: so none is kept
+/// to be judged.
 pub fn no_word_of_a_participant_disagrees<A: MrpApp>()
     ensures { (own : State A.Key A.Content) (ways : Ways A.Key A.Content) (who : End) (now : Cs)
         (events : List (MrpEvent × A.Key × A.Content))
@@ -145,12 +145,12 @@ pub fn no_word_is_broken_in_a_run<A: MrpApp>()
     what_happens_at_an_end_is_seen::<A>();
 }
 
-/// A replay of such a run follows it from tick to tick, from one on before which neither end has said
-/// anything: once what was said last has arrived, each
-/// observer holds what the registrars of its end hold, but for leave timers that have fired since,
-/// and no word is kept. It may pass over a tick in which neither end says anything, and in each may
-/// go on by further moments than those at which leave timers end. When an end comes to send, its rows
-/// are a participant's. No word is broken at any tick.
+/// A replay of such a run follows it from tick to tick, from one on before which neither end has
+/// said anything: once what was said last has arrived, each observer holds what the registrars of
+/// its end hold, but for leave timers that have fired since, and no word is kept. It may pass over
+/// a tick in which neither end says anything, and in each may go on by further moments than those
+/// at which leave timers end. When an end comes to send, its rows are a participant's. No word is
+/// broken at any tick.
 pub fn a_replay_follows_a_run<A: MrpApp>()
     ensures new { (read : List (MrpEvent × A.Key × A.Content)
         → List (MrpEvent × A.Key × A.Content)) (leave_time first : Cs)

@@ -167,8 +167,8 @@ fn a_talker_that_fails_no_more_stands(rt: HostRuntime) {
         (200, 1, AppForm::Msrp, FAILS_NO_MORE),
     ];
     let text = "1.01 a>b talker 0200000000010001 IN failed bridge 8000020000000002 code 1 dest \
-                91e0f0000e80 vid 2 octets 224 frames 1 priority 3 rank 1 latency 0\n2.01 a>b talker \
-                0200000000010001 IN advertise dest 91e0f0000e80 vid 2 octets 224 frames 1 \
-                priority 3 rank 1 latency 0\nowed 0\nbroken 0\nframes 2 other 0\n";
+                91e0f0000e80 vid 2 octets 224 frames 1 priority 3 rank 1 latency 0\n\
+                2.01 a>b talker 0200000000010001 IN advertise dest 91e0f0000e80 vid 2 octets 224 \
+                frames 1 priority 3 rank 1 latency 0\nowed 0\nbroken 0\nframes 2 other 0\n";
     assert!(rt; shows(rt.alloc(), &frames, text));
 }

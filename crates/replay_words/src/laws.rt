@@ -98,10 +98,10 @@ pub fn what_is_booked_stands()
     keys_stay_ascending::<Booking>();
 }
 
-/// The lines `booked` and `dropped` tell what is booked: in a text of changes they are those of what
-/// is gone and of what is new, in front of the caps that are passed. Who begins with what is booked
-/// at a port, and keeps a ledger by these lines of a replay, has behind every frame exactly what is
-/// booked there.
+/// The lines `booked` and `dropped` tell what is booked: in a text of changes they are those of
+/// what is gone and of what is new, in front of the caps that are passed. Who begins with what is
+/// booked at a port, and keeps a ledger by these lines of a replay, has behind every frame exactly
+/// what is booked there.
 pub fn the_lines_tell_the_bookings()
     ensures lines { (at : Cs) (who : End) (caps : Caps) (before after : List Booking)
         → changes_text at who caps before after

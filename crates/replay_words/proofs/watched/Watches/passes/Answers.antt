@@ -1,4 +1,4 @@
-use Rattle.std.proofs.Common.{◌≡◌, sym, arith}
+use Rattle.std.proofs.Common.{sym, arith}
 use Rattle.replay_words.specs.Watched.{watched_let_go, watched_passing_text}
 use Rattle.replay_words.proofs.Joining.{joined}
 use Rattle.replay_words.proofs.watched.Watches.passes.Goals as goal
