@@ -2,7 +2,6 @@
 
 ghost use Rattle.std.specs.Prelude.{◌≡◌, ℕ, Bool, List, Ok};
 ghost use Rattle.srp_base.specs.declared.mrp.MrpEvent.{MrpEvent as Event};
-ghost use Rattle.attribute_propagation.specs.Ports.{IsLinkPort, place_of};
 ghost use Rattle.flat_side.specs.{Codec.IsFitting, Codec.IsWritten, Keys.AreOfKeys};
 
 use crate::app::{LinkApp, ReadyApp};
