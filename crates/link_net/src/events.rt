@@ -2,8 +2,8 @@
 
 use srp_base::{EgressPort, NodeNo};
 
-/// What happens in a network, of requests `R`, steps `S` and PDUs `P`. The port of a loss, of a copy
-/// and of a forgery is the receiving one.
+/// What happens in a network, of requests `R`, steps `S` and PDUs `P`. The port of a loss, of a
+/// copy and of a forgery is the receiving one.
 #[derive(Drop)]
 pub enum NetEvent<R, S, P> {
     /// The application of a station asks for something.

@@ -64,8 +64,8 @@ impl<N: LinkNode> Net<N> {
     }
 
     /// Lets one event happen, and answers what came of it: a request and a port's step as the node
-    /// does, `Missed` comes exactly where no PDU has the index, or the inbox doesn't reach to that of
-    /// a forged one, and `Done` for all else. The nodes and ports that the event names exist, a
+    /// does, `Missed` comes exactly where no PDU has the index, or the inbox doesn't reach to that
+    /// of a forged one, and `Done` for all else. The nodes and ports that the event names exist, a
     /// station asks, a forged PDU is as short as a frame allows, and the clock goes on from below
     /// 2^61. After want of memory the network is as it was.
     pub fn step(

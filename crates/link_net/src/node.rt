@@ -34,8 +34,8 @@ pub trait LinkNode: Drop {
     // The node is ready for the clock: it has the memory of the next moment.
     ghost is_ready: { Self → Type 0 };
 
-    /// A link port makes a step at the moment `now`, below 2^62. After want of memory the node is
-    /// as it was.
+    /// A link port, which there is, makes a step at the moment `now`, in cs, below 2^62. After want
+    /// of memory the node is as it was.
     fn step(&mut self, now: Cs, port: PortNo, step: Self::Step) -> Result<Self::Reply, NoMemory>
         requires now { now.0 < 2 ^ 62 }
         requires port { IsLinkPort port (meaning.ports_of (state self.old)) }
@@ -91,8 +91,8 @@ pub trait LinkNode: Drop {
             ≡ repeated_at meaning (place_of port) index (state self.old)) }
         ensures err { OnErr result (state self.new ≡ state self.old) };
 
-    /// Puts a PDU, as short as a frame allows, at the place of an index in a link port's inbox, which
-    /// reaches so far. After want of memory the node is as it was.
+    /// Puts a PDU, as short as a frame allows, at the place of an index in a link port's inbox,
+    /// which reaches so far. After want of memory the node is as it was.
     fn forge(&mut self, port: PortNo, index: usize, pdu: Self::Pdu) -> Result<(), NoMemory>
         requires port { IsLinkPort port (meaning.ports_of (state self.old)) }
         requires reaches { index ≤ length (meaning.inbox (place_of port) (state self.old)) }

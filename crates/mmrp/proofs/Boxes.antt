@@ -4,7 +4,8 @@ use Rattle.std.specs.Prelude.{slice_get, slice_set, slice_index_or, Option, Some
 use Rattle.std.specs.{List.AllByRecursion, List.insert, Option.option_map_or}
 use Rattle.srp_base.proofs.Lists.{get_set_other}
 use Rattle.mrp_participant.specs.Link.{with_repeat}
-use Rattle.mmrp.specs.{Waiting, AreShort, box_at, without}
+use Rattle.link_net.specs.Meaning.{without, with_one}
+use Rattle.mmrp.specs.{Waiting, AreShort, box_at}
 
 pub box_other : (boxes : List Waiting) (at k : ℕ) (wires : Waiting) → at ≢ k → box_at k (slice_set boxes at wires) ≡ box_at k boxes
 box_other boxes at k wires ne = ap (λ (o : Option (Waiting)). option_map_or (λ wires. wires) o []) (get_set_other boxes at k wires ne)
@@ -56,6 +57,15 @@ each_repeated P i [] h = nil i
     nil j = tt
 each_repeated P zero (x ∷ xs) h = (h.0, (h.0, h.1))
 each_repeated P (suc i) (x ∷ xs) h = (h.0, each_repeated P i xs h.1)
+
+pub each_with_one : (P : List ℕ → Type 0) (i : ℕ) (x : List ℕ) (xs : Waiting) → P x → AllByRecursion P xs → AllByRecursion P (with_one i x xs)
+each_with_one P i x [] p h = nil i
+  where
+    nil : (j : ℕ) → AllByRecursion P (with_one j x [])
+    nil zero = (p, tt)
+    nil (suc j) = (p, tt)
+each_with_one P zero x (y ∷ ys) p h = (p, h)
+each_with_one P (suc i) x (y ∷ ys) p h = (h.0, each_with_one P i x ys p h.1)
 
 pub each_new : {X : Type 0} (P : List ℕ → Type 0) (xs : List X) → AllByRecursion (AllByRecursion P) (map (λ _. []) xs)
 each_new P [] = tt

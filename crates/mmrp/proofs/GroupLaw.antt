@@ -14,8 +14,8 @@ use Rattle.mrp_participant.specs.{Link.Link, Link.AreDutiesMet, State.is_still, 
 use Rattle.tree_topology.proofs.EgressPorts.{same_numbers}
 use Rattle.attribute_propagation.proofs.{Lists.get-empty, Lists.range-from, Lists.range-at, FlatLemmas.flat-cases, FlatLemmas.flat-own, FlatLemmas.flat-other, FlatLemmas.some_elsewhere, FlatLemmas.elsewhere_some}
 use Rattle.flat_side.specs.Side.{are_still, is_flat}
-use Rattle.mmrp.specs.{Part, registers, declares, has_joined, NodeGroups, Waiting, are_all_sound, are_empty, box_at, is_still_node, NetGroups, node_at, inbox, outbox, in_flight, link_of, message_of, part_at, part_in, IsKeptNet, is_registered, is_station_at, is_joined_at, is_joined_behind, HasJoinedBehind, GroupsMatch, IsAtRest}
-use Rattle.mmrp.proofs.Places.{empty-box}
+use Rattle.mmrp.specs.{Part, registers, declares, has_joined, NodeGroups, Waiting, are_all_sound, are_empty, box_at, is_still_node, NetGroups, node_at, inbox, outbox, in_flight, link_between, message_of, part_at, part_in, IsKeptNet, is_registered, is_station_at, is_joined_at, is_joined_behind, HasJoinedBehind, GroupsMatch, IsAtRest}
+use Rattle.mmrp.proofs.{Places.empty-box, Linking.no_bridge_joined}
 
 -- what a still link registers at its near end
 abbrev pub StillLink : Type 0
@@ -67,7 +67,7 @@ module _ (w : NetGroups) (kept : IsKeptNet w) (rest : IsAtRest w) (laws : HasPor
       → is_still near ≡ true → is_still far ≡ true → far.sound ≡ true
       → (k : ℕ) → registered_at nat_cmp k near ≡ declared_at nat_cmp k far
   registers-declared p h near far a b near-still far-still far-sound k =
-      still (link_of p w near far) (kept.duties p h near far a b)
+      still (link_between near far (in_flight p w) (in_flight (peer_of w.tree.links p) w)) (kept.duties tt p h near far a b)
       (ap (filter_map message_of) (none-in-flight p h)) (ap (filter_map message_of) (none-in-flight (peer_of w.tree.links p) (laws.peer_port p h)))
       near-still far-still far-sound k
 
@@ -81,7 +81,7 @@ module _ (w : NetGroups) (kept : IsKeptNet w) (rest : IsAtRest w) (laws : HasPor
   ports-are : (p : EgressPort) (s : NodeGroups) → HasPort w.tree p → node_at p.node w ≡ Some s → length s.side.parts ≡ length (neighbours w.tree.links p.node.0)
   ports-are p s h e =
       let one : p.node.0 - 1 + 1 ≡ p.node.0 = omega (arith, h.0.0) in
-      kept.ports (p.node.0 - 1) s e ∙ ap (λ n. length (neighbours w.tree.links n)) one
+      (kept.nodes (p.node.0 - 1) s e).ports ∙ ap (λ n. length (neighbours w.tree.links n)) one
 
   at-port : (p : EgressPort) → HasPort w.tree p → At p
   at-port p h =
@@ -116,7 +116,7 @@ module _ (w : NetGroups) (kept : IsKeptNet w) (rest : IsAtRest w) (laws : HasPor
   -- what a port declares is what the flat rule says, since nothing awaits
   settled : (p : EgressPort) (a : At p) (mac : ℕ) → declares mac a.part ≡ is_flat nat_cmp a.s.side (place_of p.port) mac
   settled p a mac =
-      let side = (kept.proper (p.node.0 - 1) a.s a.node).kept.side in
+      let side = (kept.nodes (p.node.0 - 1) a.s a.node).kept.proper.kept.side in
       let lt : place_of p.port < length a.s.side.awaiting = omega (arith, side.ports, slice_get_within a.s.side.parts (place_of p.port) a.part a.has) in
       let macs = within a.s.side.awaiting (place_of p.port) lt in
       let none : macs.0 ≡ [] = get-empty a.s.side.awaiting (place_of p.port) macs.0 (still-node p a).none macs.1 in
@@ -147,7 +147,7 @@ module _ (w : NetGroups) (kept : IsKeptNet w) (rest : IsAtRest w) (laws : HasPor
       by : (k : NodeKind) → slice_get w.tree.kinds ((peer_of w.tree.links p).node.0 - 1) ≡ Some k → is_station_at w (far_node w.tree.links p) ≡ true
       by Station is = ap (λ o. option_map_or is_station o false) is
       by Bridge is =
-          let none : has_joined mac b.s.side ≡ false = ap (λ own. is_awaiting nat_cmp mac own) (kept.idle ((peer_of w.tree.links p).node.0 - 1) b.s b.node is) in
+          let none : has_joined mac b.s.side ≡ false = ap (λ own. is_awaiting nat_cmp mac own) (no_bridge_joined w kept ((peer_of w.tree.links p).node.0 - 1) b.s b.node is) in
           cc
 
   -- another port of the far node that has the MAC address registered

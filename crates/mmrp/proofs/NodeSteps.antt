@@ -10,7 +10,8 @@ use Rattle.mmrp_codec.specs.declared.pdu.GroupPdu.{GroupPdu}
 use Rattle.mmrp_codec.specs.{Meaning.AreMacs, Meaning.mmrp_reading, Writing.mmrp_spelling}
 use Rattle.mrp_participant.specs.State.{AreRows, is_silent, new_state}
 use Rattle.flat_side.specs.Side.{IsKept, with_part, at_part, has_own, new_flat, received_flat, due_flat, settled_flat, sent_flat, requested_flat, spoilt_flat}
-use Rattle.mmrp.specs.{GroupStep, Work, Due, Settle, Send, Part, Groups, IsMac, IsProper, base, octets, pdu_sent, NodeGroups, Waiting, AreShort, IsKeptNode, IsProperNode, after_work, asked, box_at, lost_at, port_step, repeated_at, sent_octets, spoilt_at, with_carried, with_inbox, with_outbox, without, worked}
+use Rattle.link_net.specs.Meaning.{without}
+use Rattle.mmrp.specs.{GroupStep, Work, Due, Settle, Send, Part, Groups, IsMac, IsProper, base, octets, pdu_sent, NodeGroups, Waiting, AreShort, IsKeptNode, IsProperNode, after_work, asked, box_at, lost_at, port_step, repeated_at, sent_octets, spoilt_at, with_carried, with_inbox, with_outbox, worked}
 use Rattle.mmrp.proofs.{Boxes.IsShortPdu, Boxes.each_box, Boxes.each_without, Boxes.each_repeated, Boxes.each_new, Nodes.IsOfSamePlace, PartSteps.WrittenLaw}
 
 -- the laws of MMRP at a node, as its public laws say them

@@ -8,7 +8,7 @@ use Rattle.tree_topology.specs.{Topology.HasNode, Topology.HasPort, Refusal.is_s
 use Rattle.registrar.specs.declared.{Registrar.Registrar, Registrar.TheVariants.Empty}
 use Rattle.registrar.specs.Table.{is_registered_in}
 use Rattle.mrp_participant.specs.declared.row.Row.{Row}
-use Rattle.mmrp.specs.{Macs.Part, Macs.registers, Macs.registrar_in, Macs.has_joined, Net.NetGroups, Net.node_at, Net.is_quiet, Net.is_in_step, Duty.part_at}
+use Rattle.mmrp.specs.{Macs.Part, Macs.registers, Macs.registrar_in, Macs.has_joined, Net.NetGroups, Net.node_at, Net.part_at, Net.is_quiet, Net.is_in_step}
 
 -- the state of the registrar of a MAC address at a port, MT where there is no row
 abbrev pub registrar_at : NetGroups → ℕ → EgressPort → Registrar

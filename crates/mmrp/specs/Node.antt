@@ -1,12 +1,13 @@
 -- A node that runs MMRP, and one step of one of its link ports: the node afterwards, and what it
 -- answers.
-use Rattle.std.specs.Prelude.{◌≡◌, ◌≤◌, ℕ, suc, ◌==◌, Bool, not, ◌&&◌, ◌||◌, if◌then◌else◌, List, [], ◌∷◌, ◌++◌, length, map, take, drop, Option, Some, None, slice_get, slice_set, Result, Ok, Err}
+use Rattle.std.specs.Prelude.{◌≡◌, ◌≤◌, ℕ, ◌==◌, Bool, not, ◌&&◌, ◌||◌, if◌then◌else◌, List, [], ◌∷◌, ◌++◌, length, map, Option, Some, None, slice_get, slice_set, Result, Ok, Err}
 use Rattle.std.specs.{Option.option_map_or, List.list_all, List.AllByRecursion, Ordering.nat_cmp}
 use Rattle.srp_base.specs.declared.{numbers.Cs.Cs, memory.NoMemory.NoMemory, ports.PortSetup.PortSetup}
 use Rattle.mmrp_codec.specs.declared.pdu.GroupPdu.{GroupPdu}
 use Rattle.mmrp_codec.specs.{Meaning.mmrp_reading, Writing.mmrp_spelling}
 use Rattle.mrp_participant.specs.{Link.with_repeat, State.is_silent, State.due_count}
 use Rattle.attribute_propagation.specs.Ports.{count_of}
+use Rattle.link_net.specs.Meaning.{without, with_one}
 use Rattle.flat_side.specs.{Keys.KeepsKeys, Side.IsKept, Side.are_still, Side.is_busy, Side.awaiting_at, Side.new_flat, Side.received_flat, Side.due_flat, Side.settled_flat, Side.sent_flat, Side.requested_flat, Side.spoilt_flat}
 use Rattle.mmrp.specs.declared.{events.GroupStep.GroupStep, events.GroupReply.GroupReply}
 use Rattle.mmrp.specs.declared.events.GroupStep.TheVariants.{Work, Due, Settle, Send}
@@ -79,10 +80,6 @@ with_inbox at pdus s = record s { inboxes = slice_set s.inboxes at pdus }
 abbrev pub with_carried : ℕ → Waiting → NodeGroups → NodeGroups
 with_carried at pdus s = with_inbox at (box_at at s.inboxes ++ pdus) s
 
--- the PDUs without the one of an index, counted from 0
-abbrev pub without : ℕ → Waiting → Waiting
-without index pdus = take index pdus ++ drop (suc index) pdus
-
 -- the PDU of an index is lost from an inbox
 abbrev pub lost_at : ℕ → ℕ → NodeGroups → NodeGroups
 lost_at at index s = with_inbox at (without index (box_at at s.inboxes)) s
@@ -90,6 +87,10 @@ lost_at at index s = with_inbox at (without index (box_at at s.inboxes)) s
 -- it is there twice, the copy right behind its original
 abbrev pub repeated_at : ℕ → ℕ → NodeGroups → NodeGroups
 repeated_at at index s = with_inbox at (with_repeat index (box_at at s.inboxes)) s
+
+-- a PDU stands at the place of an index in an inbox
+abbrev pub forged_at : ℕ → ℕ → List ℕ → NodeGroups → NodeGroups
+forged_at at index pdu s = with_inbox at (with_one index pdu (box_at at s.inboxes)) s
 
 -- the participant at a place isn't sound any more
 abbrev pub spoilt_at : ℕ → NodeGroups → NodeGroups

@@ -1,8 +1,9 @@
 //! An inbox: the PDUs that came in at a link port, in order.
 
-ghost use Rattle.std.specs.Prelude.{◌≡◌, ◌==◌, ◌<◌, ◌++◌, [], length, slice_index_or, IfOk, IfErr, OnOk, OnErr};
+ghost use Rattle.std.specs.Prelude.{◌≡◌, ◌==◌, ◌<◌, ◌≤◌, ◌++◌, [], length, slice_index_or, IfOk, IfErr, OnOk, OnErr};
 ghost use Rattle.mrp_participant.specs.Link.{with_repeat};
-ghost use Rattle.mmrp.specs.Node.{AreShort, are_empty, without};
+ghost use Rattle.link_net.specs.Meaning.{with_one, without};
+ghost use Rattle.mmrp.specs.Node.{AreShort, are_empty};
 
 use srp_base::{NoMemory, Seq};
 use std::alloc::{AllocError, Global};
@@ -78,6 +79,19 @@ impl Inbox {
     {
         let copy = copied(alloc, self.at(index))?;
         self.pdus.insert(index, copy)?;
+        Ok(())
+    }
+
+    // Puts a PDU of at most 1,500 octets at the place of an index.
+    pub(crate) fn insert(&mut self, index: usize, pdu: Seq<u8>) -> Result<(), NoMemory>
+        requires reaches { index ≤ length self.old }
+        requires short { length pdu ≤ 1500 }
+        requires waiting { AreShort self.old }
+        ensures ok { OnOk result (self.new ≡ with_one index pdu self.old) }
+        ensures err { OnErr result (self.new ≡ self.old) }
+        ensures short { AreShort self.new }
+    {
+        self.pdus.insert(index, pdu)?;
         Ok(())
     }
 

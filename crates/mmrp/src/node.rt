@@ -1,12 +1,12 @@
 //! A node that runs MMRP: its side, and the PDUs that wait at its link ports.
 
-ghost use Rattle.std.specs.Prelude.{◌≡◌, ◌<◌, ◌^◌, [], length, map, slice_get, Some, IfOk, IfErr, OnOk, OnErr};
+ghost use Rattle.std.specs.Prelude.{◌≡◌, ◌<◌, ◌≤◌, ◌^◌, [], length, map, slice_get, Some, IfOk, IfErr, OnOk, OnErr};
 ghost use Rattle.std.specs.{List.AllByRecursion, Ordering.nat_cmp, Option.option_map_or};
 ghost use Rattle.mrp_participant.specs.State.{IsTime};
 ghost use Rattle.attribute_propagation.specs.Ports.{IsLinkPort, place_of};
 ghost use Rattle.registrar.specs.declared.Registrar.TheVariants.{Empty};
 ghost use Rattle.mmrp.specs.Macs.{has_joined, registrar_in};
-ghost use Rattle.mmrp.specs.Node.{AreShort, IsKeptNode, after_send, after_work, are_all_sound, are_empty, asked, box_at, is_busy_node, is_still_node, lost_at, new_node, port_step, ports_of, repeated_at, spoilt_at, with_carried, with_outbox};
+ghost use Rattle.mmrp.specs.Node.{AreShort, IsKeptNode, after_send, after_work, are_all_sound, are_empty, asked, box_at, forged_at, is_busy_node, is_still_node, lost_at, new_node, port_step, ports_of, repeated_at, spoilt_at, with_carried, with_outbox};
 
 use crate::app::MmrpApp;
 use crate::events::{GroupReply, GroupStep};
@@ -256,6 +256,19 @@ impl GroupNode {
         let at = usize::from(port.0) - 1;
         let alloc = *self.inboxes.allocator();
         self.inboxes[at].repeat(alloc, index)
+    }
+
+    // Puts a PDU of at most 1,500 octets at the place of an index in a port's inbox, which reaches
+    // so far.
+    pub(crate) fn forge(&mut self, port: PortNo, index: usize, pdu: Seq<u8>) -> Result<(), NoMemory>
+        requires port { IsLinkPort port (ports_of self.old) }
+        requires reaches { index ≤ length (box_at (place_of port) self.old.inboxes) }
+        requires short { length pdu ≤ 1500 }
+        ensures ok { OnOk result (self.new ≡ forged_at (place_of port) index pdu self.old) }
+        ensures err { OnErr result (self.new ≡ self.old) }
+    {
+        let at = usize::from(port.0) - 1;
+        self.inboxes[at].insert(index, pdu)
     }
 
     // Ends the soundness of the participant at a port. It takes no memory.

@@ -1,6 +1,7 @@
+use Rattle.link_net.specs.Meaning.{without}
 use Rattle.std.proofs.Common.{◌≡◌, ◌<◌, ◌-◌, ℕ, length, sym, subst, ap, ◌∙◌, arith}
 use Rattle.std.specs.Prelude.{slice_set}
-use Rattle.mmrp.specs.{NodeGroups, Waiting, AreShort, box_at, lost_at, without}
+use Rattle.mmrp.specs.{NodeGroups, Waiting, AreShort, box_at, lost_at}
 use Rattle.mmrp.proofs.{Boxes.IsShortPdu, Boxes.box_read, Boxes.each_box, Boxes.each_without, NodeSteps.kept_inbox, node.GroupNode.lose.Goals.After-self-1}
 use Rattle.mmrp.proofs.node.GroupNode.lose.Goals as goal
 
