@@ -1,5 +1,5 @@
 -- The nodes of a file's network are new ones of its tree.
-use Rattle.std.proofs.Common.{◌≡◌, ℕ, zero, suc, ◌+◌, ◌-◌, ◌*◌, Bool, true, false, if◌then◌else◌, List, [], ◌∷◌, ◌++◌, length, map, refl, sym, ap, subst, ◌∙◌, arith}
+use Rattle.std.proofs.Common.{◌≡◌, ℕ, zero, suc, ◌+◌, ◌-◌, ◌*◌, Bool, true, false, if◌then◌else◌, List, [], ◌∷◌, ◌++◌, length, refl, sym, ap, subst, ◌∙◌, arith}
 use Rattle.std.specs.Prelude.{◌<◌, slice_get, Some, ◌==◌}
 use Rattle.std.specs.{List.AllByRecursion}
 use Rattle.std.proofs.lemmas.{List.length-map, Option.slice_get_within}
@@ -11,9 +11,9 @@ use Rattle.topology_file.specs.{Network.KeepsNetworkRules, Scenario.tree_links}
 use Rattle.mrp_participant.specs.State.{IsTime, new_state}
 use Rattle.flat_side.specs.Side.{new_flat}
 use Rattle.topology_file.proofs.EntryLemmas.{one_end}
-use Rattle.mmrp.specs.{Part, IsProper, NodeGroups, IsProperNode, box_at, new_node, ports_of, period_of, setup_of, setups_from, nodes_from, group_meaning}
+use Rattle.link_node.specs.State.{new_node as node_with}
+use Rattle.mmrp.specs.{NodeGroups, new_node, period_of, setup_of, setups_from, nodes_from, group_meaning, group_words}
 use Rattle.link_net.specs.Kept.{AreNew}
-use Rattle.mmrp.proofs.Boxes.{IsShortPdu, each_new}
 
 -- a port for each link of the node
 pub ports_length : (n x : ℕ) (links : List LinkEntry) → length (setups_from n x links) ≡ length (neighbours (tree_links links) x)
@@ -39,40 +39,6 @@ module _ (leave_time : Cs) (periodic : Bool) (links : List LinkEntry) where
   nodes_length first [] = refl
   nodes_length first (n ∷ entries) = ap suc (nodes_length (first + 1) entries)
 
--- a new participant, with nothing in its boxes
-pub no_pdus : (ports : List PortSetup) (at : ℕ) → box_at at (map (λ _. []) ports) ≡ []
-no_pdus [] at = refl
-no_pdus (p ∷ ports) zero = refl
-no_pdus (p ∷ ports) (suc at) = no_pdus ports at
-
-pub new_part : (leave_time : Cs) (periodic : Bool) (ports : List PortSetup) (at : ℕ) (x : Part) → slice_get (map (λ p. new_state p.period leave_time periodic) ports) at ≡ Some x
-    → (period : Cs) × (x ≡ new_state period leave_time periodic)
-new_part leave_time periodic [] at x get = cc
-new_part leave_time periodic (p ∷ ports) zero x get = (p.period, cc)
-new_part leave_time periodic (p ∷ ports) (suc at) x get = new_part leave_time periodic ports at x get
-
--- what the public law of a new side says
-abbrev pub NewSideLaw : Type 0
-NewSideLaw = (leave_time : Cs) (periodic : Bool) (ports : List PortSetup) → IsProper (new_flat leave_time periodic ports)
-
-pub new_proper : NewSideLaw → (leave_time : Cs) (periodic : Bool) (ports : List PortSetup) → IsProperNode (new_node leave_time periodic ports)
-new_proper law leave_time periodic ports =
-    let none : PortSetup → List (List ℕ) = λ p. [] in
-    let parts : length (map (λ (p : PortSetup). new_state {K = ℕ} {C = Unit {0}} p.period leave_time periodic) ports) ≡ length ports
-    = length-map ports (λ (p : PortSetup). new_state p.period leave_time periodic) in
-    let boxes : length (map none ports) ≡ length ports = length-map ports none in
-    let side = law leave_time periodic ports in
-    record {
-      kept = record {
-        side = side.kept;
-        inboxes = boxes ∙ sym parts;
-        outboxes = boxes ∙ sym parts;
-        short_in = each_new IsShortPdu ports;
-        short_out = each_new IsShortPdu ports;
-      };
-      macs = side.keys;
-    }
-
 -- the nodes of a file's network are new ones of its tree
 pub new_nodes : (ticks : ℕ) (tree : Topology) (leave_time : Cs) (periodic : Bool) (nodes : List NodeEntry) (links : List LinkEntry)
     → KeepsNetworkRules ticks leave_time.0 tree nodes links → AreNew group_meaning tree (nodes_from leave_time periodic links 1 nodes)
@@ -89,10 +55,16 @@ new_nodes ticks tree leave_time periodic nodes links rules =
           record {
             kind = kind.0;
             kind_is = kind.1;
-            ports = ap ports_of new.is
+            ports = ap (λ (t : NodeGroups). length t.app.parts) new.is
                 ∙ (length-map setups (λ (p : PortSetup). new_state p.period leave_time periodic)
                 ∙ (ports_length 1 new.number links ∙ (ap (λ (k : ℕ). length (neighbours (tree_links links) k)) place ∙ ap (λ (t : Topology). length (neighbours t.links (x + 1))) (sym rules.is_tree))));
-            new = record { leave_time = leave_time; periodic = periodic; ports = setups; is = new.is };
+            new = (
+                let app : s.app ≡ new_flat leave_time periodic setups = ap (λ (t : NodeGroups). t.app) new.is in
+                record {
+                  app = record { leave_time = leave_time; periodic = periodic; ports = setups; is_new = app };
+                  none = new.is ∙ ap (node_with group_words) (sym app);
+                }
+                );
           };
     }
   where

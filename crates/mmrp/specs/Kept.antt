@@ -1,7 +1,7 @@
 -- What every network that runs MMRP keeps.
 use Rattle.srp_base.specs.declared.numbers.EgressPort.{EgressPort}
 use Rattle.link_net.specs.Kept as net
-use Rattle.mmrp.specs.{Node.Waiting, Link.group_meaning, Net.NetGroups}
+use Rattle.mmrp.specs.{Node.Waiting, Node.group_meaning, Net.NetGroups}
 
 -- the PDUs in flight from a port: those that came in at its peer, and then those that are to go out
 abbrev pub in_flight : EgressPort → NetGroups → Waiting

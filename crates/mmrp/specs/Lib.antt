@@ -1,15 +1,11 @@
 pub mod Macs
 pub mod Node
-pub mod Duty
-pub mod Link
 pub mod Net
 pub mod Start
 pub mod Kept
 pub mod Match
 pub use Macs.*
 pub use Node.*
-pub use Duty.*
-pub use Link.*
 pub use Net.*
 pub use Start.*
 pub use Kept.*
@@ -17,7 +13,6 @@ pub use Match.*
 pub use Rattle.mmrp.specs.declared.events.GroupEvent.{GroupEvent}
 pub use Rattle.mmrp.specs.declared.events.GroupEvent.TheVariants.{Carry, Clock, Join, Lose, Port, Repeat}
 pub use Rattle.mmrp.specs.declared.events.GroupReply.{GroupReply}
-pub use Rattle.mmrp.specs.declared.events.GroupRequest.{GroupRequest}
 pub use Rattle.mmrp.specs.declared.events.GroupReply.TheVariants.{Done, Silent}
 pub use Rattle.mmrp.specs.declared.events.GroupStep.{GroupStep}
 pub use Rattle.mmrp.specs.declared.events.GroupStep.TheVariants.{Due, Send, Settle, Work}

@@ -36,7 +36,7 @@ is_station_at w y = option_map_or is_station (slice_get w.tree.kinds (y - 1)) fa
 
 -- whether a node is a station that has joined a MAC address
 abbrev pub is_joined_at : NetGroups → ℕ → ℕ → Bool
-is_joined_at w mac y = is_station_at w y && option_map_or (λ s. has_joined mac s.side) (node_at (record { 0 = y }) w) false
+is_joined_at w mac y = is_station_at w y && option_map_or (λ s. has_joined mac s.app) (node_at (record { 0 = y }) w) false
 
 -- whether some station behind a port has joined a MAC address
 abbrev pub is_joined_behind : NetGroups → ℕ → EgressPort → Bool

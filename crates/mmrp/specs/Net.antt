@@ -7,10 +7,17 @@ use Rattle.link_net.specs.declared.{events.NetEvent.NetEvent, events.NetReply.Ne
 use Rattle.link_net.specs.declared.events.NetEvent.TheVariants as net_events
 use Rattle.link_net.specs.declared.events.NetReply.TheVariants as net_replies
 use Rattle.link_net.specs.Net as net
-use Rattle.mmrp.specs.declared.{events.GroupStep.GroupStep, events.GroupReply.GroupReply, events.GroupReply.TheVariants.Done, events.GroupReply.TheVariants.Missed, events.GroupEvent.GroupEvent, events.GroupRequest.GroupRequest}
+use Rattle.link_app.specs.declared.flat.KeyRequest.{KeyRequest}
+use Rattle.link_app.specs.declared.flat.KeyRequest.TheVariants.{Declare, Withdraw}
+use Rattle.link_app.specs.Wires.{NamedOctets}
+use Rattle.link_node.specs.declared.{steps.PortStep.PortStep, steps.StepReply.StepReply}
+use Rattle.link_node.specs.declared.steps.PortStep.TheVariants as port_steps
+use Rattle.link_node.specs.declared.steps.StepReply.TheVariants as replies
+use Rattle.mmrp.specs.declared.{events.GroupEvent.GroupEvent, events.GroupReply.GroupReply, events.GroupStep.GroupStep}
 use Rattle.mmrp.specs.declared.events.GroupEvent.TheVariants as events
-use Rattle.mmrp.specs.declared.events.GroupRequest.TheVariants as requests
-use Rattle.mmrp.specs.{Macs.Part, Node.NodeGroups, Node.Waiting, Link.group_meaning}
+use Rattle.mmrp.specs.declared.events.GroupReply.TheVariants.{Nothing, Discarded, Received, Fired, Settled, Silent, Sent, Done, Missed}
+use Rattle.mmrp.specs.declared.events.GroupStep.TheVariants.{Work, Due, Settle, Send}
+use Rattle.mmrp.specs.{Macs.Part, Node.NodeGroups, Node.Waiting, Node.group_meaning}
 
 -- a tree, one clock, and what each node keeps, in the order of their numbers
 abbrev pub NetGroups : Type 0
@@ -36,19 +43,37 @@ outbox p w = net.outbox group_meaning p w
 
 -- ---- one event
 
+-- the step of a node that a step is
+abbrev pub port_step : GroupStep → PortStep (Unit {0}) ℕ
+port_step Work = port_steps.Work
+port_step Due = port_steps.Due
+port_step Settle = port_steps.Settle
+port_step Send = port_steps.Send tt
+
 -- the event of a network of nodes that it is
-abbrev pub net_event : GroupEvent → NetEvent GroupRequest GroupStep (List ℕ)
-net_event (events.Join n mac) = net_events.Request n (requests.Join mac)
-net_event (events.Part n mac) = net_events.Request n (requests.Part mac)
-net_event (events.Port p step) = net_events.Port p step
+abbrev pub net_event : GroupEvent → NetEvent (KeyRequest ℕ) (PortStep (Unit {0}) ℕ) (NamedOctets (Unit {0}))
+net_event (events.Join n mac) = net_events.Request n (Declare mac)
+net_event (events.Part n mac) = net_events.Request n (Withdraw mac)
+net_event (events.Port p step) = net_events.Port p (port_step step)
 net_event (events.Lose p index) = net_events.Lose p index
 net_event (events.Repeat p index) = net_events.Repeat p index
 net_event (events.Carry p) = net_events.Carry p
 net_event events.Clock = net_events.Clock
 
+-- the answer that a node's is
+abbrev pub node_reply : StepReply → GroupReply
+node_reply replies.Nothing = Nothing
+node_reply (replies.Discarded place) = Discarded place
+node_reply (replies.Received count) = Received count
+node_reply (replies.Fired count) = Fired count
+node_reply (replies.Settled count) = Settled count
+node_reply replies.Silent = Silent
+node_reply (replies.Sent count) = Sent count
+node_reply replies.Taken = Done
+
 -- the answer that a network's is
-abbrev pub reply_of : NetReply GroupReply → GroupReply
-reply_of (net_replies.Node reply) = reply
+abbrev pub reply_of : NetReply StepReply → GroupReply
+reply_of (net_replies.Node reply) = node_reply reply
 reply_of net_replies.Done = Done
 reply_of net_replies.Missed = Missed
 
@@ -57,14 +82,14 @@ abbrev pub Happened : Type 0
 Happened = NetGroups × GroupReply
 
 -- what an event of a network of nodes comes to
-abbrev pub after_net_event : NetEvent GroupRequest GroupStep (List ℕ) → NetGroups → Happened
+abbrev pub after_net_event : NetEvent (KeyRequest ℕ) (PortStep (Unit {0}) ℕ) (NamedOctets (Unit {0})) → NetGroups → Happened
 after_net_event e w = let made = net.net_step group_meaning e w in (made.0, reply_of made.1)
 
 -- one event: the network afterwards, and the answer
 abbrev pub group_step : GroupEvent → NetGroups → Happened
-group_step (events.Join n mac) w = after_net_event (net_events.Request n (requests.Join mac)) w
-group_step (events.Part n mac) w = after_net_event (net_events.Request n (requests.Part mac)) w
-group_step (events.Port p step) w = after_net_event (net_events.Port p step) w
+group_step (events.Join n mac) w = after_net_event (net_events.Request n (Declare mac)) w
+group_step (events.Part n mac) w = after_net_event (net_events.Request n (Withdraw mac)) w
+group_step (events.Port p step) w = after_net_event (net_events.Port p (port_step step)) w
 group_step (events.Lose p index) w = after_net_event (net_events.Lose p index) w
 group_step (events.Repeat p index) w = after_net_event (net_events.Repeat p index) w
 group_step (events.Carry p) w = after_net_event (net_events.Carry p) w

@@ -15,15 +15,6 @@ pub enum GroupStep {
     Send,
 }
 
-// What the application of a station may ask for.
-#[derive(Clone, Copy)]
-pub(crate) enum GroupRequest {
-    // It joins the group of a MAC address.
-    Join(Mac),
-    // It parts from it.
-    Part(Mac),
-}
-
 /// What happens in a network that runs MMRP. The port of a loss and of a copy is the receiving one.
 #[derive(Clone, Copy, PartialEq, Eq)]
 pub enum GroupEvent {

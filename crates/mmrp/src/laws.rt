@@ -13,14 +13,13 @@ ghost use Rattle.mmrp.specs.declared.events.GroupEvent.{GroupEvent};
 ghost use Rattle.mmrp.specs.declared.events.GroupStep.{GroupStep};
 ghost use Rattle.mmrp.specs.Macs.{Part, HasMacRows, IsWritten, pdu_sent};
 ghost use Rattle.mmrp.specs.Net.{NetGroups, CanAllHappen, CanHappen, IsEventInRange, group_step, groups_after, node_at};
-ghost use Rattle.mmrp.specs.Link.{group_meaning};
+ghost use Rattle.mmrp.specs.Node.{group_meaning};
 ghost use Rattle.mmrp.specs.Start.{net_of, nodes_from};
 ghost use Rattle.link_net.specs.Kept.{AreNew};
 ghost use Rattle.mmrp.specs.Kept.{IsKeptNet};
 ghost use Rattle.mmrp.specs.Match.{GroupsMatch, IsAtRest, is_joined_behind, is_registered};
 
-use crate::app::MmrpApp;
-use crate::node::GroupNode;
+use crate::app::{GroupNode, MmrpApp};
 use flat_side::laws as of_flat;
 use link_net::laws as of_nets;
 use mmrp_codec::laws::what_is_written_is_read;

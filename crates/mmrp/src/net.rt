@@ -2,21 +2,22 @@
 
 ghost use Rattle.std.specs.Prelude.{◌≡◌, length, Some, IfOk, OnErr};
 ghost use Rattle.mmrp.specs.Kept.{IsKeptNet};
-ghost use Rattle.mmrp.specs.Net.{CanHappen, group_step, inbox, is_busy_at, is_in_step, is_quiet, net_event as net_event_spec, part_at, reply_of as reply_of_spec};
+ghost use Rattle.mmrp.specs.Net.{CanHappen, group_step, inbox, is_busy_at, is_in_step, is_quiet, net_event as event_of, node_reply as answer_of, part_at, port_step as step_of, reply_of as reply_from};
 ghost use Rattle.mmrp.specs.Match.{is_joined_at, registrar_at};
 ghost use Rattle.mmrp.specs.Start.{net_of};
 ghost use Rattle.tree_topology.specs.Topology.{HasNode, HasPort};
 
-use crate::app::MmrpApp;
-use crate::events::{GroupEvent, GroupReply, GroupRequest, GroupStep};
+use crate::app::{GroupNode, MmrpApp};
+use crate::events::{GroupEvent, GroupReply, GroupStep};
 use crate::laws::file_nodes_are_new;
-use crate::node::GroupNode;
 use crate::start::new_nodes;
 use group_file::GroupScenario;
+use link_app::{KeyRequest, Wire};
 use link_net::{Net, NetEvent, NetReply};
+use link_node::{PortStep, StepReply};
 use mrp_participant::Participant;
 use registrar::Registrar;
-use srp_base::{Cs, EgressPort, Mac, NoMemory, NodeNo, Seq};
+use srp_base::{Cs, EgressPort, Mac, NoMemory, NodeNo};
 use std::alloc::Global;
 use std::marker::Model;
 use tree_topology::Tree;
@@ -29,11 +30,12 @@ pub struct GroupNet {
 
 impl Model for GroupNet {
     ghost use Rattle.link_net.specs.Net.{seen};
+    ghost use Rattle.link_node.specs.State.{state_of};
     ghost use Rattle.mmrp.specs.Net.{NetGroups};
 
     ghost Value = { NetGroups };
 
-    ghost view = { λ g. seen (λ s. s) g.net };
+    ghost view = { λ g. seen (state_of (λ side. side.state)) g.net };
 }
 
 impl GroupNet {
@@ -126,7 +128,7 @@ impl GroupNet {
         requires { HasPort self.now.tree at }
         ensures { part_at at self.now ≡ Some result.now.state }
     {
-        self.net.node_of(at).participant(at.port)
+        self.net.node_of(at).app().participant(at.port)
     }
 
     // Whether a node is a station that has joined a MAC address. The node exists.
@@ -135,7 +137,7 @@ impl GroupNet {
         ensures { result ≡ is_joined_at self.now mac node.0 }
     {
         self.net.keeps();
-        self.net.node(node).has_joined(mac)
+        self.net.node(node).app().declares(mac)
     }
 
     // The allocator that the network was made with.
@@ -161,13 +163,13 @@ impl GroupNet {
 }
 
 // The event of a network of nodes that an event of this one is.
-fn net_event(event: GroupEvent) -> NetEvent<GroupRequest, GroupStep, Seq<u8>>
-    ensures { result ≡ net_event_spec event }
+fn net_event(event: GroupEvent) -> NetEvent<KeyRequest<Mac>, PortStep<(), Mac>, Wire<()>>
+    ensures { result ≡ event_of event }
 {
     match event {
-        GroupEvent::Join(node, mac) => NetEvent::Request(node, GroupRequest::Join(mac)),
-        GroupEvent::Part(node, mac) => NetEvent::Request(node, GroupRequest::Part(mac)),
-        GroupEvent::Port(at, step) => NetEvent::Port(at, step),
+        GroupEvent::Join(node, mac) => NetEvent::Request(node, KeyRequest::Declare(mac)),
+        GroupEvent::Part(node, mac) => NetEvent::Request(node, KeyRequest::Withdraw(mac)),
+        GroupEvent::Port(at, step) => NetEvent::Port(at, port_step(step)),
         GroupEvent::Lose(at, index) => NetEvent::Lose(at, index),
         GroupEvent::Repeat(at, index) => NetEvent::Repeat(at, index),
         GroupEvent::Carry(at) => NetEvent::Carry(at),
@@ -175,13 +177,41 @@ fn net_event(event: GroupEvent) -> NetEvent<GroupRequest, GroupStep, Seq<u8>>
     }
 }
 
+// The step of a node that a step is.
+fn port_step(step: GroupStep) -> PortStep<(), Mac>
+    ensures { result ≡ step_of step }
+{
+    match step {
+        GroupStep::Work => PortStep::Work,
+        GroupStep::Due => PortStep::Due,
+        GroupStep::Settle => PortStep::Settle,
+        GroupStep::Send => PortStep::Send(()),
+    }
+}
+
 // The answer of this network that a network's is.
-fn reply_of(reply: NetReply<GroupReply>) -> GroupReply
-    ensures { result ≡ reply_of_spec reply }
+fn reply_of(reply: NetReply<StepReply>) -> GroupReply
+    ensures { result ≡ reply_from reply }
 {
     match reply {
-        NetReply::Node(reply) => reply,
+        NetReply::Node(reply) => node_reply(reply),
         NetReply::Done => GroupReply::Done,
         NetReply::Missed => GroupReply::Missed,
+    }
+}
+
+// The answer of this network that a node's is.
+fn node_reply(reply: StepReply) -> GroupReply
+    ensures { result ≡ answer_of reply }
+{
+    match reply {
+        StepReply::Nothing => GroupReply::Nothing,
+        StepReply::Discarded(place) => GroupReply::Discarded(place),
+        StepReply::Received(count) => GroupReply::Received(count),
+        StepReply::Fired(count) => GroupReply::Fired(count),
+        StepReply::Settled(count) => GroupReply::Settled(count),
+        StepReply::Silent => GroupReply::Silent,
+        StepReply::Sent(count) => GroupReply::Sent(count),
+        StepReply::Taken => GroupReply::Done,
     }
 }

@@ -1,6 +1,6 @@
 use Rattle.std.proofs.Common.{◌≡◌, refl, ap, ◌∙◌}
 use Rattle.link_net.specs.declared.events.NetEvent.TheVariants as net_events
-use Rattle.mmrp.specs.{GroupEvent, Join, Port, Lose, Repeat, Carry, Clock, Happened, net_event}
+use Rattle.mmrp.specs.{GroupEvent, Join, Port, Lose, Repeat, Carry, Clock, Happened, net_event, port_step}
 use Rattle.mmrp.specs.declared.events.GroupEvent.TheVariants.{Part as Parted}
 use Rattle.mmrp.proofs.NetEvents.{step_is}
 use Rattle.mmrp.proofs.laws.what_events_leave_alone.Goals as goal
@@ -21,4 +21,4 @@ pub returns-clause-clock : goal.returns-clause-clock
 returns-clause-clock c = λ e w other. ap (λ (h : Happened). h.0.clock) (step_is e w) ∙ c.what_events_leave_alone.ensures.clock (net_event e) w (no_clock e other)
 
 pub returns-clause-nodes : goal.returns-clause-nodes
-returns-clause-nodes c = c.what_events_leave_alone.ensures.nodes
+returns-clause-nodes c = λ p step n w other. c.what_events_leave_alone.ensures.nodes p (port_step step) n w other
