@@ -1,18 +1,19 @@
--- The network of a file keeps what every network keeps, at its start.
-use Rattle.std.proofs.Common.{◌≡◌, ℕ, zero, suc, ◌+◌, ◌-◌, ◌*◌, Bool, true, false, if◌then◌else◌, List, [], ◌∷◌, ◌++◌, length, map, refl, sym, ap, subst, ◌∙◌, arith}
-use Rattle.std.specs.Prelude.{slice_get, Some, ◌==◌}
-use Rattle.std.specs.{List.AllByRecursion, Ordering.nat_cmp}
-use Rattle.std.proofs.lemmas.List.{length-map}
-use Rattle.srp_base.specs.declared.{numbers.Cs.Cs, numbers.EgressPort.EgressPort, ports.PortSetup.PortSetup}
-use Rattle.tree_topology.specs.{Topology.Topology, Topology.HasPort, Topology.IsSound, Ports.peer_of, Ports.neighbours, PortLaws.HasPortLaws}
+-- The nodes of a file's network are new ones of its tree.
+use Rattle.std.proofs.Common.{◌≡◌, ℕ, zero, suc, ◌+◌, ◌-◌, ◌*◌, Bool, true, false, if◌then◌else◌, List, [], ◌∷◌, ◌++◌, length, refl, sym, ap, subst, ◌∙◌, arith}
+use Rattle.std.specs.Prelude.{◌<◌, slice_get, Some, ◌==◌}
+use Rattle.std.specs.{List.AllByRecursion}
+use Rattle.std.proofs.lemmas.{List.length-map, Option.slice_get_within}
+use Rattle.srp_base.proofs.Lists.{within}
+use Rattle.srp_base.specs.declared.{numbers.Cs.Cs, ports.PortSetup.PortSetup}
+use Rattle.tree_topology.specs.{Topology.Topology, Topology.IsSound, Ports.neighbours}
 use Rattle.topology_file.specs.declared.{entries.NodeEntry.NodeEntry, entries.LinkEntry.LinkEntry}
 use Rattle.topology_file.specs.{Network.KeepsNetworkRules, Scenario.tree_links}
-use Rattle.mrp_participant.specs.{State.IsTime, State.new_state, Link.AreDutiesMet, Link.new_link}
-use Rattle.attribute_propagation.specs.Ports.{place_of}
+use Rattle.mrp_participant.specs.State.{IsTime, new_state}
 use Rattle.flat_side.specs.Side.{new_flat}
 use Rattle.topology_file.proofs.EntryLemmas.{one_end}
-use Rattle.mmrp.specs.{Part, IsProper, NodeGroups, IsProperNode, box_at, new_node, ports_of, period_of, setup_of, setups_from, nodes_from, net_of, NetGroups, inbox, outbox, AreGroupDutiesMet, part_at, part_in, IsKeptNet}
-use Rattle.mmrp.proofs.{Boxes.IsShortPdu, Boxes.each_new, Nodes.Base, Nodes.node_there, Nodes.part_is, Nodes.inbox_is, Nodes.outbox_is, Views.met_same}
+use Rattle.link_node.specs.State.{new_node as node_with}
+use Rattle.mmrp.specs.{NodeGroups, new_node, period_of, setup_of, setups_from, nodes_from, group_meaning, group_words}
+use Rattle.link_net.specs.Kept.{AreNew}
 
 -- a port for each link of the node
 pub ports_length : (n x : ℕ) (links : List LinkEntry) → length (setups_from n x links) ≡ length (neighbours (tree_links links) x)
@@ -21,12 +22,12 @@ ports_length n x (l ∷ links) = one_end x l (setup_of (2 * n - 1) l) (setup_of 
 
 module _ (leave_time : Cs) (periodic : Bool) (links : List LinkEntry) where
   -- the node at a place is a new one
-  record IsNewNode (first x : ℕ) (s : NodeGroups) : Type 0 where
+  record IsNewFrom (first x : ℕ) (s : NodeGroups) : Type 0 where
     number : ℕ
     number_is : number ≡ first + x
     is : s ≡ new_node leave_time periodic (setups_from 1 number links)
 
-  new_at : (entries : List NodeEntry) (first x : ℕ) (s : NodeGroups) → slice_get (nodes_from leave_time periodic links first entries) x ≡ Some s → IsNewNode first x s
+  new_at : (entries : List NodeEntry) (first x : ℕ) (s : NodeGroups) → slice_get (nodes_from leave_time periodic links first entries) x ≡ Some s → IsNewFrom first x s
   new_at [] first x s get = cc
   new_at (n ∷ entries) first zero s get = record { number = first; number_is = omega arith; is = cc }
   new_at (n ∷ entries) first (suc x) s get =
@@ -38,111 +39,37 @@ module _ (leave_time : Cs) (periodic : Bool) (links : List LinkEntry) where
   nodes_length first [] = refl
   nodes_length first (n ∷ entries) = ap suc (nodes_length (first + 1) entries)
 
--- a new participant, with nothing in its boxes
-no_pdus : (ports : List PortSetup) (at : ℕ) → box_at at (map (λ _. []) ports) ≡ []
-no_pdus [] at = refl
-no_pdus (p ∷ ports) zero = refl
-no_pdus (p ∷ ports) (suc at) = no_pdus ports at
-
-new_part : (leave_time : Cs) (periodic : Bool) (ports : List PortSetup) (at : ℕ) (x : Part) → slice_get (map (λ p. new_state p.period leave_time periodic) ports) at ≡ Some x
-    → (period : Cs) × (x ≡ new_state period leave_time periodic)
-new_part leave_time periodic [] at x get = cc
-new_part leave_time periodic (p ∷ ports) zero x get = (p.period, cc)
-new_part leave_time periodic (p ∷ ports) (suc at) x get = new_part leave_time periodic ports at x get
-
--- what the public law of a new side says
-abbrev pub NewSideLaw : Type 0
-NewSideLaw = (leave_time : Cs) (periodic : Bool) (ports : List PortSetup) → IsProper (new_flat leave_time periodic ports)
-
-pub new_proper : NewSideLaw → (leave_time : Cs) (periodic : Bool) (ports : List PortSetup) → IsProperNode (new_node leave_time periodic ports)
-new_proper law leave_time periodic ports =
-    let none : PortSetup → List (List ℕ) = λ p. [] in
-    let parts : length (map (λ (p : PortSetup). new_state {K = ℕ} {C = Unit {0}} p.period leave_time periodic) ports) ≡ length ports
-    = length-map ports (λ (p : PortSetup). new_state p.period leave_time periodic) in
-    let boxes : length (map none ports) ≡ length ports = length-map ports none in
-    let side = law leave_time periodic ports in
+-- the nodes of a file's network are new ones of its tree
+pub new_nodes : (ticks : ℕ) (tree : Topology) (leave_time : Cs) (periodic : Bool) (nodes : List NodeEntry) (links : List LinkEntry)
+    → KeepsNetworkRules ticks leave_time.0 tree nodes links → AreNew group_meaning tree (nodes_from leave_time periodic links 1 nodes)
+new_nodes ticks tree leave_time periodic nodes links rules =
     record {
-      kept = record {
-        side = side.kept;
-        inboxes = boxes ∙ sym parts;
-        outboxes = boxes ∙ sym parts;
-        short_in = each_new IsShortPdu ports;
-        short_out = each_new IsShortPdu ports;
-      };
-      macs = side.keys;
+      sound = subst IsSound (sym rules.is_tree) rules.accepted;
+      many = count;
+      new = λ x s get.
+          let new = new_at leave_time periodic links nodes 1 x s get in
+          let setups : List PortSetup = setups_from 1 new.number links in
+          let place : new.number ≡ x + 1 = (let is = new.number_is in omega (arith, is)) in
+          let below : x < length tree.kinds = (let within = slice_get_within (nodes_from leave_time periodic links 1 nodes) x s get in omega (arith, within, count)) in
+          let kind = within tree.kinds x below in
+          record {
+            kind = kind.0;
+            kind_is = kind.1;
+            ports = ap (λ (t : NodeGroups). length t.app.parts) new.is
+                ∙ (length-map setups (λ (p : PortSetup). new_state p.period leave_time periodic)
+                ∙ (ports_length 1 new.number links ∙ (ap (λ (k : ℕ). length (neighbours (tree_links links) k)) place ∙ ap (λ (t : Topology). length (neighbours t.links (x + 1))) (sym rules.is_tree))));
+            new = (
+                let app : s.app ≡ new_flat leave_time periodic setups = ap (λ (t : NodeGroups). t.app) new.is in
+                record {
+                  app = record { leave_time = leave_time; periodic = periodic; ports = setups; is_new = app };
+                  none = new.is ∙ ap (node_with group_words) (sym app);
+                }
+                );
+          };
     }
-
-module _ (ticks : ℕ) (tree : Topology) (leave_time : Cs) (periodic : Bool) (nodes : List NodeEntry) (links : List LinkEntry) (rules : KeepsNetworkRules ticks leave_time.0 tree nodes links)
-    (laws : (t : Topology) → IsSound t → HasPortLaws t) (side : NewSideLaw) where
-  abbrev start : NetGroups
-  start = net_of tree leave_time periodic nodes links
-
-  sound : IsSound tree
-  sound = subst IsSound (sym rules.is_tree) rules.accepted
-
-  base : Base start
-  base =
-      record {
-        tree = sound;
-        many = nodes_length leave_time periodic links 1 nodes ∙ (sym (length-map nodes (λ (n : NodeEntry). n.kind)) ∙ ap (λ (t : Topology). length t.kinds) (sym rules.is_tree));
-        ports = λ x s get.
-            let new = new_at leave_time periodic links nodes 1 x s get in
-            let setups : List PortSetup = setups_from 1 new.number links in
-            let place : new.number ≡ x + 1 = (let is = new.number_is in omega (arith, is)) in
-            ap ports_of new.is
-            ∙ (length-map setups (λ (p : PortSetup). new_state p.period leave_time periodic)
-            ∙ (ports_length 1 new.number links ∙ (ap (λ (k : ℕ). length (neighbours (tree_links links) k)) place ∙ ap (λ (t : Topology). length (neighbours t.links (x + 1))) (sym rules.is_tree))));
-        proper = λ x s get.
-            let new = new_at leave_time periodic links nodes 1 x s get in
-            subst IsProperNode (sym new.is) (new_proper side leave_time periodic (setups_from 1 new.number links));
-      }
-
-  -- what is at a port at the start
-  record AtStart (p : EgressPort) (x : Part) : Type 0 where
-    period : Cs
-    part : x ≡ new_state period leave_time periodic
-    in_none : inbox p start ≡ []
-    out_none : outbox p start ≡ []
-
-  at_start : (p : EgressPort) → HasPort tree p → (x : Part) → part_at p start ≡ Some x → AtStart p x
-  at_start p has x get =
-      let node = node_there start base p has in
-      let s = node.0 in
-      let is = node.1 in
-      let new = new_at leave_time periodic links nodes 1 (p.node.0 - 1) s is in
-      let setups : List PortSetup = setups_from 1 new.number links in
-      let one = new_part leave_time periodic setups (place_of p.port) x
-      (ap (part_in (place_of p.port)) (sym new.is) ∙ (sym (part_is p start s is) ∙ get)) in
-      record {
-        period = one.0;
-        part = one.1;
-        in_none = inbox_is p start s is ∙ (ap (λ (r : NodeGroups). box_at (place_of p.port) r.inboxes) new.is ∙ no_pdus setups (place_of p.port));
-        out_none = outbox_is p start s is ∙ (ap (λ (r : NodeGroups). box_at (place_of p.port) r.outboxes) new.is ∙ no_pdus setups (place_of p.port));
-      }
-
-  met_start : ((near far : Cs × Cs × Bool) → AreDutiesMet nat_cmp (new_link {K = ℕ} {C = Unit {0}} near far)) → AreGroupDutiesMet start
-  met_start new_duties p has near far a b =
-      let q = peer_of tree.links p in
-      let ports = laws tree sound in
-      let here = at_start p has near a in
-      let far_start = at_start q (ports.peer_port p has) far b in
-      let back : inbox (peer_of tree.links q) start ≡ [] = ap (λ (r : EgressPort). inbox r start) (ports.peer_twice p has) ∙ here.in_none in
-      met_same (new_state here.period leave_time periodic) near (new_state far_start.period leave_time periodic) far
-      [] (inbox q start) [] (outbox p start) [] (inbox (peer_of tree.links q) start) [] (outbox q start)
-      (sym here.part) (sym far_start.part) (sym far_start.in_none) (sym here.out_none) (sym back) (sym far_start.out_none)
-      (new_duties (here.period, leave_time, periodic) (far_start.period, leave_time, periodic))
-
-  pub begins : ((near far : Cs × Cs × Bool) → AreDutiesMet nat_cmp (new_link {K = ℕ} {C = Unit {0}} near far)) → IsKeptNet start
-  begins new_duties =
-      record {
-        tree = base.tree;
-        many = base.many;
-        ports = base.ports;
-        proper = base.proper;
-        clock = omega arith;
-        idle = λ x s get bridge. ap (λ (r : NodeGroups). r.side.own) (new_at leave_time periodic links nodes 1 x s get).is;
-        duties = met_start new_duties;
-      }
+  where
+    count : length (nodes_from leave_time periodic links 1 nodes) ≡ length tree.kinds
+    count = nodes_length leave_time periodic links 1 nodes ∙ (sym (length-map nodes (λ (n : NodeEntry). n.kind)) ∙ ap (λ (t : Topology). length t.kinds) (sym rules.is_tree))
 
 -- ---- what a new node asks of its ports
 

@@ -3,7 +3,8 @@ use Rattle.std.proofs.Common.{◌≡◌, ℕ, zero, suc, true, List, [], ◌∷�
 use Rattle.std.specs.Prelude.{◌==◌}
 use Rattle.std.proofs.lemmas.Bool.{and_parts}
 use Rattle.srp_base.proofs.Lists.{no-length}
-use Rattle.mmrp.specs.{Waiting, are_empty, box_at}
+use Rattle.link_node.specs.Boxes.{are_empty, box_at}
+use Rattle.mmrp.specs.{Waiting}
 
 -- no PDU waits in any box
 pub empty-box : (boxes : List Waiting) (i : ℕ) → are_empty boxes ≡ true → box_at i boxes ≡ []

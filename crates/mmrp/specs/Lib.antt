@@ -2,14 +2,12 @@ pub mod Macs
 pub mod Node
 pub mod Net
 pub mod Start
-pub mod Duty
 pub mod Kept
 pub mod Match
 pub use Macs.*
 pub use Node.*
 pub use Net.*
 pub use Start.*
-pub use Duty.*
 pub use Kept.*
 pub use Match.*
 pub use Rattle.mmrp.specs.declared.events.GroupEvent.{GroupEvent}

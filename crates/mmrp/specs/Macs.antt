@@ -2,10 +2,10 @@
 -- Std 802.1Q-2018, 10.12.1): the words on a flat side, for MAC addresses.
 use Rattle.std.specs.Prelude.{◌<◌, ◌^◌, ℕ, Bool, List}
 use Rattle.std.specs.Ordering.{nat_cmp}
-use Rattle.srp_base.specs.declared.{numbers.Cs.Cs, mrp.MrpEvent.MrpEvent}
+use Rattle.srp_base.specs.declared.{numbers.Cs.Cs}
 use Rattle.mmrp_codec.specs.declared.pdu.GroupPdu.{GroupPdu}
 use Rattle.mmrp_codec.specs.{Meaning.mmrp_reading, Writing.mmrp_spelling}
-use Rattle.mrp_participant.specs.{State.sent_state, Lookup.find, Row.registrar_of}
+use Rattle.mrp_participant.specs.{Lookup.find, Row.registrar_of}
 use Rattle.registrar.specs.declared.Registrar.{Registrar}
 use Rattle.flat_side.specs.Codec.{Codec, IsWritten as IsWrittenBy}
 use Rattle.flat_side.specs.Keys as keys
@@ -45,22 +45,10 @@ Part = flat.Part ℕ
 abbrev pub Groups : Type 0
 Groups = side.FlatState ℕ
 
--- what the events of a PDU say to a participant
-abbrev pub messages : GroupPdu → List (MrpEvent × ℕ × Unit {0})
-messages pdu = flat.said_events pdu.events
-
--- the participant after it received a PDU
-abbrev pub received_part : Cs → GroupPdu → Part → Part
-received_part now pdu s = flat.received_part nat_cmp now pdu.leave_all pdu.events s
-
 -- the PDU that is sent: a LeaveAll where the LeaveAll machine is Active, and what those rows say
 -- that find room in it
 abbrev pub pdu_sent : Cs → Part → GroupPdu
 pdu_sent now s = side.pdu_sent nat_cmp mac_codec base octets now s
-
--- the participant after it sent its PDU
-abbrev pub sent_part : Cs → Part → Part
-sent_part now s = sent_state base octets nat_cmp now s
 
 -- whether a MAC address is declared: the Applicant is in any state but VO and LA
 abbrev pub declares : ℕ → Part → Bool
@@ -85,7 +73,3 @@ IsWritten pdu octets = IsWrittenBy mac_codec pdu octets
 -- each row of a participant is of a MAC address
 abbrev pub HasMacRows : Part → Type 0
 HasMacRows s = keys.HasKeyRows nat_cmp IsMac s
-
--- what a side keeps, of MAC addresses
-abbrev pub IsProper : Groups → Type 0
-IsProper groups = keys.IsProper nat_cmp IsMac groups

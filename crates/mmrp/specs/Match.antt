@@ -8,7 +8,7 @@ use Rattle.tree_topology.specs.{Topology.HasNode, Topology.HasPort, Refusal.is_s
 use Rattle.registrar.specs.declared.{Registrar.Registrar, Registrar.TheVariants.Empty}
 use Rattle.registrar.specs.Table.{is_registered_in}
 use Rattle.mrp_participant.specs.declared.row.Row.{Row}
-use Rattle.mmrp.specs.{Macs.Part, Macs.registers, Macs.registrar_in, Macs.has_joined, Net.NetGroups, Net.node_at, Net.is_quiet, Net.is_in_step, Duty.part_at}
+use Rattle.mmrp.specs.{Macs.Part, Macs.registers, Macs.registrar_in, Macs.has_joined, Net.NetGroups, Net.node_at, Net.part_at, Net.is_quiet, Net.is_in_step}
 
 -- the state of the registrar of a MAC address at a port, MT where there is no row
 abbrev pub registrar_at : NetGroups → ℕ → EgressPort → Registrar
@@ -36,7 +36,7 @@ is_station_at w y = option_map_or is_station (slice_get w.tree.kinds (y - 1)) fa
 
 -- whether a node is a station that has joined a MAC address
 abbrev pub is_joined_at : NetGroups → ℕ → ℕ → Bool
-is_joined_at w mac y = is_station_at w y && option_map_or (λ s. has_joined mac s.side) (node_at (record { 0 = y }) w) false
+is_joined_at w mac y = is_station_at w y && option_map_or (λ s. has_joined mac s.app) (node_at (record { 0 = y }) w) false
 
 -- whether some station behind a port has joined a MAC address
 abbrev pub is_joined_behind : NetGroups → ℕ → EgressPort → Bool

@@ -1,102 +1,99 @@
--- A network that runs MMRP, and one event of it: the network afterwards, and what it answers.
-use Rattle.std.specs.Prelude.{◌≡◌, ◌<◌, ◌≤◌, ◌^◌, ◌+◌, ◌-◌, ℕ, Bool, true, false, nat_lt, List, [], ◌∷◌, length, fold, Option, Some, None, slice_get, slice_set}
-use Rattle.std.specs.{Option.option_map_or, List.list_all}
-use Rattle.srp_base.specs.declared.{numbers.Cs.Cs, numbers.NodeNo.NodeNo, numbers.EgressPort.EgressPort}
-use Rattle.tree_topology.specs.{Topology.Topology, Topology.HasNode, Topology.HasPort, Ports.peer_of}
-use Rattle.tree_topology.specs.declared.graph.NodeKind.TheVariants.{Station}
-use Rattle.attribute_propagation.specs.Ports.{IsLinkPort, place_of}
-use Rattle.mmrp.specs.declared.{events.GroupReply.GroupReply, events.GroupReply.TheVariants.Done, events.GroupReply.TheVariants.Missed, events.GroupEvent.GroupEvent}
+-- A network that runs MMRP, and one event of it: the network afterwards, and what it answers. It is
+-- a network of link_net, whose words are said here of MMRP's nodes and events.
+use Rattle.std.specs.Prelude.{ℕ, Bool, List, [], ◌∷◌, fold, Option}
+use Rattle.srp_base.specs.declared.{numbers.NodeNo.NodeNo, numbers.EgressPort.EgressPort}
+use Rattle.tree_topology.specs.Topology.{Topology}
+use Rattle.link_net.specs.declared.{events.NetEvent.NetEvent, events.NetReply.NetReply}
+use Rattle.link_net.specs.declared.events.NetEvent.TheVariants as net_events
+use Rattle.link_net.specs.declared.events.NetReply.TheVariants as net_replies
+use Rattle.link_net.specs.Net as net
+use Rattle.link_app.specs.declared.flat.KeyRequest.{KeyRequest}
+use Rattle.link_app.specs.declared.flat.KeyRequest.TheVariants.{Declare, Withdraw}
+use Rattle.link_app.specs.Wires.{NamedOctets}
+use Rattle.link_node.specs.declared.{steps.PortStep.PortStep, steps.StepReply.StepReply}
+use Rattle.link_node.specs.declared.steps.PortStep.TheVariants as port_steps
+use Rattle.link_node.specs.declared.steps.StepReply.TheVariants as replies
+use Rattle.mmrp.specs.declared.{events.GroupEvent.GroupEvent, events.GroupReply.GroupReply, events.GroupStep.GroupStep}
 use Rattle.mmrp.specs.declared.events.GroupEvent.TheVariants as events
-use Rattle.mmrp.specs.{Macs.IsMac, Node.NodeGroups, Node.Stepped, Node.Waiting, Node.asked, Node.box_at, Node.is_busy_node, Node.is_still_node, Node.are_all_sound, Node.lost_at, Node.port_step, Node.ports_of, Node.repeated_at, Node.spoilt_at, Node.with_carried, Node.with_outbox}
+use Rattle.mmrp.specs.declared.events.GroupReply.TheVariants.{Nothing, Discarded, Received, Fired, Settled, Silent, Sent, Done, Missed}
+use Rattle.mmrp.specs.declared.events.GroupStep.TheVariants.{Work, Due, Settle, Send}
+use Rattle.mmrp.specs.{Macs.Part, Node.NodeGroups, Node.Waiting, Node.group_meaning}
 
 -- a tree, one clock, and what each node keeps, in the order of their numbers
-pub record NetGroups : Type 0 where
-  pub tree : Topology
-  pub clock : Cs
-  pub nodes : List NodeGroups
+abbrev pub NetGroups : Type 0
+NetGroups = net.NetState NodeGroups
 
 -- the node of a number
 abbrev pub node_at : NodeNo → NetGroups → Option NodeGroups
-node_at n w = slice_get w.nodes (n.0 - 1)
+node_at n w = net.node_at n w
 
--- a list of nodes after one of them has become another
-abbrev pub nodes_with : NodeNo → (NodeGroups → NodeGroups) → List NodeGroups → List NodeGroups
-nodes_with n change nodes = option_map_or (λ s. slice_set nodes (n.0 - 1) (change s)) (slice_get nodes (n.0 - 1)) nodes
+-- ---- what there is at a port
 
--- the network after a node has become another
-abbrev pub with_changed : NodeNo → (NodeGroups → NodeGroups) → NetGroups → NetGroups
-with_changed n change w = record w { nodes = nodes_with n change w.nodes }
-
--- a node of a list stands where a port is, and has it
-pub record StandsAt (p : EgressPort) (nodes : List NodeGroups) : Type 0 where
-  pub some : 1 ≤ p.node.0
-  pub few : p.node.0 ≤ length nodes
-  pub port : (s : NodeGroups) → slice_get nodes (p.node.0 - 1) ≡ Some s → IsLinkPort p.port (ports_of s)
-
--- ---- the PDUs at a port
+-- the participant
+abbrev pub part_at : EgressPort → NetGroups → Option Part
+part_at p w = net.part_at group_meaning tt p w
 
 -- the PDUs that came in at a port, in order
 abbrev pub inbox : EgressPort → NetGroups → Waiting
-inbox p w = option_map_or (λ s. box_at (place_of p.port) s.inboxes) (node_at p.node w) []
+inbox p w = net.inbox group_meaning p w
 
 -- the PDUs that are to go out from a port, in order
 abbrev pub outbox : EgressPort → NetGroups → Waiting
-outbox p w = option_map_or (λ s. box_at (place_of p.port) s.outboxes) (node_at p.node w) []
-
--- whether a PDU has an index in the inbox of a port
-abbrev pub has_index : EgressPort → ℕ → NetGroups → Bool
-has_index p index w = nat_lt index (length (inbox p w))
+outbox p w = net.outbox group_meaning p w
 
 -- ---- one event
+
+-- the step of a node that a step is
+abbrev pub port_step : GroupStep → PortStep (Unit {0}) ℕ
+port_step Work = port_steps.Work
+port_step Due = port_steps.Due
+port_step Settle = port_steps.Settle
+port_step Send = port_steps.Send tt
+
+-- the event of a network of nodes that it is
+abbrev pub net_event : GroupEvent → NetEvent (KeyRequest ℕ) (PortStep (Unit {0}) ℕ) (NamedOctets (Unit {0}))
+net_event (events.Join n mac) = net_events.Request n (Declare mac)
+net_event (events.Part n mac) = net_events.Request n (Withdraw mac)
+net_event (events.Port p step) = net_events.Port p (port_step step)
+net_event (events.Lose p index) = net_events.Lose p index
+net_event (events.Repeat p index) = net_events.Repeat p index
+net_event (events.Carry p) = net_events.Carry p
+net_event events.Clock = net_events.Clock
+
+-- the answer that a node's is
+abbrev pub node_reply : StepReply → GroupReply
+node_reply replies.Nothing = Nothing
+node_reply (replies.Discarded place) = Discarded place
+node_reply (replies.Received count) = Received count
+node_reply (replies.Fired count) = Fired count
+node_reply (replies.Settled count) = Settled count
+node_reply replies.Silent = Silent
+node_reply (replies.Sent count) = Sent count
+node_reply replies.Taken = Done
+
+-- the answer that a network's is
+abbrev pub reply_of : NetReply StepReply → GroupReply
+reply_of (net_replies.Node reply) = node_reply reply
+reply_of net_replies.Done = Done
+reply_of net_replies.Missed = Missed
 
 -- a network after an event, and its answer
 abbrev pub Happened : Type 0
 Happened = NetGroups × GroupReply
 
--- the answer of a node's step
-abbrev pub answer_of : Option NodeGroups → (NodeGroups → Stepped) → GroupReply
-answer_of None step = Missed
-answer_of (Some s) step = (step s).1
-
--- a link port makes a step; where there is no such node, it is missed
-abbrev pub after_step : EgressPort → (NodeGroups → Stepped) → NetGroups → Happened
-after_step p step w = (with_changed p.node (λ s. (step s).0) w, answer_of (node_at p.node w) step)
-
--- neither end of a port's link is sound any more
-abbrev pub with_unsound_ends : EgressPort → NetGroups → NetGroups
-with_unsound_ends p w =
-    let q = peer_of w.tree.links p in
-    with_changed q.node (spoilt_at (place_of q.port)) (with_changed p.node (spoilt_at (place_of p.port)) w)
-
--- the application of a node has joined a MAC address, or parted from it
-abbrev pub after_asking : NodeNo → ℕ → Bool → NetGroups → Happened
-after_asking n mac joined w = (with_changed n (asked mac joined) w, Done)
-
--- the PDU of an index in a port's inbox is lost, where there is one
-abbrev pub with_loss : EgressPort → ℕ → Bool → NetGroups → Happened
-with_loss p index false w = (w, Missed)
-with_loss p index true w = (with_unsound_ends p (with_changed p.node (lost_at (place_of p.port) index) w), Done)
-
--- it is there twice, where there is one
-abbrev pub after_repeat : EgressPort → ℕ → Bool → NetGroups → Happened
-after_repeat p index false w = (w, Missed)
-after_repeat p index true w = (with_changed p.node (repeated_at (place_of p.port) index) w, Done)
-
--- the PDUs of a port's outbox come in at its peer
-abbrev pub after_carrying : EgressPort → NetGroups → NetGroups
-after_carrying p w =
-    let q = peer_of w.tree.links p in
-    with_changed q.node (with_carried (place_of q.port) (outbox p w)) (with_changed p.node (with_outbox (place_of p.port) []) w)
+-- what an event of a network of nodes comes to
+abbrev pub after_net_event : NetEvent (KeyRequest ℕ) (PortStep (Unit {0}) ℕ) (NamedOctets (Unit {0})) → NetGroups → Happened
+after_net_event e w = let made = net.net_step group_meaning e w in (made.0, reply_of made.1)
 
 -- one event: the network afterwards, and the answer
 abbrev pub group_step : GroupEvent → NetGroups → Happened
-group_step (events.Join n mac) w = after_asking n mac true w
-group_step (events.Part n mac) w = after_asking n mac false w
-group_step (events.Port p step) w = after_step p (port_step w.clock step (place_of p.port)) w
-group_step (events.Lose p index) w = with_loss p index (has_index p index w) w
-group_step (events.Repeat p index) w = after_repeat p index (has_index p index w) w
-group_step (events.Carry p) w = (after_carrying p w, Done)
-group_step events.Clock w = (record w { clock = record { 0 = w.clock.0 + 1 } }, Done)
+group_step (events.Join n mac) w = after_net_event (net_events.Request n (Declare mac)) w
+group_step (events.Part n mac) w = after_net_event (net_events.Request n (Withdraw mac)) w
+group_step (events.Port p step) w = after_net_event (net_events.Port p (port_step step)) w
+group_step (events.Lose p index) w = after_net_event (net_events.Lose p index) w
+group_step (events.Repeat p index) w = after_net_event (net_events.Repeat p index) w
+group_step (events.Carry p) w = after_net_event (net_events.Carry p) w
+group_step events.Clock w = after_net_event net_events.Clock w
 
 -- the network after a list of events
 abbrev pub groups_after : List GroupEvent → NetGroups → NetGroups
@@ -106,17 +103,11 @@ groups_after es w = fold (λ v e. (group_step e v).0) w es
 
 -- the tree has a station of this number
 abbrev pub IsStation : Topology → NodeNo → Type 0
-IsStation tree n = HasNode tree n.0 × (slice_get tree.kinds (n.0 - 1) ≡ Some Station)
+IsStation tree n = net.IsStation tree n
 
 -- its nodes and ports exist, a station joins and parts, and the clock goes on from below 2^61
 abbrev pub CanHappen : GroupEvent → NetGroups → Type 0
-CanHappen (events.Join n mac) w = IsStation w.tree n
-CanHappen (events.Part n mac) w = IsStation w.tree n
-CanHappen (events.Port p step) w = HasPort w.tree p
-CanHappen (events.Lose p index) w = HasPort w.tree p
-CanHappen (events.Repeat p index) w = HasPort w.tree p
-CanHappen (events.Carry p) w = HasPort w.tree p
-CanHappen events.Clock w = w.clock.0 < 2 ^ 61
+CanHappen e w = net.CanHappen group_meaning (net_event e) w
 
 -- each of some events may happen in its turn
 abbrev pub CanAllHappen : List GroupEvent → NetGroups → Type 0
@@ -125,26 +116,20 @@ CanAllHappen (e ∷ es) w = CanHappen e w × CanAllHappen es (group_step e w).0
 
 -- what is joined or parted from is a MAC address, as its type has it
 abbrev pub IsEventInRange : GroupEvent → Type 0
-IsEventInRange (events.Join n mac) = IsMac mac
-IsEventInRange (events.Part n mac) = IsMac mac
-IsEventInRange (events.Port p step) = Unit {0}
-IsEventInRange (events.Lose p index) = Unit {0}
-IsEventInRange (events.Repeat p index) = Unit {0}
-IsEventInRange (events.Carry p) = Unit {0}
-IsEventInRange events.Clock = Unit {0}
+IsEventInRange e = net.IsEventInRange group_meaning (net_event e)
 
 -- ---- what the readers say
 
 -- whether nothing is pending anywhere: no PDU is on its way, every Applicant is VO or QA, every
 -- Registrar IN or MT, every LeaveAll machine Passive, and no MAC address awaits
 abbrev pub is_quiet : NetGroups → Bool
-is_quiet w = list_all is_still_node w.nodes
+is_quiet w = net.is_quiet group_meaning w
 
 -- whether a node is busy: a PDU came in at some port, a timer is due there, or a MAC address awaits
 abbrev pub is_busy_at : NodeNo → NetGroups → Bool
-is_busy_at n w = option_map_or (is_busy_node w.clock) (node_at n w) false
+is_busy_at n w = net.is_busy_at group_meaning n w
 
 -- whether every port is sound: it has sent a LeaveAll since a PDU was last lost on its link, if one
 -- was
 abbrev pub is_in_step : NetGroups → Bool
-is_in_step w = list_all are_all_sound w.nodes
+is_in_step w = net.is_in_step group_meaning w

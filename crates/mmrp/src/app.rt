@@ -5,7 +5,10 @@ ghost use Rattle.std.specs.Prelude.{IfOk};
 ghost use Rattle.flat_side.specs.Codec.{IsFitting};
 ghost use Rattle.mmrp.specs.Macs.{base, octets, mac_codec, IsWritten};
 
-use flat_side::FlatApp;
+use flat_side::{FlatApp, FlatSide};
+use link_app::FlatLinkApp;
+use link_node::Node;
+use mmrp_codec::laws::{what_is_read_has_macs, what_is_written_is_read};
 use mmrp_codec::{DecodeErr, GroupPdu, decode, encode};
 use mrp_participant::MrpApp;
 use srp_base::{Mac, MrpEvent, NoMemory, Seq};
@@ -75,3 +78,19 @@ impl FlatApp for MmrpApp {
         encode(alloc, &pdu)
     }
 }
+
+impl FlatLinkApp for MmrpApp {
+    fn keeps_key(key: Mac) {
+        let _mac = key.get();
+    }
+
+    fn octets_say_what_is_written() {
+        what_is_read_has_macs();
+        what_is_written_is_read();
+    }
+}
+
+/// A node that runs MMRP (IEEE Std 802.1Q-2018, 10.12): a participant at each link port, the MAC
+/// addresses that await settling there, those that the application has joined, and the PDUs that
+/// wait at each port.
+pub(crate) type GroupNode = Node<FlatSide<MmrpApp>>;

@@ -13,18 +13,17 @@ ghost use Rattle.mmrp.specs.declared.events.GroupEvent.{GroupEvent};
 ghost use Rattle.mmrp.specs.declared.events.GroupStep.{GroupStep};
 ghost use Rattle.mmrp.specs.Macs.{Part, HasMacRows, IsWritten, pdu_sent};
 ghost use Rattle.mmrp.specs.Net.{NetGroups, CanAllHappen, CanHappen, IsEventInRange, group_step, groups_after, node_at};
-ghost use Rattle.mmrp.specs.Start.{net_of};
+ghost use Rattle.mmrp.specs.Node.{group_meaning};
+ghost use Rattle.mmrp.specs.Start.{net_of, nodes_from};
+ghost use Rattle.link_net.specs.Kept.{AreNew};
 ghost use Rattle.mmrp.specs.Kept.{IsKeptNet};
 ghost use Rattle.mmrp.specs.Match.{GroupsMatch, IsAtRest, is_joined_behind, is_registered};
 
-use crate::app::MmrpApp;
+use crate::app::{GroupNode, MmrpApp};
 use flat_side::laws as of_flat;
-use mmrp_codec::laws::{what_is_read_has_macs, what_is_written_is_read};
-use mrp_participant::duty_laws::spoiling_keeps_duties;
-use mrp_participant::link_laws::{
-    a_new_link_meets_both_duties, a_still_link_registers_what_is_declared,
-    every_event_keeps_both_duties,
-};
+use link_net::laws as of_nets;
+use mmrp_codec::laws::what_is_written_is_read;
+use mrp_participant::link_laws::a_still_link_registers_what_is_declared;
 use tree_topology::laws::{ports, the_walk};
 
 /// What a participant sends, where it isn't silent, is written in octets that read as it, at most
@@ -37,6 +36,14 @@ pub fn what_is_sent_is_read()
     what_is_written_is_read();
 }
 
+// The nodes of a file's network are new ones of its tree.
+pub(crate) fn file_nodes_are_new()
+    ensures { (ticks : ℕ) (tree : Topology) (leave_time : Cs) (periodic : Bool)
+        (nodes : List NodeEntry) (links : List LinkEntry)
+        → KeepsNetworkRules ticks leave_time.0 tree nodes links
+        → AreNew group_meaning tree (nodes_from leave_time periodic links 1 nodes) }
+{}
+
 /// The network of a file's nodes and links keeps, at its start, what every network keeps.
 pub fn a_network_begins_well()
     ensures { (ticks : ℕ) (tree : Topology) (leave_time : Cs) (periodic : Bool)
@@ -44,9 +51,8 @@ pub fn a_network_begins_well()
         → KeepsNetworkRules ticks leave_time.0 tree nodes links
         → IsKeptNet (net_of tree leave_time periodic nodes links) }
 {
-    ports();
-    of_flat::a_new_side_is_proper::<MmrpApp>();
-    a_new_link_meets_both_duties::<MmrpApp>();
+    file_nodes_are_new();
+    of_nets::a_network_begins_well::<GroupNode>();
 }
 
 /// Whatever happens in a network keeps what every network keeps: both duties of each link, and at
@@ -58,14 +64,7 @@ pub fn every_event_keeps_it()
     ensures events { (es : List GroupEvent) (w : NetGroups) → CanAllHappen es w
         → AllByRecursion IsEventInRange es → IsKeptNet w → IsKeptNet (groups_after es w) }
 {
-    ports();
-    of_flat::every_call_keeps_a_side_proper::<MmrpApp>();
-    of_flat::settling_and_requests_keep_a_side_proper::<MmrpApp>();
-    what_is_read_has_macs();
-    what_is_sent_is_read();
-    a_new_link_meets_both_duties::<MmrpApp>();
-    every_event_keeps_both_duties::<MmrpApp>();
-    spoiling_keeps_duties::<MmrpApp>();
+    of_nets::every_event_keeps_it::<GroupNode>();
 }
 
 /// No event changes the tree, none but the clock's the clock; and a step of a port changes its own
@@ -77,7 +76,9 @@ pub fn what_events_leave_alone()
     ensures nodes { (p : EgressPort) (step : GroupStep) (n : NodeNo) (w : NetGroups)
         → p.node.0 - 1 ≢ n.0 - 1
         → node_at n (group_step (GroupEvent.Port p step) w).0 ≡ node_at n w }
-{}
+{
+    of_nets::what_events_leave_alone::<GroupNode>();
+}
 
 /// In every network at rest a MAC address is registered at a port exactly where a station behind
 /// the port, in the words of the tree's walks, has joined it (IEEE Std 802.1Q-2018, 10.12); so both

@@ -16,10 +16,12 @@
 //! ```
 //!
 //! MMRP is a flat application, as MVRP is: what one port has registered is declared at every other.
-//! So a node is the side of `flat_side` for MAC addresses (`MmrpApp`, whose PDUs are those of
-//! `mmrp_codec`), with an inbox and an outbox for each link port, and a `GroupNet` is a tree, one
-//! clock, and a node for each of the tree's. Which events happen, and in which order, is for its
-//! user to say: `group_run` runs a file.
+//! So its side is that of `flat_side` for MAC addresses (`MmrpApp`, whose PDUs are those of
+//! `mmrp_codec`), a node is `Node` of `link_node` over that side, and a `GroupNet` is `Net` of
+//! `link_net` over such nodes: a tree, one clock, and a node for each of the tree's. Which events
+//! happen, and in which order, is for its user to say: `group_run` runs a file. What is here is what
+//! MMRP alone has: its application, the names of its events and answers, a file's network at its
+//! start, and the law of groups.
 //!
 //! Contracts see a network as its `NetGroups` (`specs/Net.antt`), with a `NodeGroups` for each node
 //! (`specs/Node.antt`). One event is a function of it: `group_step` gives the network afterwards
@@ -28,37 +30,27 @@
 //! joins and parts, and the clock goes on from below 2^61.
 //!
 //! What every network keeps, by its type, is `IsKeptNet` (`specs/Kept.antt`): on each link both
-//! ends meet their duty, with the octets in flight read as messages (`specs/Duty.antt`); at each
-//! port each MAC address that doesn't await is declared exactly where another port or the
-//! application has it registered; and bridges have joined nothing. So it holds after every list of
-//! events, losses and repeats included. From it follows the law of groups (`specs/Match.antt`,
-//! `laws`): in every network at rest a MAC address is registered at a port exactly where a station
-//! behind the port, in the words of the tree's walks, has joined it. `GroupNet::groups_match`
-//! answers both sides, each by its own definition in every network, and says that they are equal at
-//! rest.
+//! ends meet their duty, with the octets in flight read as messages; at each port each MAC address
+//! that doesn't await is declared exactly where another port or the application has it registered;
+//! and bridges have joined nothing. So it holds after every list of events, losses and repeats
+//! included. From it follows the law of groups (`specs/Match.antt`, `laws`): in every network at
+//! rest a MAC address is registered at a port exactly where a station behind the port, in the words
+//! of the tree's walks, has joined it. `GroupNet::groups_match` answers both sides, each by its own
+//! definition in every network, and says that they are equal at rest.
 //!
-//! An inbox is a queue (`src/inbox.rt`): to take its front moves no other PDU, and no step copies a
-//! side or a box.
-//!
-//! A further event of the network is a variant of `GroupEvent`, a line in `group_step`, `CanHappen`
-//! and `IsEventInRange`, an arm of `GroupNet::step` with a method of its own, and a case in the
-//! proofs that go by the event: in `proofs/EventSteps.antt` that it keeps the duties of each link,
-//! in `proofs/Keeping.antt` all else that a network keeps; `group_run` then has its case of
-//! `step_port` and `IsAllowed`. A further step of a port is a variant of `GroupStep`, a line in
-//! `port_step` (`specs/Node.antt`), an arm of `GroupNode::step`, and a case in `NodeSteps`,
-//! `PartSteps` and `Keeping` of the proofs. A further application whose keys go everywhere is a
-//! crate like this one; its law is that of `proofs/GroupLaw.antt`.
+//! A further event of the network that `link_net` knows, as a forged PDU is, is a variant of
+//! `GroupEvent` with a line in `net_event` (`src/net.rt`, `specs/Net.antt`) and in `group_step`, and
+//! a case of `step_is` (`proofs/NetEvents.antt`); one that it doesn't know begins there. `group_run`
+//! then has its case of `step_port` and `IsAllowed`. A further step of a port is a variant of
+//! `GroupStep`, and a line in each `port_step`. A further application whose keys go everywhere is a crate like this one: a
+//! `FlatLinkApp`, names for its events, and the law of `proofs/GroupLaw.antt` for its keys.
 #![tactic(auto)]
 
 mod app;
 mod events;
-mod happen;
-mod inbox;
 pub mod laws;
 mod matching;
 mod net;
-mod node;
-mod side;
 mod start;
 
 pub use app::MmrpApp;

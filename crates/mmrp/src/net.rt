@@ -2,46 +2,40 @@
 
 ghost use Rattle.std.specs.Prelude.{◌≡◌, length, Some, IfOk, OnErr};
 ghost use Rattle.mmrp.specs.Kept.{IsKeptNet};
-ghost use Rattle.mmrp.specs.Net.{CanHappen, group_step, inbox, is_busy_at, is_in_step, is_quiet};
-ghost use Rattle.mmrp.specs.Duty.{part_at};
+ghost use Rattle.mmrp.specs.Net.{CanHappen, group_step, inbox, is_busy_at, is_in_step, is_quiet, net_event as event_of, node_reply as answer_of, part_at, port_step as step_of, reply_of as reply_from};
 ghost use Rattle.mmrp.specs.Match.{is_joined_at, registrar_at};
 ghost use Rattle.mmrp.specs.Start.{net_of};
 ghost use Rattle.tree_topology.specs.Topology.{HasNode, HasPort};
 
-use crate::app::MmrpApp;
+use crate::app::{GroupNode, MmrpApp};
 use crate::events::{GroupEvent, GroupReply, GroupStep};
-use crate::happen::{
-    ask, carry, has_joined, is_busy, lose, make_step, participant, pending, registrar, repeat,
-};
-use crate::laws::{a_network_begins_well, every_event_keeps_it};
-use crate::node::GroupNode;
+use crate::laws::file_nodes_are_new;
 use crate::start::new_nodes;
 use group_file::GroupScenario;
+use link_app::{KeyRequest, Wire};
+use link_net::{Net, NetEvent, NetReply};
+use link_node::{PortStep, StepReply};
 use mrp_participant::Participant;
 use registrar::Registrar;
 use srp_base::{Cs, EgressPort, Mac, NoMemory, NodeNo};
 use std::alloc::Global;
 use std::marker::Model;
 use tree_topology::Tree;
-use tree_topology::laws::ports;
 
 /// A network that runs MMRP (IEEE Std 802.1Q-2018, 10.12). Contracts see a `NetGroups`.
 #[derive(Drop)]
 pub struct GroupNet {
-    tree: Tree,
-    clock: Cs,
-    nodes: Vec<GroupNode>,
+    net: Net<GroupNode>,
 }
 
 impl Model for GroupNet {
+    ghost use Rattle.link_net.specs.Net.{seen};
+    ghost use Rattle.link_node.specs.State.{state_of};
     ghost use Rattle.mmrp.specs.Net.{NetGroups};
-    ghost use Rattle.mmrp.specs.Kept.{IsKeptNet};
 
     ghost Value = { NetGroups };
 
-    ghost view = { λ w. record { tree = w.tree; clock = w.clock; nodes = w.nodes.items } };
-
-    ghost invariant = { λ w. IsKeptNet (record { tree = w.tree; clock = w.clock; nodes = w.nodes.items }) };
+    ghost view = { λ g. seen (state_of (λ side. side.state)) g.net };
 }
 
 impl GroupNet {
@@ -51,7 +45,7 @@ impl GroupNet {
         ensures { IfOk result (λ net. net ≡ net_of scenario.now.tree scenario.now.leave_time
             scenario.now.periodic scenario.now.nodes scenario.now.links) }
     {
-        begins(scenario);
+        file_nodes_are_new();
         scenario.keeps_rules();
         let _few = scenario.tree.links();
         let tree = scenario.tree.copy()?;
@@ -63,9 +57,7 @@ impl GroupNet {
             scenario.links.as_slice(),
         )?;
         Ok(GroupNet {
-            tree,
-            clock: Cs(0),
-            nodes,
+            net: Net::new(tree, nodes),
         })
     }
 
@@ -74,119 +66,35 @@ impl GroupNet {
     pub fn keeps(&self)
         ensures { IsKeptNet self.now }
     {
-        let _ = &self.tree;
+        self.net.keeps();
     }
 
     /// Lets one event happen, and answers what came of it: a port's step answers as `GroupStep`
     /// says, `Missed` comes exactly where no PDU has the index, and `Done` for all else. The nodes
     /// and ports that the event names exist, a station joins and parts, and the clock goes on from
     /// below 2^61. After want of memory the network is as it was.
+    #[tactic(auto, using(crate::proofs::NetEvents::step_is))]
     pub fn step(&mut self, event: GroupEvent) -> Result<GroupReply, NoMemory>
         requires { CanHappen event self.old }
         ensures ok { IfOk result (λ reply. group_step event self.old ≡ (self.new, reply)) }
         ensures err { OnErr result (self.new ≡ self.old) }
     {
-        match event {
-            GroupEvent::Join(node, mac) => self.join(node, mac),
-            GroupEvent::Part(node, mac) => self.part(node, mac),
-            GroupEvent::Port(at, step) => self.port_step(at, step),
-            GroupEvent::Lose(at, index) => Ok(self.lose(at, index)),
-            GroupEvent::Repeat(at, index) => self.repeat(at, index),
-            GroupEvent::Carry(at) => self.carry(at),
-            GroupEvent::Clock => Ok(self.tick()),
-        }
-    }
-
-    // A station joins a group.
-    fn join(&mut self, node: NodeNo, mac: Mac) -> Result<GroupReply, NoMemory>
-        requires { CanHappen (GroupEvent.Join node mac) self.old }
-        ensures ok { IfOk result (λ reply. group_step (GroupEvent.Join node mac) self.old
-            ≡ (self.new, reply)) }
-        ensures err { OnErr result (self.new ≡ self.old) }
-    {
-        every_event_keeps_it();
-        let _mac = mac.get();
-        ask(&mut self.nodes, node, mac, true)
-    }
-
-    // A station parts from a group.
-    fn part(&mut self, node: NodeNo, mac: Mac) -> Result<GroupReply, NoMemory>
-        requires { CanHappen (GroupEvent.Part node mac) self.old }
-        ensures ok { IfOk result (λ reply. group_step (GroupEvent.Part node mac) self.old
-            ≡ (self.new, reply)) }
-        ensures err { OnErr result (self.new ≡ self.old) }
-    {
-        every_event_keeps_it();
-        let _mac = mac.get();
-        ask(&mut self.nodes, node, mac, false)
-    }
-
-    // A link port makes a step.
-    fn port_step(&mut self, at: EgressPort, step: GroupStep) -> Result<GroupReply, NoMemory>
-        requires { CanHappen (GroupEvent.Port at step) self.old }
-        ensures ok { IfOk result (λ reply. group_step (GroupEvent.Port at step) self.old
-            ≡ (self.new, reply)) }
-        ensures err { OnErr result (self.new ≡ self.old) }
-    {
-        every_event_keeps_it();
-        make_step(&mut self.nodes, self.clock, at, step)
-    }
-
-    // The PDU of an index is lost, where there is one.
-    fn lose(&mut self, at: EgressPort, index: u32) -> GroupReply
-        requires { CanHappen (GroupEvent.Lose at index) self.old }
-        ensures { group_step (GroupEvent.Lose at index) self.old ≡ (self.new, result) }
-    {
-        every_event_keeps_it();
-        ports();
-        lose(&self.tree, &mut self.nodes, at, index)
-    }
-
-    // It is there twice.
-    fn repeat(&mut self, at: EgressPort, index: u32) -> Result<GroupReply, NoMemory>
-        requires { CanHappen (GroupEvent.Repeat at index) self.old }
-        ensures ok { IfOk result (λ reply. group_step (GroupEvent.Repeat at index) self.old
-            ≡ (self.new, reply)) }
-        ensures err { OnErr result (self.new ≡ self.old) }
-    {
-        every_event_keeps_it();
-        repeat(&mut self.nodes, at, index)
-    }
-
-    // The PDUs of a port's outbox come in at its peer.
-    fn carry(&mut self, at: EgressPort) -> Result<GroupReply, NoMemory>
-        requires { CanHappen (GroupEvent.Carry at) self.old }
-        ensures ok { IfOk result (λ reply. group_step (GroupEvent.Carry at) self.old
-            ≡ (self.new, reply)) }
-        ensures err { OnErr result (self.new ≡ self.old) }
-    {
-        every_event_keeps_it();
-        ports();
-        carry(&self.tree, &mut self.nodes, at)
-    }
-
-    // The clock goes on.
-    fn tick(&mut self) -> GroupReply
-        requires { CanHappen GroupEvent.Clock self.old }
-        ensures { group_step GroupEvent.Clock self.old ≡ (self.new, result) }
-    {
-        every_event_keeps_it();
-        self.clock = Cs(self.clock.0 + 1);
-        GroupReply::Done
+        let reply = self.net.step(net_event(event))?;
+        Ok(reply_of(reply))
     }
 
     /// The clock, in cs from the start.
     pub fn now(&self) -> Cs
         ensures { result ≡ self.now.clock }
     {
-        self.clock
+        self.net.now()
     }
 
     /// The tree of the nodes and links.
     pub fn tree(&self) -> &Tree
         ensures { result.now ≡ self.now.tree }
     {
-        &self.tree
+        self.net.tree()
     }
 
     /// The state of the registrar of a MAC address at a port, MT where there is no row. The port
@@ -195,7 +103,7 @@ impl GroupNet {
         requires { HasPort self.now.tree at }
         ensures { result ≡ registrar_at self.now mac at }
     {
-        registrar(&self.nodes, at, mac)
+        self.participant(at).registrar(mac)
     }
 
     /// The number of PDUs that came in at a port and wait there. The port exists.
@@ -203,7 +111,7 @@ impl GroupNet {
         requires { HasPort self.now.tree at }
         ensures { result ≡ length (inbox at self.now) }
     {
-        pending(&self.nodes, at)
+        self.net.pending(at)
     }
 
     /// Whether a node is busy: a PDU came in at some port, a timer is due there, or a MAC address
@@ -212,7 +120,7 @@ impl GroupNet {
         requires { HasNode self.now.tree node.0 }
         ensures { result ≡ is_busy_at node self.now }
     {
-        is_busy(&self.nodes, self.clock, node)
+        self.net.is_busy(node)
     }
 
     // The participant of a port.
@@ -220,7 +128,7 @@ impl GroupNet {
         requires { HasPort self.now.tree at }
         ensures { part_at at self.now ≡ Some result.now.state }
     {
-        participant(&self.nodes, at)
+        self.net.node_of(at).app().participant(at.port)
     }
 
     // Whether a node is a station that has joined a MAC address. The node exists.
@@ -228,12 +136,13 @@ impl GroupNet {
         requires { HasNode self.now.tree node.0 }
         ensures { result ≡ is_joined_at self.now mac node.0 }
     {
-        has_joined(&self.nodes, node, mac)
+        self.net.keeps();
+        self.net.node(node).app().declares(mac)
     }
 
     // The allocator that the network was made with.
     pub(crate) fn allocator(&self) -> Global {
-        *self.nodes.allocator()
+        self.net.allocator()
     }
 
     /// Whether nothing is pending: no PDU is on its way, every Applicant is VO or QA, every
@@ -241,7 +150,7 @@ impl GroupNet {
     pub fn quiet(&self) -> bool
         ensures { result ≡ is_quiet self.now }
     {
-        self.nodes.iter().all(|node| node.still())
+        self.net.quiet()
     }
 
     /// Whether every port is sound: it has sent a LeaveAll since a PDU was last lost on its link,
@@ -249,15 +158,60 @@ impl GroupNet {
     pub fn in_step(&self) -> bool
         ensures { result ≡ is_in_step self.now }
     {
-        self.nodes.iter().all(|node| node.all_sound())
+        self.net.in_step()
     }
 }
 
-// The network of a group scenario keeps, at its start, what every network keeps.
-fn begins(scenario: &GroupScenario)
-    ensures { IsKeptNet (net_of scenario.now.tree scenario.now.leave_time scenario.now.periodic
-        scenario.now.nodes scenario.now.links) }
+// The event of a network of nodes that an event of this one is.
+fn net_event(event: GroupEvent) -> NetEvent<KeyRequest<Mac>, PortStep<(), Mac>, Wire<()>>
+    ensures { result ≡ event_of event }
 {
-    a_network_begins_well();
-    scenario.keeps_rules();
+    match event {
+        GroupEvent::Join(node, mac) => NetEvent::Request(node, KeyRequest::Declare(mac)),
+        GroupEvent::Part(node, mac) => NetEvent::Request(node, KeyRequest::Withdraw(mac)),
+        GroupEvent::Port(at, step) => NetEvent::Port(at, port_step(step)),
+        GroupEvent::Lose(at, index) => NetEvent::Lose(at, index),
+        GroupEvent::Repeat(at, index) => NetEvent::Repeat(at, index),
+        GroupEvent::Carry(at) => NetEvent::Carry(at),
+        GroupEvent::Clock => NetEvent::Clock,
+    }
+}
+
+// The step of a node that a step is.
+fn port_step(step: GroupStep) -> PortStep<(), Mac>
+    ensures { result ≡ step_of step }
+{
+    match step {
+        GroupStep::Work => PortStep::Work,
+        GroupStep::Due => PortStep::Due,
+        GroupStep::Settle => PortStep::Settle,
+        GroupStep::Send => PortStep::Send(()),
+    }
+}
+
+// The answer of this network that a network's is.
+fn reply_of(reply: NetReply<StepReply>) -> GroupReply
+    ensures { result ≡ reply_from reply }
+{
+    match reply {
+        NetReply::Node(reply) => node_reply(reply),
+        NetReply::Done => GroupReply::Done,
+        NetReply::Missed => GroupReply::Missed,
+    }
+}
+
+// The answer of this network that a node's is.
+fn node_reply(reply: StepReply) -> GroupReply
+    ensures { result ≡ answer_of reply }
+{
+    match reply {
+        StepReply::Nothing => GroupReply::Nothing,
+        StepReply::Discarded(place) => GroupReply::Discarded(place),
+        StepReply::Received(count) => GroupReply::Received(count),
+        StepReply::Fired(count) => GroupReply::Fired(count),
+        StepReply::Settled(count) => GroupReply::Settled(count),
+        StepReply::Silent => GroupReply::Silent,
+        StepReply::Sent(count) => GroupReply::Sent(count),
+        StepReply::Taken => GroupReply::Done,
+    }
 }

@@ -1,11 +1,14 @@
 //! The nodes of a network at its start, each with its ports.
 
-ghost use Rattle.std.specs.Prelude.{◌≡◌, ◌≤◌, ◌++◌, length, IfOk};
+ghost use Rattle.std.specs.Prelude.{◌≡◌, ◌≤◌, ◌++◌, length, map, IfOk};
+ghost use Rattle.link_node.specs.State.{state_of};
 ghost use Rattle.mrp_participant.specs.State.{IsTime};
 ghost use Rattle.mmrp.specs.Node.{new_node};
 ghost use Rattle.mmrp.specs.Start.{end_setup, nodes_from, setup_of, setups_from};
 
-use crate::node::GroupNode;
+use crate::app::GroupNode;
+use flat_side::FlatSide;
+use link_node::Node;
 use srp_base::{Cs, NoMemory, PortSetup};
 use std::alloc::Global;
 use topology_file::{LinkEntry, NodeEntry};
@@ -21,7 +24,7 @@ pub(crate) fn new_nodes(
     requires leave_time { IsTime leave_time }
     requires few { length entries.now ≤ 64 }
     requires links { length links.now ≤ 65535 }
-    ensures { IfOk result (λ nodes. nodes.items
+    ensures { IfOk result (λ nodes. map (state_of (λ side. side.state)) nodes.items
         ≡ nodes_from leave_time periodic links.now 1 entries.now) }
 {
     let mut nodes = Vec::with_capacity(alloc, entries.len())?;
@@ -42,11 +45,12 @@ fn new_node_of(
 ) -> Result<GroupNode, NoMemory>
     requires leave_time { IsTime leave_time }
     requires links { length links.now ≤ 65535 }
-    ensures { IfOk result (λ node. node
+    ensures { IfOk result (λ node. state_of (λ side. side.state) node
         ≡ new_node leave_time periodic (setups_from 1 number links.now)) }
 {
     let setups = new_setups(alloc, links, number)?;
-    GroupNode::new(alloc, leave_time, periodic, setups.as_slice())
+    let side = FlatSide::new(alloc, leave_time, periodic, setups.as_slice())?;
+    Node::new(alloc, side)
 }
 
 /// The ports of a node in the order of its links, of all links.

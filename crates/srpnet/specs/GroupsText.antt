@@ -3,7 +3,7 @@
 use Rattle.std.specs.Prelude.{◌≡◌, ℕ, List, Result, Ok}
 use Rattle.group_file.specs.{Plan.GroupPlan, Scenario.group_scenario_of}
 use Rattle.group_run.specs.{Text.group_text, Ticks.run_of}
-use Rattle.mmrp.specs.{Duty.AreGroupDutiesMet, Match.GroupsMatch, Match.IsAtRest, Net.NetGroups}
+use Rattle.mmrp.specs.{Kept.AreGroupDutiesMet, Match.GroupsMatch, Match.IsAtRest, Net.NetGroups}
 use Rattle.srpnet.specs.declared.outcome.Cause.{Cause}
 use Rattle.srpnet.specs.Input.{input_of}
 

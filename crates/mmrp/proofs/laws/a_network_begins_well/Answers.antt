@@ -1,6 +1,6 @@
-use Rattle.mmrp.proofs.Beginnings.{begins}
+use Rattle.mmrp.specs.{nodes_from}
 use Rattle.mmrp.proofs.laws.a_network_begins_well.Goals as goal
 
 pub returns : goal.returns
 returns c = λ ticks tree leave_time periodic nodes links rules.
-    begins ticks tree leave_time periodic nodes links rules c.ports.ensures c.a_new_side_is_proper.ensures c.a_new_link_meets_both_duties.ensures.new
+    c.a_network_begins_well.ensures tree (nodes_from leave_time periodic links 1 nodes) (c.file_nodes_are_new.ensures ticks tree leave_time periodic nodes links rules)

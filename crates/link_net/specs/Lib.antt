@@ -1,0 +1,10 @@
+pub mod Meaning
+pub mod NodeLaws
+pub mod Net
+pub mod Kept
+pub use Meaning.*
+pub use NodeLaws.*
+pub use Net.*
+pub use Kept.*
+pub use Rattle.link_net.specs.declared.events.NetEvent.{NetEvent}
+pub use Rattle.link_net.specs.declared.events.NetReply.{NetReply}

@@ -1,0 +1,10 @@
+pub mod Boxes
+pub mod State
+pub mod Step
+pub mod Saying
+pub mod Meaning
+pub use Boxes.*
+pub use State.*
+pub use Step.*
+pub use Saying.*
+pub use Meaning.*
