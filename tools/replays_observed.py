@@ -59,6 +59,22 @@ def named(key):
     return f"{kind} {number:0{DIGITS[kind]}x}" if kind in DIGITS else f"{kind} {number}"
 
 
+def talkers_declared(events):
+    """The Talkers that the events of a PDU declare, as often as they do: each stream, and whether as a Talker Failed."""
+    return [(key[1], bool(content.failure)) for event, key, content in events if event in JOINS and key[0] == "talker"]
+
+
+def without_replaced(events):
+    """The events of a PDU without each Lv of a Talker of which it declares the other attribute: the stream goes from Failed to
+    Advertise, or back, and is told as what is declared."""
+    declared = talkers_declared(events)
+
+    def is_replaced(event, key, content):
+        return event == "lv" and key[0] == "talker" and (key[1], not content.failure) in declared
+
+    return [event for event in events if not is_replaced(*event)]
+
+
 class Way:
     """What an end declares in one application, as it stands at the other end: of each key that isn't MT the state of its Registrar,
     the content, and until when the leave timer runs."""
@@ -251,13 +267,12 @@ class Link:
             # a Listener that is ignored says nothing (35.2.2.7.2)
             events = [event for event in frame.events if event[2] != "ignored"]
             self.doubles(front, events)
-            self.lines += self.watches[frame.app].says(self.at, who, frame.leave_all, events)
+            self.lines += self.watches[frame.app].says(self.at, who, frame.leave_all, without_replaced(events))
 
     def doubles(self, front, events):
         """Looks for streams with a Talker Advertise and a Talker Failed in one PDU (35.2.2.8)."""
-        declared = [(key[1], content) for event, key, content in events if event in JOINS and key[0] == "talker"]
-        advertised = {stream for stream, content in declared if not content.failure}
-        both = [stream for stream, content in declared if content.failure and stream in advertised]
+        declared = talkers_declared(events)
+        both = [stream for stream, is_failed in declared if is_failed and (stream, False) in declared]
         self.lines += [f"{front} says talker {stream:016x} advertise and failed" for stream in both]
         self.broken += len(both)
 
