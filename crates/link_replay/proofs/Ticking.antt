@@ -1,6 +1,6 @@
 -- What is told of a link between two participants that go by ticks.
 use Rattle.std.proofs.Common.{◌≡◌, ◌∙◌, ◌≤◌, ℕ, ◌+◌, Bool, true, false, if◌then◌else◌, nat_le, List, [], ◌∷◌, ◌++◌, map, fold, Contains, refl, ap, sym, subst, append-nil, arith}
-use Rattle.std.specs.Prelude.{option_map, option_and_then, ◌||◌, ◌&&◌}
+use Rattle.std.specs.Prelude.{option_map, option_and_then, not, ◌||◌, ◌&&◌}
 use Rattle.std.specs.{declared.cmp.Ordering.Ordering, Ordering.is_eq, List.AllByRecursion}
 use Rattle.srp_base.specs.declared.{numbers.Cs.Cs, mrp.MrpEvent.MrpEvent}
 use Rattle.attribute_propagation.specs.Dirty.{is_awaiting, with_key, all_marked}
@@ -208,19 +208,24 @@ module _ {K C : Type 0} (base : ℕ) (octets : C → ℕ) (cmp : K → K → Ord
           ∙ none b l.ways B at (read (sent_events base octets cmp at b)) told.at_b.are_rows told.at_b.observed (only (sent_events base octets cmp at b));
     }
 
-    says_a : (silent : Bool) (at : Cs) (l : LinkState K C) (a b : State K C) (on : List (End × Messages K C)) → is_silent a ≡ silent → Told l a b on
+    -- it speaks only where it isn't silent
+    speaks : (sends : Bool) (s : State K C) → (not sends || is_silent s) ≡ false → is_silent s ≡ false
+    speaks true s h = h
+    speaks false s h = cc
+
+    says_a : (sends silent : Bool) (at : Cs) (l : LinkState K C) (a b : State K C) (on : List (End × Messages K C)) → (not sends || is_silent a) ≡ silent → Told l a b on
         → Told (all_saying base octets cmp eq read at A l (if silent then [] else sent_read base octets cmp eq read at a ∷ []))
         (if silent then a else sent_state base octets cmp at a) b
         (on ++ map (λ m. (A, m)) (if silent then [] else sent_read base octets cmp eq read at a ∷ []))
-    says_a true at l a b on is told = subst (Told l a b) (sym (append-nil on)) told
-    says_a false at l a b on is told = one_from_a at l a b on is told
+    says_a sends true at l a b on is told = subst (Told l a b) (sym (append-nil on)) told
+    says_a sends false at l a b on is told = one_from_a at l a b on (speaks sends a is) told
 
-    says_b : (silent : Bool) (at : Cs) (l : LinkState K C) (a b : State K C) (on : List (End × Messages K C)) → is_silent b ≡ silent → Told l a b on
+    says_b : (sends silent : Bool) (at : Cs) (l : LinkState K C) (a b : State K C) (on : List (End × Messages K C)) → (not sends || is_silent b) ≡ silent → Told l a b on
         → Told (all_saying base octets cmp eq read at B l (if silent then [] else sent_read base octets cmp eq read at b ∷ []))
         a (if silent then b else sent_state base octets cmp at b)
         (on ++ map (λ m. (B, m)) (if silent then [] else sent_read base octets cmp eq read at b ∷ []))
-    says_b true at l a b on is told = subst (Told l a b) (sym (append-nil on)) told
-    says_b false at l a b on is told = one_from_b at l a b on is told
+    says_b sends true at l a b on is told = subst (Told l a b) (sym (append-nil on)) told
+    says_b sends false at l a b on is told = one_from_b at l a b on (speaks sends b is) told
 
     -- a tick
     ticks_on : (t : Tick K C) (p : Pair K C) (l : LinkState K C) → IsTold cmp (p, l)
@@ -235,8 +240,8 @@ module _ {K C : Type 0} (base : ℕ) (octets : C → ℕ) (cmp : K → K → Ord
           kept = told.kept;
         }) in
         let l_a = told_ready base octets cmp eq read t.at l in
-        let first = says_a (is_silent a) t.at l_a a b [] refl here in
-        let both = says_b (is_silent b) t.at _ _ b _ refl first in
+        let first = says_a t.asks_a.sends (not t.asks_a.sends || is_silent a) t.at l_a a b [] refl here in
+        let both = says_b t.asks_b.sends (not t.asks_b.sends || is_silent b) t.at _ _ b _ refl first in
         record {
           a_rows = both.at_a.are_rows;
           b_rows = both.at_b.are_rows;
@@ -467,12 +472,12 @@ module _ {K C : Type 0} (base : ℕ) (octets : C → ℕ) (cmp : K → K → Ord
           let next : Cs = record { 0 = t.at.0 + 1 } in
           let here = link_judged (arrived cmp r) in
           let l = going_by cmp moments r in
-          let sent_a = sent_in_tick base octets cmp eq read t.at a in
-          let sent_b = sent_in_tick base octets cmp eq read t.at b in
+          let sent_a = sent_in_tick base octets cmp eq read t.at t.asks_a.sends a in
+          let sent_b = sent_in_tick base octets cmp eq read t.at t.asks_b.sends b in
           let l_a = all_saying base octets cmp eq read t.at A l sent_a in
           let l_b = all_saying base octets cmp eq read t.at B l_a sent_b in
-          let first = says_a (is_silent a) t.at l a b [] refl (caught_up t p r moments follows are) in
-          let told = says_b (is_silent b) t.at l_a _ b _ refl first in
+          let first = says_a t.asks_a.sends (not t.asks_a.sends || is_silent a) t.at l a b [] refl (caught_up t p r moments follows are) in
+          let told = says_b t.asks_b.sends (not t.asks_b.sends || is_silent b) t.at l_a _ b _ refl first in
           let known_a : IsKnownUpTo cmp t.at l_b.ways.from_a =
           subst (IsKnownUpTo cmp t.at) (sym (b_says_a t.at sent_b l_a ∙ ap (λ (way : WayState K C). all_begun t.at way sent_b) (a_says_a t.at sent_a l ∙ passing_a moments here)))
           (known_all_begun t.at sent_b _ (known_passed cmp marked all receive receive_rows due due_rows moments t.at here.ways.from_a are.low follows.at_b.known)) in
@@ -481,11 +486,11 @@ module _ {K C : Type 0} (base : ℕ) (octets : C → ℕ) (cmp : K → K → Ord
           (known_all_begun t.at sent_a _ (known_passed cmp marked all receive receive_rows due due_rows moments t.at here.ways.from_b are.low follows.at_a.known)) in
           let there = arrives next l_b sent_a sent_b told.on_way in
           record {
-            at_a = subst (Lags base octets cmp eq read next (after_tick base octets cmp eq read t.at a) sent_b) (sym (ap (λ (w : Ways K C). w.from_b) there))
-                (lags_anew next sent_b (after_tick base octets cmp eq read t.at a) l_b.ways.from_b told.at_a
+            at_a = subst (Lags base octets cmp eq read next (after_tick base octets cmp eq read t.at t.asks_a.sends a) sent_b) (sym (ap (λ (w : Ways K C). w.from_b) there))
+                (lags_anew next sent_b (after_tick base octets cmp eq read t.at t.asks_a.sends a) l_b.ways.from_b told.at_a
                 (known_later cmp marked all receive receive_rows due due_rows t.at next l_b.ways.from_b (omega arith) known_b));
-            at_b = subst (Lags base octets cmp eq read next (after_tick base octets cmp eq read t.at b) sent_a) (sym (ap (λ (w : Ways K C). w.from_a) there))
-                (lags_anew next sent_a (after_tick base octets cmp eq read t.at b) l_b.ways.from_a told.at_b
+            at_b = subst (Lags base octets cmp eq read next (after_tick base octets cmp eq read t.at t.asks_b.sends b) sent_a) (sym (ap (λ (w : Ways K C). w.from_a) there))
+                (lags_anew next sent_a (after_tick base octets cmp eq read t.at t.asks_b.sends b) l_b.ways.from_a told.at_b
                 (known_later cmp marked all receive receive_rows due due_rows t.at next l_b.ways.from_a (omega arith) known_a));
             none_kept = told.kept;
           }
@@ -500,7 +505,7 @@ module _ {K C : Type 0} (base : ℕ) (octets : C → ℕ) (cmp : K → K → Ord
       follows_by : (quiet : Bool) (t : Tick K C) (p : Pair K C) (r : Replayed K C) → is_quiet base octets cmp eq read t p ≡ quiet → Follows base octets cmp eq read t.at p r
           → Follows base octets cmp eq read (record { 0 = t.at.0 + 1 }) (pair_after base octets cmp eq read p t) (if quiet then r else said_after base octets cmp eq read p r t)
       follows_by true t p r is follows =
-          quietly (is_silent (ready_a base octets cmp eq read t p)) (is_silent (ready_b base octets cmp eq read t p)) t p r is follows
+          quietly (not t.asks_a.sends || is_silent (ready_a base octets cmp eq read t p)) (not t.asks_b.sends || is_silent (ready_b base octets cmp eq read t p)) t p r is follows
       follows_by false t p r is follows = loudly t p r (moments_to cmp t.at r) follows (are_moments t.at r)
 
       -- ---- runs

@@ -1,8 +1,9 @@
 -- Two participants at the ends of a link that go by ticks, as a network of this project does, beside
 -- what is told of the link from their PDUs: in a tick each end takes what the other sent in the one
--- before, its timers fire, and it sends (IEEE Std 802.1Q-2018, 10.7). Ticks are this project's. What
--- goes over the link is what is read there of the events that an end writes: `read` says it of them.
-use Rattle.std.specs.Prelude.{◌≡◌, ℕ, ◌+◌, ◌&&◌, Bool, if◌then◌else◌, List, [], ◌∷◌, ◌++◌, map, fold, Contains}
+-- before, its timers fire, and it sends, or waits for a later tick, as for the next of those in which
+-- it sends (IEEE Std 802.1Q-2018, 10.7). Ticks are this project's. What goes over the link is what is
+-- read there of the events that an end writes: `read` says it of them.
+use Rattle.std.specs.Prelude.{◌≡◌, ℕ, ◌+◌, ◌&&◌, ◌||◌, not, Bool, if◌then◌else◌, List, [], ◌∷◌, ◌++◌, map, fold, Contains}
 use Rattle.std.specs.declared.cmp.Ordering.{Ordering}
 use Rattle.srp_base.specs.declared.{numbers.Cs.Cs, mrp.MrpEvent.MrpEvent}
 use Rattle.attribute_propagation.specs.Dirty.{all_marked}
@@ -16,12 +17,14 @@ pub data Ask (K C : Type 0) : Type 0 where
   Declares : K → C → Ask K C
   Withdraws : K → Ask K C
 
--- what the user at an end asks for in a tick: before the end takes what came in, and before it sends
+-- what the user at an end asks for in a tick, before the end takes what came in, and before it sends;
+-- and whether it sends in that tick
 pub record Asks (K C : Type 0) : Type 0 where
   pub first : List (Ask K C)
   pub later : List (Ask K C)
+  pub sends : Bool
 
--- a tick: its moment, and what is asked for at both ends
+-- a tick: its moment, and what is asked for at both ends, of which each sends in it or waits
 pub record Tick (K C : Type 0) : Type 0 where
   pub at : Cs
   pub asks_a : Asks K C
@@ -78,13 +81,17 @@ module _ {K C : Type 0} (base : ℕ) (octets : C → ℕ) (cmp : K → K → Ord
   abbrev pub sent_read : Cs → State K C → Messages K C
   sent_read at s = record { leave_all = is_active s.leave_all; events = read (sent_events base octets cmp at s) }
 
-  -- what it sends then: one list of messages, where there is something to say
-  abbrev pub sent_in_tick : Cs → State K C → List (Messages K C)
-  sent_in_tick at s = if is_silent s then [] else sent_read at s ∷ []
+  -- whether it says nothing: it doesn't send, or has nothing to say
+  abbrev pub says_nothing : (sends : Bool) → State K C → Bool
+  says_nothing sends s = not sends || is_silent s
+
+  -- what it sends then: one list of messages, where it sends and there is something to say
+  abbrev pub sent_in_tick : Cs → (sends : Bool) → State K C → List (Messages K C)
+  sent_in_tick at sends s = if says_nothing sends s then [] else sent_read at s ∷ []
 
   -- after it
-  abbrev pub after_tick : Cs → State K C → State K C
-  after_tick at s = if is_silent s then s else sent_state base octets cmp at s
+  abbrev pub after_tick : Cs → (sends : Bool) → State K C → State K C
+  after_tick at sends s = if says_nothing sends s then s else sent_state base octets cmp at s
 
   -- ---- a tick of both ends, and what is told of it
 
@@ -99,10 +106,10 @@ module _ {K C : Type 0} (base : ℕ) (octets : C → ℕ) (cmp : K → K → Ord
   abbrev pub pair_after : Pair K C → Tick K C → Pair K C
   pair_after p t =
       record {
-        a = after_tick t.at (ready_a t p);
-        b = after_tick t.at (ready_b t p);
-        from_a = sent_in_tick t.at (ready_a t p);
-        from_b = sent_in_tick t.at (ready_b t p);
+        a = after_tick t.at t.asks_a.sends (ready_a t p);
+        b = after_tick t.at t.asks_b.sends (ready_b t p);
+        from_a = sent_in_tick t.at t.asks_a.sends (ready_a t p);
+        from_b = sent_in_tick t.at t.asks_b.sends (ready_b t p);
       }
 
   -- a link, from its PDUs, when it comes to a tick: what was said in the one before has arrived, the
@@ -117,7 +124,8 @@ module _ {K C : Type 0} (base : ℕ) (octets : C → ℕ) (cmp : K → K → Ord
   -- after a tick
   abbrev pub told_after : Pair K C → LinkState K C → Tick K C → LinkState K C
   told_after p l t =
-      all_saying t.at B (all_saying t.at A (told_ready t.at l) (sent_in_tick t.at (ready_a t p))) (sent_in_tick t.at (ready_b t p))
+      all_saying t.at B (all_saying t.at A (told_ready t.at l) (sent_in_tick t.at t.asks_a.sends (ready_a t p)))
+      (sent_in_tick t.at t.asks_b.sends (ready_b t p))
 
   -- ---- runs
 
@@ -178,7 +186,9 @@ module _ {K C : Type 0} (base : ℕ) (octets : C → ℕ) (cmp : K → K → Ord
     (read : List (MrpEvent × K × C) → List (MrpEvent × K × C)) where
   -- whether neither end says anything in a tick
   abbrev pub is_quiet : Tick K C → Pair K C → Bool
-  is_quiet t p = is_silent (ready_a base octets cmp eq read t p) && is_silent (ready_b base octets cmp eq read t p)
+  is_quiet t p =
+      says_nothing base octets cmp eq read t.asks_a.sends (ready_a base octets cmp eq read t p)
+      && says_nothing base octets cmp eq read t.asks_b.sends (ready_b base octets cmp eq read t p)
 
   -- after a tick to which time goes on by some moments
   abbrev pub said_by : List Cs → Pair K C → Replayed K C → Tick K C → Replayed K C
@@ -187,8 +197,8 @@ module _ {K C : Type 0} (base : ℕ) (octets : C → ℕ) (cmp : K → K → Ord
         upto = t.at;
         link = all_saying base octets cmp eq read t.at B
             (all_saying base octets cmp eq read t.at A (going_by cmp moments r)
-            (sent_in_tick base octets cmp eq read t.at (ready_a base octets cmp eq read t p)))
-            (sent_in_tick base octets cmp eq read t.at (ready_b base octets cmp eq read t p));
+            (sent_in_tick base octets cmp eq read t.at t.asks_a.sends (ready_a base octets cmp eq read t p)))
+            (sent_in_tick base octets cmp eq read t.at t.asks_b.sends (ready_b base octets cmp eq read t p));
       }
 
   -- after one in which something is said

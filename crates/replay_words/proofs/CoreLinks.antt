@@ -1,6 +1,6 @@
 -- A replay of a capture of a link between two nodes of this project follows the nodes from tick to tick.
 use Rattle.std.proofs.Common.{◌≡◌, ◌∙◌, ◌<◌, ◌≤◌, ℕ, ◌+◌, ◌/◌, Bool, true, false, if◌then◌else◌, List, [], ◌∷◌, ◌++◌, map, fold, length, filter, refl, ap, sym, subst, arith}
-use Rattle.std.specs.Prelude.{Option, Some, None, Result, Ok, Err, ◌||◌, ◌&&◌, nat_lt, option_to_list, option_and_then}
+use Rattle.std.specs.Prelude.{Option, Some, None, Result, Ok, Err, not, ◌||◌, ◌&&◌, nat_lt, option_to_list, option_and_then}
 use Rattle.std.specs.{declared.cmp.Ordering.Ordering, Ordering.nat_cmp, Ordering.is_eq, List.AllByRecursion}
 use Rattle.std.proofs.lemmas.Bool.Decides.{nat_tests}
 use Rattle.srp_base.specs.declared.{numbers.Cs.Cs, numbers.StreamId.StreamId, mrp.MrpEvent.MrpEvent}
@@ -68,7 +68,7 @@ module _ {K C : Type 0} (base : ℕ) (octets : C → ℕ) (cmp : K → K → Ord
   is_quiet_by t p h =
       let a = ready_a base octets cmp eq read t p in
       let b = ready_b base octets cmp eq read t p in
-      quiet_by (is_silent a) (is_silent b) (sent_read base octets cmp eq read t.at a) (sent_read base octets cmp eq read t.at b) h
+      quiet_by (not t.asks_a.sends || is_silent a) (not t.asks_b.sends || is_silent b) (sent_read base octets cmp eq read t.at a) (sent_read base octets cmp eq read t.at b) h
 
   says_b : (at : Cs) (l : LinkState K C) (from_b : List (Messages K C))
       → all_say cmp at l (map (λ m. (at_end.B, m)) from_b) ≡ all_saying base octets cmp eq read at at_end.B l from_b
@@ -85,8 +85,8 @@ module _ {K C : Type 0} (base : ℕ) (octets : C → ℕ) (cmp : K → K → Ord
   says_sent : (moments : List Cs) (p : Pair K C) (r : Replayed K C) (t : Tick K C)
       → all_say cmp t.at (going_by cmp moments r) (sent_by_both base octets cmp eq read t p) ≡ (said_by base octets cmp eq read moments p r t).link
   says_sent moments p r t =
-      says_both t.at (going_by cmp moments r) (sent_in_tick base octets cmp eq read t.at (ready_a base octets cmp eq read t p))
-      (sent_in_tick base octets cmp eq read t.at (ready_b base octets cmp eq read t p))
+      says_both t.at (going_by cmp moments r) (sent_in_tick base octets cmp eq read t.at t.asks_a.sends (ready_a base octets cmp eq read t p))
+      (sent_in_tick base octets cmp eq read t.at t.asks_b.sends (ready_b base octets cmp eq read t p))
 
 -- ---- a frame
 
@@ -627,5 +627,5 @@ module _ (sent : (s : State MsrpKey MsrpContent) (now : Cs) → AreRows key_cmp 
   once_in_tick t p a_rows b_rows =
       let a = ready_a base_octets octets_of key_cmp same_content in_type_order (tick_of t.at t.streams) p.streams in
       let b = ready_b base_octets octets_of key_cmp same_content in_type_order (tick_of t.at t.streams) p.streams in
-      both_once (is_silent a) (is_silent b) (sent_read base_octets octets_of key_cmp same_content in_type_order t.at a)
+      both_once (not t.streams.0.sends || is_silent a) (not t.streams.1.sends || is_silent b) (sent_read base_octets octets_of key_cmp same_content in_type_order t.at a)
       (sent_read base_octets octets_of key_cmp same_content in_type_order t.at b) (once_sent a t.at a_rows) (once_sent b t.at b_rows)

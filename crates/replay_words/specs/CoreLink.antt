@@ -1,6 +1,7 @@
 -- A link between two nodes of this project beside a capture of it: at each end a participant of each
--- application of MRP, which go by ticks, one in each hundredth of a second (link_replay), and the
--- frames that were captured in them.
+-- application of MRP, which go by ticks, one in each hundredth of a second (link_replay), in which
+-- they send or wait, as nodes do that send in every twentieth; and the frames that were captured in
+-- them.
 use Rattle.std.specs.Prelude.{◌≡◌, ℕ, ◌/◌, Bool, true, false, nat_lt, List, [], ◌∷◌, ◌++◌, map, flat_map, length, Option, Some, None, Result, Ok, Err}
 use Rattle.std.specs.{declared.cmp.Ordering.Ordering, Ordering.nat_cmp, List.AllByRecursion}
 use Rattle.srp_base.specs.declared.{numbers.Cs.Cs, mrp.MrpEvent.MrpEvent}
@@ -114,8 +115,8 @@ pub record HaveSaidNothing (leave_time : Cs) (p : Pairs) : Type 0 where
   pub streams : AreFresh leave_time p.streams
   pub groups : AreFresh leave_time p.groups
 
--- a tick: its moment; what is asked for of each application at either end; and the frames that are
--- captured in it
+-- a tick: its moment; what is asked for of each application at either end, and whether that sends in
+-- it; and the frames that are captured in it
 pub record LinkTick : Type 0 where
   pub at : Cs
   pub vlans : Asks ℕ (Unit {0}) × Asks ℕ (Unit {0})
@@ -137,8 +138,8 @@ module _ {K C : Type 0} (base : ℕ) (octets : C → ℕ) (cmp : K → K → Ord
   -- what both ends send in a tick, each at most one PDU
   abbrev pub sent_by_both : Tick K C → Pair K C → List (End × Messages K C)
   sent_by_both t p =
-      map (λ m. (at_end.A, m)) (sent_in_tick base octets cmp eq read t.at (ready_a base octets cmp eq read t p))
-      ++ map (λ m. (at_end.B, m)) (sent_in_tick base octets cmp eq read t.at (ready_b base octets cmp eq read t p))
+      map (λ m. (at_end.A, m)) (sent_in_tick base octets cmp eq read t.at t.asks_a.sends (ready_a base octets cmp eq read t p))
+      ++ map (λ m. (at_end.B, m)) (sent_in_tick base octets cmp eq read t.at t.asks_b.sends (ready_b base octets cmp eq read t p))
 
 -- of each application
 abbrev pub vlans_sent : LinkTick → Pairs → List PlainSaid

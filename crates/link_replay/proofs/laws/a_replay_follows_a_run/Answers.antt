@@ -1,5 +1,4 @@
-use Rattle.mrp_participant.specs.State.{is_silent}
-use Rattle.link_replay.specs.{ready_a, ready_b}
+use Rattle.link_replay.specs.{ready_a, ready_b, says_nothing}
 use Rattle.link_replay.proofs.Ticking.{follows_fresh, quietly, loudly, both_rows, none_then}
 use Rattle.link_replay.proofs.laws.a_replay_follows_a_run.Goals as goal
 
@@ -14,8 +13,10 @@ returns-clause-passed_over g c = λ read tick pair replayed only quiet follows.
     c.a_way_holds_what_was_seen.ensures.comes c.a_way_holds_what_was_seen.ensures.goes c.no_word_of_a_participant_disagrees.ensures
     c.each_key_awaits.ensures.marked c.each_key_awaits.ensures.all_marked c.each_key_after_receive.ensures c.rows_stay_rows.ensures.receive
     c.each_key_after_due.ensures c.rows_stay_rows.ensures.due
-    (is_silent (ready_a g.A.MrpApp.base g.A.MrpApp.octets g.A.Key.Ord.cmp g.A.Content.PartialEq.eq read tick pair))
-    (is_silent (ready_b g.A.MrpApp.base g.A.MrpApp.octets g.A.Key.Ord.cmp g.A.Content.PartialEq.eq read tick pair))
+    (says_nothing g.A.MrpApp.base g.A.MrpApp.octets g.A.Key.Ord.cmp g.A.Content.PartialEq.eq read tick.asks_a.sends
+    (ready_a g.A.MrpApp.base g.A.MrpApp.octets g.A.Key.Ord.cmp g.A.Content.PartialEq.eq read tick pair))
+    (says_nothing g.A.MrpApp.base g.A.MrpApp.octets g.A.Key.Ord.cmp g.A.Content.PartialEq.eq read tick.asks_b.sends
+    (ready_b g.A.MrpApp.base g.A.MrpApp.octets g.A.Key.Ord.cmp g.A.Content.PartialEq.eq read tick pair))
     tick pair replayed quiet follows
 
 pub returns-clause-gone_to : goal.returns-clause-gone_to
