@@ -1,5 +1,5 @@
 -- A replay of a capture of a link between two nodes of this project follows the nodes from tick to tick.
-use Rattle.std.proofs.Common.{◌≡◌, ◌∙◌, ◌<◌, ◌≤◌, ℕ, ◌+◌, ◌/◌, Bool, true, false, if◌then◌else◌, List, [], ◌∷◌, ◌++◌, map, fold, length, filter, refl, ap, sym, subst, arith}
+use Rattle.std.proofs.Common.{◌≡◌, ◌≢◌, ◌∙◌, ◌<◌, ◌≤◌, ℕ, ◌+◌, ◌/◌, Bool, true, false, if◌then◌else◌, List, [], ◌∷◌, ◌++◌, map, fold, length, filter, refl, ap, sym, subst, arith}
 use Rattle.std.specs.Prelude.{Option, Some, None, Result, Ok, Err, not, ◌||◌, ◌&&◌, nat_lt, option_to_list, option_and_then}
 use Rattle.std.specs.{declared.cmp.Ordering.Ordering, Ordering.nat_cmp, Ordering.is_eq, List.AllByRecursion}
 use Rattle.std.proofs.lemmas.Bool.Decides.{nat_tests}
@@ -24,7 +24,7 @@ use Rattle.mvrp_codec.specs.{Meaning.mvrp_reading, declared.pdu.MvrpPdu.MvrpPdu}
 use Rattle.mmrp_codec.specs.{Meaning.mmrp_reading, declared.pdu.GroupPdu.GroupPdu}
 use Rattle.replay_words.specs.declared.ends.Ends.{Ends}
 use Rattle.pdu_words.specs.Events.{key_text}
-use Rattle.replay_words.specs.{group_base, group_octets, vlan_text, group_text, watched_judging_text, end_at, Watched.Watched, watched_ends, watched_passing, watched_arriving, watched_judged, watched_broken, after_vlans, after_streams, after_groups, after_octets, vlans_broken, streams_broken, groups_broken, octets_broken, risen, LinkSeen, moment_after, arrived, seen_arriving, seen_passing, all_passing, ending_by, seen_later, seen_at, after_said, said_broken, seen_said, seen_from, seen_frame, after_packet, after_packets, PlainSaid, StreamsSaid, vlans_read, streams_read, groups_read, vlans_said, streams_said, groups_said, said_from, said_in, all_said, is_unread, is_malformed, IsSoundFrom, IsSoundAs, IsSound, Pairs, LinkTick, tick_of, as_written, sent_by_both, streams_sent, pairs_after, IsCaptured, AreCaptured, frames_of}
+use Rattle.replay_words.specs.{group_base, group_octets, vlan_text, group_text, watched_judging_text, end_at, Watched.Watched, watched_ends, watched_passing, watched_arriving, watched_judged, watched_broken, after_vlans, after_streams, after_groups, after_octets, vlans_broken, streams_broken, groups_broken, octets_broken, risen, LinkSeen, moment_after, arrived, seen_arriving, seen_passing, all_passing, ending_by, seen_later, seen_at, after_said, said_broken, seen_said, seen_from, seen_frame, after_packet, after_packets, PlainSaid, StreamsSaid, vlans_read, streams_read, groups_read, vlans_said, streams_said, groups_said, said_from, said_in, all_said, is_unread, is_malformed, IsSoundFrom, IsSoundAs, IsSound, Pairs, LinkTick, tick_of, as_written, sent_by_both, streams_sent, pairs_after, IsCaptured, AreCaptured, frames_of, new_seen}
 use Rattle.replay_words.proofs.OneEach.{IsOnce, AreOwn, no_doubles, all_left}
 use Rattle.replay_words.proofs.Runs.{of_frame}
 use Rattle.replay_words.proofs.UpTo.{ends_up_to}
@@ -467,7 +467,6 @@ module _ (each : (k : Cs) (more keys : List Cs) → is_awaiting cs_cmp k (all_ma
 
 -- a replay follows the nodes before a tick: of each application, and nothing was broken
 pub record Keeps (next : Cs) (p : Pairs) (s : LinkSeen) : Type 0 where
-  pub before : s.at.0 < next.0
   pub vlans : Follows vlan_base vlan_octets nat_cmp same_nothing as_written next p.vlans (vlans_of s)
   pub streams : Follows base_octets octets_of key_cmp same_content in_type_order next p.streams (streams_of s)
   pub groups : Follows group_base group_octets nat_cmp same_nothing as_written next p.groups (groups_of s)
@@ -495,7 +494,6 @@ module _ (facts : Facts) where
   passes_over : (ends : Ends) (t : LinkTick) (p : Pairs) (s : LinkSeen) → IsCaptured ends p t → t.frames ≡ [] → Keeps t.at p s
       → Keeps (next_moment t.at) (pairs_after p t) s
   passes_over ends t p s captured none keeps = record {
-    before = let low = keeps.before in omega (arith, low);
     vlans = facts.vlans.passed_over (tick_of t.at t.vlans) p.vlans (vlans_of s)
         (is_quiet_by vlan_base vlan_octets nat_cmp same_nothing as_written (tick_of t.at t.vlans) p.vlans
         (ap (all_said vlans_said ends) (sym none) ∙ captured.vlans)) keeps.vlans;
@@ -509,6 +507,13 @@ module _ (facts : Facts) where
   }
 
   -- something is
+  come_to : (ends : Ends) (t : LinkTick) (p : Pairs) (s new : LinkSeen) → IsCaptured ends p t → Keeps t.at p s
+      → new ≡ fold (λ s p. seen_frame ends t.at p (frame_in p) s) (seen_later t.at s) t.frames → new.at ≡ t.at
+  come_to ends t p s new captured keeps is =
+      let once = subst AreOnce (sym captured.streams) (facts.once t p s keeps.streams) in
+      let there = shown facts.stream_sets facts.owned ends t.at t.frames (seen_later t.at s) captured.sound once in
+      ap (λ (x : LinkSeen). x.at) is ∙ there.same_at ∙ later_at t.at s
+
   goes_to : (ends : Ends) (t : LinkTick) (p : Pairs) (s new : LinkSeen) → IsCaptured ends p t → Keeps t.at p s
       → new ≡ fold (λ s p. seen_frame ends t.at p (frame_in p) s) (seen_later t.at s) t.frames
       → Keeps (next_moment t.at) (pairs_after p t) new
@@ -518,7 +523,7 @@ module _ (facts : Facts) where
       let moments = ending_by at s in
       let once = subst AreOnce (sym captured.streams) (facts.once t p s keeps.streams) in
       let there = shown facts.stream_sets facts.owned ends at t.frames mid captured.sound once in
-      let come : new.at ≡ at = ap (λ (x : LinkSeen). x.at) is ∙ there.same_at ∙ later_at at s in
+      let come : new.at ≡ at = come_to ends t p s new captured keeps is in
       let of_vlans : new.watched.vlans ≡ (said_by vlan_base vlan_octets nat_cmp same_nothing as_written moments p.vlans (vlans_of s) (tick_of at t.vlans)).link =
       ap (λ (x : LinkSeen). x.watched.vlans) is ∙ there.vlans_are
       ∙ ap (λ (l : LinkState ℕ (Unit {0})). all_say nat_cmp at l (all_said vlans_said ends t.frames)) (later_vlans at s)
@@ -535,7 +540,6 @@ module _ (facts : Facts) where
       ∙ ap (all_say nat_cmp at (going_by nat_cmp moments (groups_of s))) captured.groups
       ∙ says_sent group_base group_octets nat_cmp same_nothing as_written moments p.groups (groups_of s) (tick_of at t.groups) in
       record {
-        before = let e : new.at.0 ≡ at.0 = ap (λ (c : Cs). c.0) come in omega (arith, e);
         vlans = followed (facts.vlans.gone_to (tick_of at t.vlans) p.vlans (vlans_of s) moments (vlans_moments facts.moments at s) keeps.vlans) come of_vlans;
         streams = followed (facts.streams.gone_to (tick_of at t.streams) p.streams (streams_of s) moments (streams_moments facts.moments at s) keeps.streams) come of_streams;
         groups = followed (facts.groups.gone_to (tick_of at t.groups) p.groups (groups_of s) moments (groups_moments facts.moments at s) keeps.groups) come of_groups;
@@ -550,13 +554,39 @@ module _ (facts : Facts) where
           subst (λ (u : Cs). Follows base octets cmp eq read next pair (record { upto = u; link = new })) (sym come)
           (subst (λ (l : LinkState _ _). Follows base octets cmp eq read next pair (record { upto = at; link = l })) (sym is) h)
 
+  -- what the frames of a tick make of it, once time has gone on to the tick
+  abbrev AreFrames : Ends → LinkTick → LinkSeen → List Packet → Type 0
+  AreFrames ends t s frames =
+      after_packets ends s frames ≡ fold (λ s p. seen_frame ends t.at p (frame_in p) s) (seen_later t.at s) frames
+
   by_frames : (ends : Ends) (t : LinkTick) (p : Pairs) (s : LinkSeen) (frames : List Packet) → t.frames ≡ frames → IsCaptured ends p t → Keeps t.at p s
-      → Keeps (next_moment t.at) (pairs_after p t) (after_packets ends s frames)
-  by_frames ends t p s [] is captured keeps = passes_over ends t p s captured is keeps
-  by_frames ends t p s (f ∷ frames) is captured keeps =
-      goes_to ends t p s (after_packets ends s (f ∷ frames)) captured keeps
-      (first_packets ends t.at f frames s (subst (AreAt t.at) is captured.moments) keeps.before (later_at t.at s)
-      ∙ ap (fold (λ s p. seen_frame ends t.at p (frame_in p) s) (seen_later t.at s)) (sym is))
+      → s.at.0 ≤ t.at.0 → (frames ≢ [] → AreFrames ends t s frames)
+      → Keeps (next_moment t.at) (pairs_after p t) (after_packets ends s frames) × ((after_packets ends s frames).at.0 < t.at.0 + 1)
+  by_frames ends t p s [] is captured keeps low come = (passes_over ends t p s captured is keeps, omega (arith, low))
+  by_frames ends t p s (f ∷ frames) is captured keeps low come =
+      let new = come (λ e. cc)
+      ∙ ap (fold (λ s p. seen_frame ends t.at p (frame_in p) s) (seen_later t.at s)) (sym is) in
+      let e : (after_packets ends s (f ∷ frames)).at.0 ≡ t.at.0 =
+      ap (λ (c : Cs). c.0) (come_to ends t p s (after_packets ends s (f ∷ frames)) captured keeps new) in
+      (goes_to ends t p s (after_packets ends s (f ∷ frames)) captured keeps new, omega (arith, e))
+
+  -- a later tick
+  go_on : (ends : Ends) (t : LinkTick) (s : LinkSeen) (frames : List Packet) → AreAt t.at frames → s.at.0 < t.at.0 → frames ≢ []
+      → AreFrames ends t s frames
+  go_on ends t s [] are low some = absurd (some refl)
+  go_on ends t s (f ∷ frames) are low some = first_packets ends t.at f frames s are low (later_at t.at s)
+
+  -- one at moment 0, where nothing was seen before
+  nothing_later : (leave_time : Cs) → seen_later (record { 0 = 0 }) (new_seen leave_time) ≡ new_seen leave_time
+  unfolding seen_later seen_arriving watched_judged watched_arriving watched_broken watched_ends
+  nothing_later leave_time = refl
+
+  begin_with : (ends : Ends) (t : LinkTick) (leave_time : Cs) (frames : List Packet) → AreAt t.at frames → record { 0 = 0 } ≡ t.at
+      → AreFrames ends t (new_seen leave_time) frames
+  begin_with ends t leave_time frames are zero =
+      rest_packets ends t.at frames (new_seen leave_time) are zero
+      ∙ ap (λ (x : LinkSeen). fold (λ s p. seen_frame ends t.at p (frame_in p) s) x frames)
+      (sym (subst (λ (at : Cs). seen_later at (new_seen leave_time) ≡ new_seen leave_time) zero (nothing_later leave_time)))
 
   packets_on : (ends : Ends) (ps more : List Packet) (s : LinkSeen) → after_packets ends (after_packets ends s ps) more ≡ after_packets ends s (ps ++ more)
   packets_on ends [] more s = refl
@@ -568,15 +598,42 @@ module _ (facts : Facts) where
     pub pairs : Pairs
     pub keeps : Keeps next pairs s
 
-  pub runs : (ends : Ends) (ticks : List LinkTick) (at : Cs) (p : Pairs) (s : LinkSeen) → AreCaptured ends at p ticks → Keeps at p s
+  later_runs : (ends : Ends) (ticks : List LinkTick) (at : Cs) (p : Pairs) (s : LinkSeen) → AreCaptured ends at p ticks → Keeps at p s → s.at.0 < at.0
       → Ended ends (after_packets ends s (frames_of ticks))
-  runs ends [] at p s are keeps = record { next = at; pairs = p; keeps = keeps }
-  runs ends (t ∷ ticks) at p s are keeps =
+  later_runs ends [] at p s are keeps low = record { next = at; pairs = p; keeps = keeps }
+  later_runs ends (t ∷ ticks) at p s are keeps low =
       let now = subst (λ (m : Cs). Keeps m p s) (sym are.0) keeps in
-      let on = by_frames ends t p s t.frames refl are.1 now in
+      let before : s.at.0 < t.at.0 = subst (λ (m : Cs). s.at.0 < m.0) (sym are.0) low in
+      let on = by_frames ends t p s t.frames refl are.1 now (omega (arith, before)) (go_on ends t s t.frames are.1.moments before) in
       subst (Ended ends) (packets_on ends t.frames (frames_of ticks) s)
-      (runs ends ticks (next_moment at) (pairs_after p t) (after_packets ends s t.frames) are.2
-      (subst (λ (m : Cs). Keeps (next_moment m) (pairs_after p t) (after_packets ends s t.frames)) are.0 on))
+      (later_runs ends ticks (next_moment at) (pairs_after p t) (after_packets ends s t.frames) are.2
+      (subst (λ (m : Cs). Keeps (next_moment m) (pairs_after p t) (after_packets ends s t.frames)) are.0 on.0)
+      (subst (λ (m : Cs). (after_packets ends s t.frames).at.0 < m.0 + 1) are.0 on.1))
+
+  pub runs : (ends : Ends) (ticks : List LinkTick) (at : Cs) (p : Pairs) (leave_time : Cs) → AreCaptured ends at p ticks → Keeps at p (new_seen leave_time)
+      → Ended ends (after_packets ends (new_seen leave_time) (frames_of ticks))
+  runs ends [] at p leave_time are keeps = record { next = at; pairs = p; keeps = keeps }
+  runs ends (t ∷ ticks) at p leave_time are keeps = by (nat_lt 0 t.at.0) refl
+    where
+      s : LinkSeen
+      s = new_seen leave_time
+
+      now : Keeps t.at p s
+      now = subst (λ (m : Cs). Keeps m p s) (sym are.0) keeps
+
+      come : (b : Bool) → nat_lt 0 t.at.0 ≡ b → t.frames ≢ [] → AreFrames ends t s t.frames
+      come true is some = go_on ends t s t.frames are.1.moments (grind (arith, nat_tests)) some
+      come false is some =
+          let none : 0 ≡ t.at.0 = grind (arith, nat_tests) in
+          begin_with ends t leave_time t.frames are.1.moments (ap (λ (n : ℕ). let c : Cs = record { 0 = n } in c) none)
+
+      by : (b : Bool) → nat_lt 0 t.at.0 ≡ b → Ended ends (after_packets ends s (frames_of (t ∷ ticks)))
+      by b is =
+          let on = by_frames ends t p s t.frames refl are.1 now (omega arith) (come b is) in
+          subst (Ended ends) (packets_on ends t.frames (frames_of ticks) s)
+          (later_runs ends ticks (next_moment at) (pairs_after p t) (after_packets ends s t.frames) are.2
+          (subst (λ (m : Cs). Keeps (next_moment m) (pairs_after p t) (after_packets ends s t.frames)) are.0 on.0)
+          (subst (λ (m : Cs). (after_packets ends s t.frames).at.0 < m.0 + 1) are.0 on.1))
 
   pub none_broken : (ends : Ends) (s : LinkSeen) → Ended ends s → (seen_arriving s).counts.broken ≡ 0
   none_broken ends s ended = none_counted ended.next ended.pairs s ended.keeps

@@ -45,7 +45,7 @@ pub fn moments_never_fall()
 {}
 
 /// What two nodes of this project say over a link is never broken: from a tick on before which they
-/// have said nothing, at a moment behind 0, they go by ticks of 1 cs, by the capture's clock,
+/// have said nothing they go by ticks of 1 cs, by the capture's clock,
 /// whatever is asked for at either and in whichever of the ticks each application of either sends,
 /// and all that they send is captured, of a tick the end a first, with other frames between or not.
 /// Then nothing is counted as broken, neither a word on a registrar nor a Talker that is declared
@@ -54,21 +54,18 @@ pub fn what_this_core_sends_is_never_broken()
     ensures counted { (ends : Ends) (leave_time first : Cs) (pairs : Pairs)
         (ticks : List LinkTick)
         → 1 ≤ leave_time.0
-        → 1 ≤ first.0
         → HaveSaidNothing leave_time pairs
         → AreCaptured ends first pairs ticks
         → (after_run ends (new_seen leave_time) (frames_of ticks)).counts.broken ≡ 0 }
     ensures words { (ends : Ends) (leave_time first : Cs) (pairs : Pairs)
         (ticks : List LinkTick)
         → 1 ≤ leave_time.0
-        → 1 ≤ first.0
         → HaveSaidNothing leave_time pairs
         → AreCaptured ends first pairs ticks
         → HasNoBrokenWords (after_packets ends (new_seen leave_time) (frames_of ticks)) }
     ensures printed { (head : Head) (first : Cs) (pairs : Pairs) (ticks : List LinkTick)
         (broken_off : Option ℕ)
         → 1 ≤ head.leave_time.0
-        → 1 ≤ first.0
         → HaveSaidNothing head.leave_time pairs
         → AreCaptured (ends_of head.ends (frames_of ticks)) first pairs ticks
         → PrintsNoneBroken (capture_text head (Ok (frames_of ticks, broken_off))) }

@@ -1,5 +1,5 @@
 use Rattle.srp_base.specs.Text.{whole_of}
-use Rattle.std.proofs.Common.{ℕ, [], ◌∷◌, ◌≡◌, ◌∙◌, ◌≤◌, refl, arith, append-nil, append_assoc, sym, ap}
+use Rattle.std.proofs.Common.{ℕ, [], ◌∷◌, ◌≡◌, ◌∙◌, ◌≤◌, refl, append-nil, append_assoc, sym, ap}
 use Rattle.std.specs.Prelude.{List, ◌++◌}
 use Rattle.std.proofs.lemmas.List.Sorted.{Contains-permutation, IsPermutation-sym}
 use Rattle.srp_base.specs.declared.{numbers.Cs.Cs}
@@ -43,10 +43,9 @@ facts c = record {
       once_in_tick c.each_key_in_what_is_sent.ensures c.each_key_keeps_its_event.ensures t p rows.0 rows.1;
 }
 
-begins : goal.After-what_is_read_belongs_to_its_keys → (leave_time first : Cs) (pairs : Pairs) → 1 ≤ leave_time.0 → 1 ≤ first.0 → HaveSaidNothing leave_time pairs
+begins : goal.After-what_is_read_belongs_to_its_keys → (leave_time first : Cs) (pairs : Pairs) → 1 ≤ leave_time.0 → HaveSaidNothing leave_time pairs
     → Keeps first pairs (new_seen leave_time)
-begins c leave_time first pairs some low nothing = record {
-  before = omega (arith, low);
+begins c leave_time first pairs some nothing = record {
   vlans = c.a_replay_follows_a_run.ensures.new as_written leave_time first pairs.vlans some nothing.vlans;
   streams = c.a_replay_follows_a_run-2.ensures.new in_type_order leave_time first pairs.streams some nothing.streams;
   groups = c.a_replay_follows_a_run-3.ensures.new as_written leave_time first pairs.groups some nothing.groups;
@@ -54,19 +53,19 @@ begins c leave_time first pairs some low nothing = record {
 }
 
 ended : (c : goal.After-what_is_read_belongs_to_its_keys) (ends : Ends) (leave_time first : Cs) (pairs : Pairs) (ticks : List LinkTick)
-    → 1 ≤ leave_time.0 → 1 ≤ first.0 → HaveSaidNothing leave_time pairs → AreCaptured ends first pairs ticks
+    → 1 ≤ leave_time.0 → HaveSaidNothing leave_time pairs → AreCaptured ends first pairs ticks
     → Ended (facts c) ends (after_packets ends (new_seen leave_time) (frames_of ticks))
-ended c ends leave_time first pairs ticks some low nothing are =
-    runs (facts c) ends ticks first pairs (new_seen leave_time) are (begins c leave_time first pairs some low nothing)
+ended c ends leave_time first pairs ticks some nothing are =
+    runs (facts c) ends ticks first pairs leave_time are (begins c leave_time first pairs some nothing)
 
 pub returns-clause-counted : goal.returns-clause-counted
 unfolding after_run
-returns-clause-counted c = λ ends leave_time first pairs ticks some low nothing are.
-    none_broken (facts c) ends (after_packets ends (new_seen leave_time) (frames_of ticks)) (ended c ends leave_time first pairs ticks some low nothing are)
+returns-clause-counted c = λ ends leave_time first pairs ticks some nothing are.
+    none_broken (facts c) ends (after_packets ends (new_seen leave_time) (frames_of ticks)) (ended c ends leave_time first pairs ticks some nothing are)
 
 pub returns-clause-words : goal.returns-clause-words
-returns-clause-words c = λ ends leave_time first pairs ticks some low nothing are.
-    none_printed (facts c) ends (after_packets ends (new_seen leave_time) (frames_of ticks)) (ended c ends leave_time first pairs ticks some low nothing are)
+returns-clause-words c = λ ends leave_time first pairs ticks some nothing are.
+    none_printed (facts c) ends (after_packets ends (new_seen leave_time) (frames_of ticks)) (ended c ends leave_time first pairs ticks some nothing are)
 
 -- what stands in front of the counts
 in_front : (text line counts : List ℕ) → whole_of (text ∷ line ∷ counts ∷ []) ≡ (text ++ line) ++ counts
@@ -74,12 +73,12 @@ in_front text line counts = ap (λ (rest : List ℕ). text ++ (line ++ rest)) (a
 
 pub returns-clause-printed : goal.returns-clause-printed
 unfolding capture_text run_text after_run
-returns-clause-printed c = λ head first pairs ticks broken_off some low nothing are.
+returns-clause-printed c = λ head first pairs ticks broken_off some nothing are.
     let ends = ends_of head.ends (frames_of ticks) in
     let s = new_seen head.leave_time in
     record {
       front = run_text head.caps ends s (frames_of ticks) ++ broken_line broken_off;
       counts = (after_run ends s (frames_of ticks)).counts;
-      none = none_broken (facts c) ends (after_packets ends s (frames_of ticks)) (ended c ends head.leave_time first pairs ticks some low nothing are);
+      none = none_broken (facts c) ends (after_packets ends s (frames_of ticks)) (ended c ends head.leave_time first pairs ticks some nothing are);
       ends = in_front (run_text head.caps ends s (frames_of ticks)) (broken_line broken_off) (counts_text (after_run ends s (frames_of ticks)).counts);
     }
