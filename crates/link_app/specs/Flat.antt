@@ -33,7 +33,11 @@ module _ {K Pdu : Type 0} (codec : Codec K Pdu) where
 
   -- what a PDU says to a participant; malformed octets say nothing
   abbrev pub said_by : Result Pdu ℕ → Option (Messages K (Unit {0}))
-  said_by (Ok pdu) = Some (record { leave_all = codec.leave_all_of pdu; events = said_events (codec.events_of pdu) })
+  said_by (Ok pdu) =
+      Some (record {
+        leave_all = codec.leave_all_of pdu;
+        events = said_events (codec.events_of pdu);
+      })
   said_by (Err place) = None
 
   -- what a PDU on its way says, if anything
@@ -68,13 +72,18 @@ module _ {K : Type 0} (cmp : K → K → Ordering) where
 module _ {K Pdu : Type 0} (cmp : K → K → Ordering) (codec : Codec K Pdu) where
   -- what a PDU says acts at a place; where it is malformed, nothing does
   abbrev pub heard : Cs → ℕ → Result Pdu ℕ → FlatState K → FlatState K
-  heard now at (Ok pdu) side = received_flat cmp now at (codec.leave_all_of pdu) (codec.events_of pdu) side
+  heard now at (Ok pdu) side =
+      received_flat cmp now at (codec.leave_all_of pdu) (codec.events_of pdu) side
   heard now at (Err place) side = side
 
   -- the octets that the participant at a place has to say, if any, in their one spelling
   abbrev pub said : ℕ → (Unit {0} → ℕ) → Cs → ℕ → FlatState K → Option (List ℕ)
   said base octets now at side =
-      of_part (λ part. if is_silent part then None else Some (codec.spelling (pdu_sent cmp codec base octets now part))) None at side
+      of_part
+      (λ part.
+      if is_silent part then None
+      else Some (codec.spelling (pdu_sent cmp codec base octets now part)))
+      None at side
 
   -- the words of a flat side
   abbrev pub flat_words : (K → Type 0) → ℕ → (Unit {0} → ℕ) → AppWords (Unit {0}) K (KeyRequest K)
@@ -109,5 +118,6 @@ module _ {K Pdu : Type 0} (cmp : K → K → Ordering) (codec : Codec K Pdu) whe
         IsIdle = λ side. side.own ≡ [];
         IsNew = IsNewFlat;
         IsKept = IsProper cmp IsKey;
-        AreDutiesMet = λ app near far there from. AreDutiesMet cmp (link_of codec near far there from);
+        AreDutiesMet = λ app near far there from.
+            AreDutiesMet cmp (link_of codec near far there from);
       }

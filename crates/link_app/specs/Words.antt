@@ -6,7 +6,8 @@ use Rattle.mrpdu_codec.specs.declared.error.DecodeErr.{DecodeErr}
 use Rattle.mrpdu_codec.specs.declared.error.DecodeErr.TheVariants as errors
 use Rattle.link_app.specs.Wires.{NamedOctets}
 
--- of applications that are told apart by a name, of their attributes' keys, and of what is asked for
+-- of applications that are told apart by a name, of their attributes' keys, and of what is asked
+-- for
 pub record AppWords (Name Key Request : Type 0) : Type 1 where
   -- what is kept of a side, and of the participant of an application at one link port
   pub State : Type 0
@@ -65,7 +66,8 @@ pub record AppWords (Name Key Request : Type 0) : Type 1 where
   pub IsKept : State → Type 0
   -- the duties of the two participants of an application at the ends of a link, with the PDUs on
   -- their way from the first to the second, and from the second to the first
-  pub AreDutiesMet : (n : Name) → Part n → Part n → List (NamedOctets Name) → List (NamedOctets Name) → Type 0
+  pub AreDutiesMet :
+      (n : Name) → Part n → Part n → List (NamedOctets Name) → List (NamedOctets Name) → Type 0
 
 -- the state after an application said what it had to say, or, where it had nothing, as it was
 abbrev pub after_saying : {State : Type 0} → Option (List ℕ) → State → State → State

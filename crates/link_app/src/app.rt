@@ -172,8 +172,8 @@ pub trait LinkApp: Drop {
     fn keeps_request(request: Self::Request)
         ensures { words.IsAskable request };
 
-    /// Octets, at most 1,500, are such as a neighbour may send, as their type says. It is a law, and
-    /// does nothing.
+    /// Octets, at most 1,500, are such as a neighbour may send, as their type says. It is a law,
+    /// and does nothing.
     fn keeps_octets(app: Self::Name, octets: &[u8])
         requires { length octets.now ≤ 1500 }
         ensures { words.IsFit app octets.now };

@@ -10,18 +10,19 @@
 //!  link <--octets-- send          octets to say, at most 1,500
 //! ```
 //!
-//! Contracts see two things of an application. `words` (`specs/Words.antt`) is its meaning: what its
-//! state is, what it shows at each link port, and its state after each call, as functions. `state`
-//! is its state. Each call's clause is the state afterwards in those words, and after want of memory
-//! the state is as it was. Several applications side by side have names; `due` and `settle` are of
-//! all of them, or of none where memory runs out, and all other calls at a port name one.
+//! Contracts see two things of an application. `words` (`specs/Words.antt`) is its meaning: what
+//! its state is, what it shows at each link port, and its state after each call, as functions.
+//! `state` is its state. Each call's clause is the state afterwards in those words, and after want
+//! of memory the state is as it was. Several applications side by side have names; `due` and
+//! `settle` are of all of them, or of none where memory runs out, and all other calls at a port
+//! name one.
 //!
 //! `laws` (`specs/Laws.antt`) says what holds of each application, whatever it is: a call at a port
 //! leaves the participants at all others; what every state keeps is kept; and each call keeps the
-//! duties that the two ends of a link owe one another, with the PDUs on their way, octets and names,
-//! as they become by it: what came in is taken from the front, what is said is put at the end, a
-//! copy stands right behind its original, and where both ends are spoilt a PDU may be lost or
-//! forged. A node and a network need no other law of MRP.
+//! duties that the two ends of a link owe one another, with the PDUs on their way, octets and
+//! names, as they become by it: what came in is taken from the front, what is said is put at the
+//! end, a copy stands right behind its original, and where both ends are spoilt a PDU may be lost
+//! or forged. A node and a network need no other law of MRP.
 //!
 //! An application that can take its memory before it fires or settles at a port is a `ReadyApp`; of
 //! two applications one has to be, so that both fire, or neither does. A side whose attributes are

@@ -21,7 +21,8 @@ module _ {Name Key Request : Type 0} (w : AppWords Name Key Request) where
     pub app : w.IsNew s.app
     pub none : s ≡ new_node w s.app
 
-  abbrev pub node_meaning : NodeMeaning Name (PortStep Name Key) StepReply Request (NamedOctets Name)
+  abbrev pub node_meaning :
+      NodeMeaning Name (PortStep Name Key) StepReply Request (NamedOctets Name)
   node_meaning =
       record {
         State = NodeState w.State Name;

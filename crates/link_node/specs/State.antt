@@ -13,7 +13,8 @@ pub record NodeState (App Name : Type 0) : Type 0 where
   pub outboxes : List (List (NamedOctets Name))
 
 -- the node with what is said of its application
-abbrev pub state_of : {App State Name : Type 0} → (App → State) → NodeState App Name → NodeState State Name
+abbrev pub state_of :
+    {App State Name : Type 0} → (App → State) → NodeState App Name → NodeState State Name
 state_of f s = record { app = f s.app; inboxes = s.inboxes; outboxes = s.outboxes }
 
 -- there is an inbox and an outbox for each of so many link ports

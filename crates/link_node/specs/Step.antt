@@ -44,7 +44,8 @@ module _ {Name Key Request : Type 0} (w : AppWords Name Key Request) where
   abbrev pub sent_octets : Name → Cs → ℕ → Option (List ℕ) → NodeState w.State Name → Stepped
   sent_octets n now at None s = (s, Silent)
   sent_octets n now at (Some octets) s =
-      on_app (with_said n at octets s) (w.after_sending n now at s.app) (Sent (count_of (length octets)))
+      on_app (with_said n at octets s) (w.after_sending n now at s.app)
+      (Sent (count_of (length octets)))
 
   -- a step of the link port at a place, at a moment
   abbrev pub port_step : Cs → PortStep Name Key → ℕ → NodeState w.State Name → Stepped

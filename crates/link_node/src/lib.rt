@@ -3,9 +3,9 @@
 //!
 //! ```text
 //!   network --put_in--> inbox --Work--> application --Send--> outbox --take_out--> network
-//!                         ^              ^  ^   ^
-//!          lose, repeat, forge           |  |   +-- Due, LeaveNow, LeaveAllNow, PeriodicNow: timers
-//!                                        |  +-- Settle
+//!                         ^             ^  ^   ^
+//!         lose, repeat, forge           |  |   +-- Due, LeaveNow, LeaveAllNow, PeriodicNow: timers
+//!                                       |  +-- Settle
 //!              application of a station: ask
 //! ```
 //!
@@ -19,11 +19,11 @@
 //! there and what every network keeps. Its laws (`HasNodeLaws`) follow from those of the
 //! application alone (`AppLaws`; `proofs/NodeSteps.antt` and `NodeLaws.antt`): a step at a port
 //! leaves what is at all others, keeps the duties of the port's link, and what every node keeps
-//! (`IsKeptNode`): what its application keeps, boxes for each port, and PDUs such as a neighbour may
-//! send.
+//! (`IsKeptNode`): what its application keeps, boxes for each port, and PDUs such as a neighbour
+//! may send.
 //!
-//! An inbox is a queue (`src/inbox.rt`): to take its front moves no other PDU, and no step copies an
-//! application or a box.
+//! An inbox is a queue (`src/inbox.rt`): to take its front moves no other PDU, and no step copies
+//! an application or a box.
 //!
 //! A further application is a type with `LinkApp`; nothing changes here, and `Node` of it is its
 //! node. A further step of a port is a variant of `PortStep`, a line of `port_step`, an arm of

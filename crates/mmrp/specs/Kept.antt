@@ -7,9 +7,9 @@ use Rattle.mmrp.specs.{Node.Waiting, Node.group_meaning, Net.NetGroups}
 abbrev pub in_flight : EgressPort → NetGroups → Waiting
 in_flight p w = net.in_flight group_meaning p w
 
--- on every link both ends meet their duty
+-- on every link both ends meet their duty, in each application, of which there is one
 abbrev pub AreGroupDutiesMet : NetGroups → Type 0
-AreGroupDutiesMet w = net.AreDutiesMet group_meaning tt w
+AreGroupDutiesMet w = (n : Unit {0}) → net.AreDutiesMet group_meaning n w
 
 -- What every network keeps: a sound tree, a node for each of its nodes, with a port for each of its
 -- links and what every node of its kind keeps, so that bridges have joined nothing, a clock below

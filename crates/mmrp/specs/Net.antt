@@ -51,7 +51,8 @@ port_step Settle = port_steps.Settle
 port_step Send = port_steps.Send tt
 
 -- the event of a network of nodes that it is
-abbrev pub net_event : GroupEvent → NetEvent (KeyRequest ℕ) (PortStep (Unit {0}) ℕ) (NamedOctets (Unit {0}))
+abbrev pub net_event :
+    GroupEvent → NetEvent (KeyRequest ℕ) (PortStep (Unit {0}) ℕ) (NamedOctets (Unit {0}))
 net_event (events.Join n mac) = net_events.Request n (Declare mac)
 net_event (events.Part n mac) = net_events.Request n (Withdraw mac)
 net_event (events.Port p step) = net_events.Port p (port_step step)
@@ -82,7 +83,9 @@ abbrev pub Happened : Type 0
 Happened = NetGroups × GroupReply
 
 -- what an event of a network of nodes comes to
-abbrev pub after_net_event : NetEvent (KeyRequest ℕ) (PortStep (Unit {0}) ℕ) (NamedOctets (Unit {0})) → NetGroups → Happened
+abbrev pub after_net_event :
+    NetEvent (KeyRequest ℕ) (PortStep (Unit {0}) ℕ) (NamedOctets (Unit {0}))
+    → NetGroups → Happened
 after_net_event e w = let made = net.net_step group_meaning e w in (made.0, reply_of made.1)
 
 -- one event: the network afterwards, and the answer

@@ -26,7 +26,9 @@ abbrev pub group_words : AppWords (Unit {0}) ℕ (KeyRequest ℕ)
 group_words = flat_words nat_cmp mac_codec IsMac base octets
 
 -- what a node means to its network
-abbrev pub group_meaning : NodeMeaning (Unit {0}) (PortStep (Unit {0}) ℕ) StepReply (KeyRequest ℕ) (NamedOctets (Unit {0}))
+abbrev pub group_meaning :
+    NodeMeaning (Unit {0}) (PortStep (Unit {0}) ℕ) StepReply (KeyRequest ℕ)
+    (NamedOctets (Unit {0}))
 group_meaning = node_meaning group_words
 
 -- a new node with these ports: nothing is joined or registered, and no PDU waits
