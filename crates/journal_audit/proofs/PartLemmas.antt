@@ -13,10 +13,10 @@ use Rattle.node_core.specs.declared.{types.NodeStep.NodeStep, types.PortStep.Por
 use Rattle.node_core.specs.declared.types.PortStep.TheVariants.{Due, Settle, Send}
 use Rattle.node_core.specs.State.{NodeState, ports_of, box_at, works, job_list, is_busy_node, is_sending_time}
 use Rattle.world_core.specs.declared.{events.WorldEvent.WorldEvent, events.WorldEvent.TheVariants.Port, events.WorldReply.WorldReply, journal.NodeSteps.NodeSteps, journal.Tick.Tick}
-use Rattle.world_core.specs.{World.WorldState, World.node_at, World.world_step, World.world_after, World.replies_to, Apart.events_of, Ticks.script_at, Ticks.after_script, Ticks.step_events, Ticks.closing_events, During.IsDuring, OneByOne.node_jobs, OneByOne.MakeLeft, OneByOne.steps_before, OneByOne.MakeAll, OneByOne.IsOneByOne}
+use Rattle.world_core.specs.{World.WorldState, World.node_at, World.world_step, World.world_after, World.replies_to, Apart.events_of, Ticks.script_at, Ticks.after_script, Ticks.step_events, Ticks.closing_events, Ticks.with_steps, During.IsDuring, OneByOne.node_jobs, OneByOne.MakeLeft, OneByOne.steps_before, OneByOne.MakeAll, OneByOne.IsOneByOne}
 use Rattle.journal_lines.specs.Lines.{line_at}
 use Rattle.world_core.proofs.Timelines.{after_both}
-use Rattle.journal_audit.specs.{LeftState, jobs_left, is_any_left, IsStuck, AreTaken, HasRead, answer_line, answer_lines, made_lines, steps_lines, tick_lines, FollowTicks, FollowNodes, FollowJobs, FollowAnswers, nodes_from, ReplayLaws, IsOtherAnswer, IsStepRead, IsPartRead, IsNodeRead, AreNodesRead, with_steps, IsTickRead}
+use Rattle.journal_audit.specs.{LeftState, jobs_left, is_any_left, IsStuck, AreTaken, HasRead, answer_line, answer_lines, made_lines, steps_lines, tick_lines, FollowTicks, FollowNodes, FollowJobs, FollowAnswers, nodes_from, ReplayLaws, IsOtherAnswer, IsStepRead, IsPartRead, IsNodeRead, AreNodesRead, IsTickRead}
 use Rattle.journal_audit.specs.Reading.{Reading}
 use Rattle.journal_audit.proofs.{ReadingLemmas.Lines, ReadingLemmas.read_none, ReadingLemmas.read_same, ReadingLemmas.same_read, ReadingLemmas.read_then, ReadingLemmas.read_one, ReadingLemmas.stuck_then, ReadingLemmas.stuck_as, ReadingLemmas.same_behind, FollowLemmas.node, FollowLemmas.answers_out, FollowLemmas.answers_in, FollowLemmas.answers_stuck, FollowLemmas.one_less, FollowLemmas.none_behind, FollowLemmas.jobs_out, FollowLemmas.jobs_in, FollowLemmas.nodes_none_out, FollowLemmas.nodes_none_in, FollowLemmas.left_none_out, FollowLemmas.left_none_in, FollowLemmas.has_port, FollowLemmas.step_onto, FollowLemmas.step_back}
 

@@ -82,11 +82,6 @@ pub record AreNodesRead (plan : Plan) (t x : ℕ) (w : WorldState) (from : Readi
   pub during : IsDuring plan.tree t w'
   pub read : HasRead (FollowNodes plan t 1 w) from (steps_lines plan t steps) (FollowNodes plan t x w') to
 
--- the steps of a node behind those of earlier nodes, where it has made some
-abbrev pub with_steps : NodeNo → List NodeStep → List NodeSteps → List NodeSteps
-with_steps n [] made = made
-with_steps n (st ∷ steps) made = made ++ (record { node = n; steps = st ∷ steps }) ∷ []
-
 -- tick t has been read up to its last step
 pub record IsTickRead (plan : Plan) (t : ℕ) (w : WorldState) (from : Reading) (tick : Tick) (w' : WorldState) (to : Reading) : Type 0 where
   pub legal : IsLegalTick plan t w tick
@@ -105,9 +100,3 @@ pub record AreTicksRead (plan : Plan) (t : ℕ) (from : Reading) (ticks : List T
 pub record IsRunRead (plan : Plan) (from : Reading) (run : Run) (to : Reading) : Type 0 where
   pub noted : IsNotedRun plan plan.ticks run.journal.ticks run.world run.timeline.changes
   pub lines : lines_of from.rest ≡ ticks_lines plan 0 run.journal.ticks
-
--- the answer is a node's
-abbrev pub IsStepReply : WorldReply → Type 0
-IsStepReply (Step reply) = Unit {0}
-IsStepReply Done = ⊥
-IsStepReply Missed = ⊥

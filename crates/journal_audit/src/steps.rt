@@ -9,18 +9,18 @@ ghost use Rattle.journal_audit.specs.Left.{ArePortsLeft, jobs_left, is_any_left}
 ghost use Rattle.journal_audit.specs.Reading.{IsStuck, TakesOrStays, AreTaken};
 ghost use Rattle.journal_audit.specs.Journal.{answer_line, answer_lines};
 ghost use Rattle.journal_audit.specs.Follow.{FollowJobs, FollowNodes};
-ghost use Rattle.journal_audit.specs.Replay.{IsOtherAnswer, IsStepRead, IsNodeRead, AreNodesRead, with_steps, IsStepReply};
+ghost use Rattle.journal_audit.specs.Replay.{IsOtherAnswer, IsStepRead, IsNodeRead, AreNodesRead};
 
 use crate::laws::laws_of_replay;
 use crate::left::{PortLeft, is_any_left, left_of, next_port};
 use crate::reading::Reader;
 use journal_lines::laws::a_line_ends_with_its_line_feed;
 use journal_lines::{put_event, put_step};
-use node_core::{Node, NodeStep, PortStep, StepReply, is_sending_time, no_key};
-use srp_base::{NoMemory, NodeNo, PortNo, Seq};
+use node_core::{Node, NodeStep, PortStep, is_sending_time, no_key};
+use srp_base::{NoMemory, NodeNo, PortNo};
 use std::alloc::Global;
 use topology_file::Scenario;
-use world_core::{NodeSteps, World, WorldEvent, WorldReply};
+use world_core::{NodeSteps, World, WorldReply, push_steps};
 
 // ---- the scripted events
 
@@ -83,38 +83,6 @@ fn read_line(
     Ok(lines.take(line))
 }
 
-// Lets a port make a step, and answers it.
-fn make_step(
-    world: &mut World,
-    node: NodeNo,
-    job: &(PortNo, PortStep),
-) -> Result<NodeStep, NoMemory>
-    requires { HasPort world.old.tree (record { node = node; port = job.now.0 }) }
-    ensures job { IfOk result (λ st. (st.port, st.step) ≡ job.now) }
-    ensures made { IfOk result (λ st. world_step (WorldEvent.Port node st.port st.step) world.old
-        ≡ (world.new, WorldReply.Step st.reply)) }
-{
-    world.keeps();
-    let answer = world.step(WorldEvent::Port(node, job.0, job.1))?;
-    let reply = step_reply(answer);
-    Ok(NodeStep {
-        port: job.0,
-        step: job.1,
-        reply,
-    })
-}
-
-// What a node answered.
-fn step_reply(reply: WorldReply) -> StepReply
-    requires { IsStepReply reply }
-    ensures { reply ≡ WorldReply.Step result }
-{
-    match reply {
-        WorldReply::Step(reply) => reply,
-        WorldReply::Done | WorldReply::Missed => unreachable!(),
-    }
-}
-
 // Lets the port make its next job of whose steps the next line may be, and reads its line; None
 // where the next line isn't of any next job.
 fn read_step(
@@ -144,7 +112,7 @@ fn read_step(
     let _ = no_key();
     let place = next_port(left.as_slice(), lines);
     let step = left[place].take_job();
-    let made = make_step(world, number, &(PortNo(place as u8 + 1), step))?;
+    let made = world.make_step(number, &(PortNo(place as u8 + 1), step))?;
     let taken = read_line(alloc, scenario, t, number, &made, lines)?;
     if taken { Ok(Some(made)) } else { Ok(None) }
 }
@@ -247,16 +215,4 @@ pub(crate) fn read_nodes(
         push_steps(&mut steps, number, made)?;
     }
     Ok(Some(steps))
-}
-
-// The steps of a node behind those of the nodes before it; none where it has none.
-fn push_steps(steps: &mut Vec<NodeSteps>, node: NodeNo, made: Vec<NodeStep>) -> Result<(), NoMemory>
-    ensures { OnOk result (steps.new.items ≡ with_steps node made.items steps.old.items) }
-{
-    let _ = no_key();
-    if !made.is_empty() {
-        let made = Seq::from_vec(made);
-        steps.push(NodeSteps { node, steps: made })?;
-    }
-    Ok(())
 }

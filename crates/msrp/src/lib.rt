@@ -68,8 +68,6 @@ mod settling;
 mod side;
 mod stream;
 mod talker_keys;
-#[cfg(test)]
-mod tests;
 mod told;
 mod view;
 

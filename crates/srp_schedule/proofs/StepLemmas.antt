@@ -11,9 +11,9 @@ use Rattle.node_core.specs.declared.types.NodeEvent.TheVariants as node_events
 use Rattle.node_core.specs.declared.{types.NodeStep.NodeStep, types.PortStep.PortStep}
 use Rattle.node_core.specs.{State.NodeState, State.ports_of, State.job_list, Step.node_step}
 use Rattle.world_core.specs.declared.{events.WorldEvent.WorldEvent, events.WorldEvent.TheVariants.Port, events.WorldReply.TheVariants.Step, events.WorldReply.TheVariants.Missed, journal.NodeSteps.NodeSteps}
-use Rattle.world_core.specs.{Kept.IsKeptWorld, World.WorldState, World.Happened, World.node_at, World.after_step, World.world_step, World.world_after, World.replies_to, Ticks.step_events, Ticks.step_replies, Ticks.steps_at_port, Ticks.steps_of, Ticks.jobs_of, Ticks.canonical_order, Ticks.AscendByNode}
+use Rattle.world_core.specs.{Kept.IsKeptWorld, World.WorldState, World.Happened, World.node_at, World.after_step, World.world_step, World.world_after, World.replies_to, Ticks.step_events, Ticks.step_replies, Ticks.steps_at_port, Ticks.steps_of, Ticks.jobs_of, Ticks.canonical_order, Ticks.AscendByNode, Ticks.with_steps, Apart.events_of, Apart.replies_of}
 use Rattle.world_core.proofs.{Timelines.after_both, OwnSteps.replies_append}
-use Rattle.srp_schedule.specs.{AreSteps, IsNodeMade, events_of, replies_of, with_steps}
+use Rattle.srp_schedule.specs.{AreSteps, IsNodeMade}
 use Rattle.srp_schedule.proofs.OrderLemmas.{at_port, canonical_is, order_of_port, order_ports}
 
 other_number : (x y : ℕ) → (x == y) ≡ false → x ≢ y

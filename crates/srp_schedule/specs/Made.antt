@@ -6,23 +6,11 @@ use Rattle.tree_topology.specs.Topology.{Topology, HasPort}
 use Rattle.node_core.specs.declared.{types.NodeStep.NodeStep, types.PortStep.PortStep}
 use Rattle.world_core.specs.declared.{events.WorldEvent.WorldEvent, events.WorldEvent.TheVariants.Port, events.WorldReply.WorldReply, journal.NodeSteps.NodeSteps}
 use Rattle.world_core.specs.declared.events.WorldReply.TheVariants.{Step, Done, Missed}
-use Rattle.world_core.specs.{World.WorldState, World.world_step, World.world_after, World.replies_to, Ticks.step_events, Ticks.step_replies, Ticks.steps_of, Ticks.jobs_of, Ticks.canonical_order, Ticks.AscendByNode}
-
--- a node's steps as events of the network
-abbrev pub events_of : NodeNo → List NodeStep → List WorldEvent
-events_of n made = map (λ st. Port n st.port st.step) made
-
--- what a node's steps answered, as answers of the network
-abbrev pub replies_of : List NodeStep → List WorldReply
-replies_of made = map (λ st. Step st.reply) made
+use Rattle.world_core.specs.{World.WorldState, World.world_step, World.world_after, World.replies_to, Ticks.step_events, Ticks.step_replies, Ticks.steps_of, Ticks.jobs_of, Ticks.canonical_order, Ticks.AscendByNode, Apart.events_of, Apart.replies_of, Apart.HavePorts}
 
 -- the jobs that a node's steps were, each with its port
 abbrev pub jobs_done : List NodeStep → List (PortNo × PortStep)
 jobs_done made = map (λ st. (st.port, st.step)) made
-
--- the tree has the ports of a node's steps
-abbrev pub HavePorts : Topology → NodeNo → List NodeStep → Type 0
-HavePorts tree n made = AllByRecursion (λ st. HasPort tree (record { node = n; port = st.port })) made
 
 -- the tree has the ports of a node's jobs
 abbrev pub HaveJobPorts : Topology → NodeNo → List (PortNo × PortStep) → Type 0
@@ -39,17 +27,6 @@ pub record IsNodeMade (n : NodeNo) (w v : WorldState) (made : List NodeStep) : T
   pub replies : replies_of made ≡ replies_to (events_of n made) w
   pub after : v ≡ world_after (events_of n made) w
   pub tree : v.tree ≡ w.tree
-
--- the answer is a node's
-abbrev pub IsStepReply : WorldReply → Type 0
-IsStepReply (Step reply) = Unit {0}
-IsStepReply Done = ⊥
-IsStepReply Missed = ⊥
-
--- the steps of a node behind those of earlier nodes, where it has made some
-abbrev pub with_steps : NodeNo → List NodeStep → List NodeSteps → List NodeSteps
-with_steps n [] made = made
-with_steps n (st ∷ steps) made = made ++ (record { node = n; steps = st ∷ steps }) ∷ []
 
 -- The nodes up to number x have made their jobs of a tick, each in the canonical order: with their
 -- answers, nodes ascending, and no more than that.

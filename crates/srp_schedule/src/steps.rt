@@ -1,18 +1,18 @@
 //! The steps of all nodes in one tick.
 
 ghost use Rattle.std.specs.Prelude.{◌≡◌, length, IfOk, OnOk};
-ghost use Rattle.tree_topology.specs.Topology.{HasNode, HasPort};
-ghost use Rattle.world_core.specs.{Ticks.step_events, World.world_after, World.replies_to};
-ghost use Rattle.srp_schedule.specs.Made.{AreSteps, HavePorts, HaveJobPorts, IsDone, IsNodeMade, IsStepReply, jobs_done, events_of, replies_of, with_steps};
+ghost use Rattle.tree_topology.specs.Topology.{HasNode};
+ghost use Rattle.world_core.specs.{Ticks.step_events, World.world_after, World.replies_to, Apart.events_of, Apart.replies_of, Apart.HavePorts};
+ghost use Rattle.srp_schedule.specs.Made.{AreSteps, HaveJobPorts, IsNodeMade, jobs_done};
 ghost use Rattle.srp_schedule.specs.Rest.{AreRests, IsRestAt};
 
 use crate::order::jobs_in_order;
 use crate::rest::{Rest, rest_after, rests_now};
-use node_core::{NodeStep, PortStep, StepReply, no_key};
-use srp_base::{NoMemory, NodeNo, PortNo, Seq};
+use node_core::{NodeStep, PortStep, no_key};
+use srp_base::{NoMemory, NodeNo, PortNo};
 use std::alloc::Global;
 use world_core::laws::what_is_allowed_may_happen;
-use world_core::{NodeSteps, World, WorldEvent, WorldReply};
+use world_core::{NodeSteps, World, push_steps};
 
 /// Lets every node make its steps of one tick, and answers them: nodes ascending, those of each in
 /// the canonical order, and none of a node that has nothing to do. A node that is known to rest
@@ -37,18 +37,6 @@ pub(crate) fn make_steps(
         push_steps(&mut made, number, steps)?;
     }
     Ok(made)
-}
-
-// The steps of a node behind those of the nodes before it; none where it has none.
-fn push_steps(made: &mut Vec<NodeSteps>, node: NodeNo, steps: Vec<NodeStep>) -> Result<(), NoMemory>
-    ensures { OnOk result (made.new.items ≡ with_steps node steps.items made.old.items) }
-{
-    let _ = no_key();
-    if !steps.is_empty() {
-        let steps = Seq::from_vec(steps);
-        made.push(NodeSteps { node, steps })?;
-    }
-    Ok(())
 }
 
 // Lets a node make its steps of one tick, none where it is known to rest, and keeps what is known
@@ -107,34 +95,7 @@ fn make_all(
     what_is_allowed_may_happen();
     let mut made = Vec::with_capacity(alloc, jobs.len())?;
     for job in jobs {
-        made.push(make_one(world, node, job)?)?;
+        made.push(world.make_step(node, job)?)?;
     }
     Ok(made)
-}
-
-// Lets a port make a step, and answers it.
-fn make_one(world: &mut World, node: NodeNo, job: &(PortNo, PortStep)) -> Result<NodeStep, NoMemory>
-    requires { HasPort world.old.tree (record { node = node; port = job.now.0 }) }
-    ensures job { IfOk result (λ st. (st.port, st.step) ≡ job.now) }
-    ensures made { IfOk result (λ st. IsDone node world.old world.new st) }
-{
-    world.keeps();
-    let answer = world.step(WorldEvent::Port(node, job.0, job.1))?;
-    let reply = step_reply(answer);
-    Ok(NodeStep {
-        port: job.0,
-        step: job.1,
-        reply,
-    })
-}
-
-// What a node answered.
-fn step_reply(reply: WorldReply) -> StepReply
-    requires { IsStepReply reply }
-    ensures { reply ≡ WorldReply.Step result }
-{
-    match reply {
-        WorldReply::Step(reply) => reply,
-        WorldReply::Done | WorldReply::Missed => unreachable!(),
-    }
 }

@@ -10,7 +10,7 @@ use Rattle.attribute_propagation.specs.Ports.{place_of}
 use Rattle.node_core.specs.declared.types.Wire.{Wire}
 use Rattle.node_core.specs.{Proper.IsProperNode, State.NodeState, State.box_at, State.ports_of}
 use Rattle.world_core.specs.{WorldState, node_at, with_changed, inbox, outbox, EndMark, MarksState, BothMarks, mark_at, part_at, marked_link}
-use Rattle.world_core.proofs.{Views.AppView, Views.AreMet, Views.Met, Views.Boxed, Views.KeepsLink, Views.met_same, Nodes.Base, Nodes.SameAt, Nodes.SameAtPort, Nodes.same_port, Nodes.node_same, Nodes.same_tree, Nodes.node_there, Nodes.part_there, Nodes.part_is, Nodes.inbox_is, Nodes.outbox_is}
+use Rattle.world_core.proofs.{Views.AppView, Views.AreMet, Views.Met, Views.Boxed, Views.KeepsLink, Views.met_same, Nodes.Base, Nodes.SameAt, Nodes.SameAtPort, Nodes.same_port, Nodes.node_same, Nodes.node_there, Nodes.part_there, Nodes.part_is, Nodes.inbox_is, Nodes.outbox_is}
 
 module _ {K C : Type 0} (v : AppView K C) where
   -- what a port's link keeps in a network over a tree, with these marks

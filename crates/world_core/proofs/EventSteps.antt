@@ -1,6 +1,6 @@
 -- Each event of a network keeps what all links do in an application, whichever it is, from what the application shows.
 use Rattle.std.proofs.Common.{◌≡◌, ◌≢◌, ◌⊎◌, inl, inr, ℕ, zero, suc, ◌+◌, ◌-◌, Bool, true, false, ◌&&◌, if◌then◌else◌, List, [], ◌∷◌, ◌++◌, refl, sym, ap, subst, ◌∙◌, arith}
-use Rattle.std.specs.Prelude.{slice_get, slice_set, Option, Some, None, option_map, filter_map}
+use Rattle.std.specs.Prelude.{slice_get, Option, Some, None, option_map, filter_map}
 use Rattle.std.specs.Option.{option_map_or}
 use Rattle.std.proofs.lemmas.List.{append-nil}
 use Rattle.srp_base.proofs.Options.{one_some}

@@ -1,5 +1,5 @@
 -- Each event of a network keeps that its marks are those of its tree.
-use Rattle.std.proofs.Common.{◌≡◌, Bool, true, false, ◌&&◌, [], refl, sym, ap, subst, ◌∙◌}
+use Rattle.std.proofs.Common.{◌≡◌, Bool, true, false, ◌&&◌, [], sym, ap, subst, ◌∙◌}
 use Rattle.std.specs.Prelude.{slice_get, Option, Some, None}
 use Rattle.srp_base.specs.declared.{numbers.EgressPort.EgressPort, mrp.App.App}
 use Rattle.tree_topology.specs.{Topology.HasPort, Ports.peer_of, PortLaws.HasPortLaws}
@@ -9,7 +9,7 @@ use Rattle.node_core.specs.declared.types.NodeEvent.TheVariants as node_events
 use Rattle.node_core.specs.declared.types.PortStep.TheVariants as steps
 use Rattle.node_core.specs.declared.types.StepReply.TheVariants.{Nothing, Discarded, Received, Fired, Settled, Silent, Sent, Taken}
 use Rattle.node_core.specs.{Leaving.has_leave_all, Links.with_outbox, Links.with_carried, State.NodeState, Step.node_step}
-use Rattle.world_core.specs.{WorldEvent, Request, Port, Lose, Repeat, Forge, Carry, Clock, WorldReply, Step, Done, MarksState, IsOfTree, mark_at, both_sent, both_took, both_lost, both_copied, both_forged, WorldState, with_changed, inbox, outbox, app_of, reaches, step_of_node, has_leave_all_next, marks_taking, marks_sending, marks_stepping, marks_losing, marks_copying, marks_forging, world_step, CanHappen}
+use Rattle.world_core.specs.{WorldEvent, Request, Port, Lose, Repeat, Forge, Carry, Clock, WorldReply, Step, Done, MarksState, IsOfTree, mark_at, both_sent, both_took, both_lost, both_copied, both_forged, WorldState, with_changed, inbox, outbox, app_of, reaches, step_of_node, has_leave_all_next, marks_taking, marks_stepping, marks_losing, marks_copying, marks_forging, world_step, CanHappen}
 use Rattle.world_core.specs.declared.events.WorldReply.TheVariants.{Missed}
 use Rattle.world_core.proofs.{Nodes.same_tree, Nodes.same_marks, Nodes.stepped_is, MarkSteps.are_changed, EventSteps.HasMarks, Runs.tree_stays}
 

@@ -1,5 +1,5 @@
 -- The marks of a network after those of a port and of its peer have become others: these, and all else.
-use Rattle.std.proofs.Common.{◌≡◌, ◌≢◌, ◌⊎◌, inl, inr, ℕ, zero, suc, ◌+◌, ◌-◌, Bool, true, false, if◌then◌else◌, List, [], ◌∷◌, refl, sym, ap, subst, ◌∙◌, arith}
+use Rattle.std.proofs.Common.{◌≡◌, ◌≢◌, ◌⊎◌, inl, inr, ℕ, ◌-◌, Bool, true, false, if◌then◌else◌, List, refl, sym, ap, subst, ◌∙◌}
 use Rattle.std.specs.Prelude.{slice_get, slice_set, Option, Some, None}
 use Rattle.std.specs.Option.{option_map_or, option_and_then}
 use Rattle.srp_base.proofs.{Arithmetic.decide, Lists.get_set, Lists.get_set_other}
@@ -7,7 +7,7 @@ use Rattle.srp_base.specs.declared.{numbers.EgressPort.EgressPort, mrp.App.App, 
 use Rattle.tree_topology.specs.{Topology.Topology, Topology.HasPort, Ports.peer_of, PortLaws.HasPortLaws}
 use Rattle.tree_topology.proofs.EgressPorts.{decide_port, other_place, other_end}
 use Rattle.attribute_propagation.specs.Ports.{place_of}
-use Rattle.world_core.specs.{EndMark, EndMarks, MarksState, BothMarks, IsOfTree, is_same_app, of_app, with_app, no_mark, end_in, mark_in, mark_at, row_with, ends_with, with_mark, with_both}
+use Rattle.world_core.specs.{EndMark, EndMarks, MarksState, BothMarks, IsOfTree, is_same_app, of_app, with_app, no_mark, end_in, mark_at, row_with, ends_with, with_mark, with_both}
 use Rattle.world_core.proofs.Counts.{app_is}
 
 -- ---- one end

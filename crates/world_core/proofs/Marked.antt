@@ -1,5 +1,5 @@
 -- What the code does to the marks after an event is what the event does to them; and what the marks count is on its way.
-use Rattle.std.proofs.Common.{◌≡◌, ℕ, zero, suc, ◌+◌, ◌-◌, ◌<◌, ◌≤◌, Bool, true, false, ◌&&◌, if◌then◌else◌, List, [], ◌∷◌, ◌++◌, length, length-append, refl, sym, ap, subst, ◌∙◌, arith}
+use Rattle.std.proofs.Common.{◌≡◌, ℕ, zero, suc, ◌+◌, ◌<◌, ◌≤◌, Bool, true, false, ◌&&◌, if◌then◌else◌, List, [], ◌∷◌, ◌++◌, length, length-append, refl, sym, ap, subst, ◌∙◌, arith}
 use Rattle.std.specs.Prelude.{slice_get, Option, Some, None, IfSome, option_map, ◌^◌}
 use Rattle.std.specs.Option.{option_map_or}
 use Rattle.srp_base.proofs.Lists.{within}
@@ -12,9 +12,8 @@ use Rattle.node_core.specs.declared.{types.Wire.Wire, types.PortStep.PortStep}
 use Rattle.node_core.specs.declared.types.NodeEvent.TheVariants as node_events
 use Rattle.node_core.specs.{Leaving.has_leave_all, Leaving.is_leave_all_at, Proper.IsProperNode, State.NodeState, State.ports_of}
 use Rattle.world_core.specs.declared.events.WorldEvent.TheVariants as events
-use Rattle.world_core.specs.{WorldReply, Done, IsKeptWorld, is_done, MarksState, is_same_app, mark_at, count_of, with_both, both_took, WorldState, Happened, node_at, has_leave_all_next, inbox, outbox, app_of, step_of_node, after_port, marks_taking, marks_stepping, marks_losing, marks_copying, marks_forging, with_loss, after_repeat, with_forgery, with_marks, reaches, world_step}
-use Rattle.world_core.specs.declared.events.WorldReply.TheVariants.{Missed}
-use Rattle.world_core.proofs.{Counts.app_same, Counts.count_append, Counts.count_some, Keeping.base_kept, Nodes.node_there, Nodes.part_there, Nodes.part_is, StreamSteps.stream_view, Views.AppView, Views.AreMet, VlanSteps.vlan_view}
+use Rattle.world_core.specs.{WorldReply, IsKeptWorld, is_done, MarksState, is_same_app, mark_at, count_of, with_both, both_took, WorldState, Happened, node_at, has_leave_all_next, inbox, outbox, app_of, step_of_node, after_port, marks_taking, marks_stepping, marks_losing, marks_copying, marks_forging, with_loss, after_repeat, with_forgery, with_marks, reaches, world_step}
+use Rattle.world_core.proofs.{Counts.app_same, Counts.count_append, Keeping.base_kept, Nodes.node_there, Nodes.part_there, Nodes.part_is, StreamSteps.stream_view, Views.AppView, Views.AreMet, VlanSteps.vlan_view}
 
 abbrev world : Topology → List NodeState → MarksState → WorldState
 world tree nodes m = record { tree = tree; nodes = nodes; marks = m }

@@ -6,7 +6,8 @@ use Rattle.std.proofs.lemmas.Option.{slice_get_within}
 use Rattle.srp_base.specs.declared.{numbers.NodeNo.NodeNo, numbers.EgressPort.EgressPort}
 use Rattle.tree_topology.specs.{Topology.Topology, Topology.HasPort, Ports.peer_of, PortLaws.HasPortLaws}
 use Rattle.node_core.specs.State.{NodeState}
-use Rattle.node_core.specs.declared.types.AppRequest.{AppRequest}
+use Rattle.node_core.specs.declared.{types.AppRequest.AppRequest, types.StepReply.StepReply}
+use Rattle.world_core.specs.declared.events.WorldReply.TheVariants.{Step}
 use Rattle.world_core.specs.{WorldEvent, Request, WorldReply, MarksState, WorldState, Happened, StandsAt, CanHappen, IsKeptWorld}
 use Rattle.world_core.proofs.{Nodes.node_there, Nodes.place_within, Keeping.base_kept}
 
@@ -56,3 +57,12 @@ pub kept_either : {E : Type 0} (r : Result WorldReply E) (h : Happened) (tree : 
     → IsKeptWorld h.0 → IsKeptWorld (record { tree = tree; nodes = nodes; marks = marks }) → IsKeptWorld (record { tree = tree; nodes = new; marks = marks })
 kept_either (Ok reply) h tree marks nodes new is err after before = subst IsKeptWorld (ap (λ (x : Happened). x.0) is) after
 kept_either (Err e) h tree marks nodes new ok is after before = subst (λ (xs : List NodeState). IsKeptWorld (record { tree = tree; nodes = xs; marks = marks })) (sym is) before
+
+-- so it is after a step of a port, with other marks
+pub kept_stepped : {E : Type 0} (r : Result StepReply E) (h : Happened) (tree : Topology) (nodes new : List NodeState) (marks more : MarksState)
+    → IfOk r (λ reply. h ≡ (record { tree = tree; nodes = new; marks = more }, Step reply)) → OnErr r (new ≡ nodes) → OnErr r (more ≡ marks)
+    → IsKeptWorld h.0 → IsKeptWorld (record { tree = tree; nodes = nodes; marks = marks }) → IsKeptWorld (record { tree = tree; nodes = new; marks = more })
+kept_stepped (Ok reply) h tree nodes new marks more is err same after before = subst IsKeptWorld (ap (λ (x : Happened). x.0) is) after
+kept_stepped (Err e) h tree nodes new marks more ok is same after before =
+    subst (λ (ms : MarksState). IsKeptWorld (record { tree = tree; nodes = new; marks = ms })) (sym same)
+    (subst (λ (xs : List NodeState). IsKeptWorld (record { tree = tree; nodes = xs; marks = marks })) (sym is) before)

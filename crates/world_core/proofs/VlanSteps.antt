@@ -16,8 +16,8 @@ use Rattle.node_core.specs.declared.{types.AppRequest.AppRequest, types.Wire.Wir
 use Rattle.node_core.specs.declared.types.AppRequest.TheVariants.{Declare, Withdraw, Talk, Hush, Listen, Unlisten}
 use Rattle.node_core.specs.declared.types.NodeEvent.TheVariants as node_events
 use Rattle.node_core.specs.declared.types.PortStep.TheVariants.{Work, LeaveNow, LeaveAllNow, PeriodicNow, Due, Settle, Send}
-use Rattle.node_core.specs.{State.NodeState, State.box_at, Step.node_step, Step.port_step, Step.after_work, Step.worked_app, Step.worked_mvrp, Step.octets_to_say, Step.sent_octets, Leaving.vlans_leave, Leaving.streams_leave, Leaving.octets_leave, Leaving.has_leave_all, Leaving.is_leave_all_at, Links.spoilt_at, Proper.IsProperNode}
-use Rattle.world_core.specs.{said_of_vlans, vlans_said, message_of, vlan_place, BothMarks, is_same_app}
+use Rattle.node_core.specs.{State.NodeState, State.box_at, Step.node_step, Step.port_step, Step.after_work, Step.worked_app, Step.worked_mvrp, Step.octets_to_say, Step.sent_octets, Leaving.vlans_leave, Leaving.octets_leave, Leaving.is_leave_all_at, Links.spoilt_at, Proper.IsProperNode}
+use Rattle.world_core.specs.{said_of_vlans, vlans_said, message_of, vlan_place, is_same_app}
 use Rattle.world_core.proofs.{Boxes.box_got, Boxes.box_set, Views.AppView, Views.LinkLaws, Views.StepFacts, Views.KeepsLink, Views.both_heard, Views.both_said, Views.both_stepped, Views.both_same, Views.says_leave_all, Views.unsound, Nodes.outbox_there, LinkSteps.KeepsNear, LinkSteps.HasSpoken, LinkSteps.declares, LinkSteps.withdraws, LinkSteps.leaves, LinkSteps.fires, LinkSteps.fires_leave_all, LinkSteps.fires_periodic, LinkSteps.all_keep, LinkSteps.same_near, LinkSteps.by_call, LinkSteps.called, LinkSteps.hearing, LinkSteps.taken, LinkSteps.spoken, LinkSteps.unheard, LinkSteps.still}
 
 -- MVRP as the network's proofs see it

@@ -79,6 +79,11 @@ script_at plan t = scripted_from plan.tree.links plan.streams t 1 plan.events
 abbrev pub step_events : List NodeSteps → List WorldEvent
 step_events nodes = flat_map (λ ns. map (λ st. Port ns.node st.port st.step) ns.steps) nodes
 
+-- the steps of a node behind those of earlier nodes, where it has made some
+abbrev pub with_steps : NodeNo → List NodeStep → List NodeSteps → List NodeSteps
+with_steps n [] made = made
+with_steps n (st ∷ steps) made = made ++ (record { node = n; steps = st ∷ steps }) ∷ []
+
 -- at the end of a tick the PDUs of every port are carried, and the clock goes on
 abbrev pub closing_events : Topology → List WorldEvent
 closing_events tree = map Carry (link_ports tree) ++ (Clock ∷ [])

@@ -9,7 +9,7 @@ ghost use Rattle.world_core.specs.Marks.{MarksState};
 ghost use Rattle.world_core.specs.World.{StandsAt, nodes_with, step_of_node, app_of, reaches, with_unsound_ends, with_loss, after_repeat, with_forgery, world_step, world_with};
 
 use crate::events::{WorldEvent, WorldReply};
-use node_core::{Node, NodeEvent, Wire};
+use node_core::{Node, NodeEvent, StepReply, Wire};
 use srp_base::{App, EgressPort, NoMemory, NodeNo, Seq};
 use tree_topology::Tree;
 
@@ -26,18 +26,18 @@ pub(crate) fn make_step(
     nodes: &mut Vec<Node>,
     number: NodeNo,
     event: NodeEvent,
-) -> Result<WorldReply, NoMemory>
+) -> Result<StepReply, NoMemory>
     requires some { 1 ≤ number.0 }
     requires few { number.0 ≤ length (states_in nodes.old.items) }
     requires can { (s : NodeState) → slice_get (states_in nodes.old.items) (number.0 - 1) ≡ Some s
         → CanStep event s }
     ensures ok { IfOk result (λ reply. (tree : Topology) (m : MarksState)
         → step_of_node number event (world_with tree (states_in nodes.old.items) m)
-        ≡ (world_with tree (states_in nodes.new.items) m, reply)) }
+        ≡ (world_with tree (states_in nodes.new.items) m, WorldReply.Step reply)) }
     ensures err { OnErr result (states_in nodes.new.items ≡ states_in nodes.old.items) }
 {
     let reply = nodes[place(number)].step(event)?;
-    Ok(WorldReply::Step(reply))
+    Ok(reply)
 }
 
 // Every node makes room for its next clock. Where memory runs out, some have room, and all are as

@@ -1,9 +1,12 @@
 //! What happened in a run, tick by tick.
 
+ghost use Rattle.std.specs.Prelude.{◌≡◌, OnOk};
+ghost use Rattle.world_core.specs.Ticks.{with_steps};
+
 use crate::events::WorldReply;
 use crate::world::World;
-use node_core::NodeStep;
-use srp_base::{NodeNo, Seq, Timeline};
+use node_core::{NodeStep, no_key};
+use srp_base::{NoMemory, NodeNo, Seq, Timeline};
 
 /// The steps that a node made in a tick, in order.
 #[derive(PartialEq, Eq, Drop)]
@@ -33,4 +36,20 @@ pub struct Run {
     pub world: World,
     pub journal: Journal,
     pub timeline: Timeline,
+}
+
+/// Puts the steps of a node behind those of the nodes before it, where it has made some.
+pub fn push_steps(
+    made: &mut Vec<NodeSteps>,
+    node: NodeNo,
+    steps: Vec<NodeStep>,
+) -> Result<(), NoMemory>
+    ensures { OnOk result (made.new.items ≡ with_steps node steps.items made.old.items) }
+{
+    let _ = no_key();
+    if !steps.is_empty() {
+        let steps = Seq::from_vec(steps);
+        made.push(NodeSteps { node, steps })?;
+    }
+    Ok(())
 }

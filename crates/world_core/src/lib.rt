@@ -67,7 +67,7 @@ pub use apart::WorldRest;
 pub use carry::carry_sent;
 pub use events::{WorldEvent, WorldReply};
 pub use history::History;
-pub use journal::{Journal, NodeSteps, Run, Tick};
+pub use journal::{Journal, NodeSteps, Run, Tick, push_steps};
 pub use marks::Marks;
 pub use script::make_events;
 pub use step::RunErr;

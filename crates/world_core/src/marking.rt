@@ -41,12 +41,12 @@ pub(crate) fn marked_step(
     marks: &mut Marks,
     at: EgressPort,
     step: PortStep,
-) -> Result<WorldReply, NoMemory>
+) -> Result<StepReply, NoMemory>
     requires port { HasPort tree.now at }
     requires kept { IsKeptWorld (world_with tree.now (states_in nodes.old.items) marks.old) }
     ensures ok { IfOk result (λ reply. world_step (WorldEvent.Port at.node at.port step)
         (world_with tree.now (states_in nodes.old.items) marks.old)
-        ≡ (world_with tree.now (states_in nodes.new.items) marks.new, reply)) }
+        ≡ (world_with tree.now (states_in nodes.new.items) marks.new, WorldReply.Step reply)) }
     ensures err { OnErr result (states_in nodes.new.items ≡ states_in nodes.old.items) }
     ensures err_marks { OnErr result (marks.new ≡ marks.old) }
 {
@@ -151,17 +151,17 @@ fn short_leaves(alloc: Global, wire: &Wire) -> Result<bool, NoMemory>
 }
 
 // The marks after a step with its answer.
-fn note(marks: &mut Marks, at: EgressPort, noted: Noted, reply: WorldReply)
+fn note(marks: &mut Marks, at: EgressPort, noted: Noted, reply: StepReply)
     requires port { HasPort marks.old.tree at }
     requires can { CanNote at noted marks.old }
     requires few { (app : App) → (mark_at app at marks.old).flying < 2 ^ 100 }
-    ensures { marks.new ≡ marks_noted at noted reply marks.old }
+    ensures { marks.new ≡ marks_noted at noted (WorldReply.Step reply) marks.old }
 {
     match noted {
         Noted::Nothing => {}
         Noted::Takes(app, leave_all) => marks.took(at, app, leave_all),
         Noted::Sends(app, leave_all) => {
-            if let WorldReply::Step(StepReply::Sent(_)) = reply {
+            if let StepReply::Sent(_) = reply {
                 marks.sent(at, app, leave_all);
             }
         }

@@ -1,6 +1,7 @@
 //! One event of a network, and lists of them.
 
 ghost use Rattle.std.specs.Prelude.{◌≡◌, ◌≤◌, length, take, IfOk, IfErr, OnErr};
+ghost use Rattle.tree_topology.specs.Topology.{HasPort};
 ghost use Rattle.world_core.specs.World.{CanHappen, IsEventInRange, CanAllHappen, world_step, world_after, replies_to};
 
 use crate::events::{WorldEvent, WorldReply};
@@ -8,8 +9,8 @@ use crate::happen::{carry, make_step, tick_all};
 use crate::laws::every_event_keeps_it;
 use crate::marking::{marked_forgery, marked_loss, marked_repeat, marked_step};
 use crate::world::World;
-use node_core::{NodeEvent, Wire};
-use srp_base::{EgressPort, NoMemory, Seq};
+use node_core::{NodeEvent, NodeStep, PortStep, StepReply, Wire};
+use srp_base::{EgressPort, NoMemory, NodeNo, PortNo, Seq};
 use std::alloc::Global;
 use tree_topology::laws::ports;
 
@@ -35,11 +36,12 @@ impl World {
         fits(&event);
         match event {
             WorldEvent::Request(node, request) => {
-                make_step(&mut self.nodes, node, NodeEvent::Request(request))
+                let reply = make_step(&mut self.nodes, node, NodeEvent::Request(request))?;
+                Ok(WorldReply::Step(reply))
             }
             WorldEvent::Port(node, port, step) => {
-                let at = EgressPort { node, port };
-                marked_step(&self.tree, &mut self.nodes, &mut self.marks, at, step)
+                let reply = self.port_step(node, port, step)?;
+                Ok(WorldReply::Step(reply))
             }
             WorldEvent::Lose(at, index) => Ok(marked_loss(
                 &self.tree,
@@ -64,6 +66,45 @@ impl World {
             WorldEvent::Carry(at) => carry(&self.tree, &mut self.nodes, at),
             WorldEvent::Clock => tick_all(&mut self.nodes),
         }
+    }
+
+    /// Lets a link port of a node make a step, the event `Port`, and answers the step with what the
+    /// node answers. The port exists. After want of memory the network is as it was.
+    pub fn make_step(
+        &mut self,
+        node: NodeNo,
+        job: &(PortNo, PortStep),
+    ) -> Result<NodeStep, NoMemory>
+        requires { HasPort self.old.tree (record { node = node; port = job.now.0 }) }
+        ensures job { IfOk result (λ made. (made.port, made.step) ≡ job.now) }
+        ensures ok { IfOk result (λ made. world_step (WorldEvent.Port node made.port made.step)
+            self.old ≡ (self.new, WorldReply.Step made.reply)) }
+        ensures err { OnErr result (self.new ≡ self.old) }
+    {
+        let reply = self.port_step(node, job.0, job.1)?;
+        Ok(NodeStep {
+            port: job.0,
+            step: job.1,
+            reply,
+        })
+    }
+
+    // The same, with the answer alone.
+    fn port_step(
+        &mut self,
+        node: NodeNo,
+        port: PortNo,
+        step: PortStep,
+    ) -> Result<StepReply, NoMemory>
+        requires { HasPort self.old.tree (record { node = node; port = port }) }
+        ensures ok { IfOk result (λ reply. world_step (WorldEvent.Port node port step) self.old
+            ≡ (self.new, WorldReply.Step reply)) }
+        ensures err { OnErr result (self.new ≡ self.old) }
+    {
+        ports();
+        every_event_keeps_it();
+        let at = EgressPort { node, port };
+        marked_step(&self.tree, &mut self.nodes, &mut self.marks, at, step)
     }
 
     // The same of a copy of an event.

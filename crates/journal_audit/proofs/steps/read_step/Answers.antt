@@ -57,7 +57,7 @@ returns-then-taken-clause-read c =
     c.take_job-step.new.self
     (slice_set ports c.next_port-place.result c.take_job-step.new.self) c.take_job-step.result c.in_ok-made.made c.make_step.new.world c.args.lines.now c.read_line.new.lines found.0
     c.take_job-step.ensures.job
-    (ap (λ (j : PortNo × PortStep). j.0) c.in_ok-made.ensures.job) (ap (λ (j : PortNo × PortStep). j.1) c.in_ok-made.ensures.job) c.in_ok-made.ensures.made refl
+    (ap (λ (j : PortNo × PortStep). j.0) c.in_ok-made.ensures.job) (ap (λ (j : PortNo × PortStep). j.1) c.in_ok-made.ensures.job) c.in_ok-made.ensures.ok refl
     (c.in_ok-taken.ensures.takes c.if-taken.true)
 
 pub returns-then-taken-clause-ports : goal.returns-then-taken-clause-ports
@@ -75,5 +75,5 @@ returns-else-taken-clause-stuck c =
     made_stuck c.args.scenario.now c.laws_of_replay.ensures c.args.t c.args.number.0 ports c.args.world.now c.requires.node c.requires.ports c.next_port-place.result c.index_mut.result.now
     c.take_job-step.new.self
     c.take_job-step.result c.in_ok-made.made c.make_step.new.world c.args.lines.now c.read_line.new.lines c.requires.within c.requires.during found.0 found.2 c.take_job-step.ensures.job
-    (ap (λ (j : PortNo × PortStep). j.0) c.in_ok-made.ensures.job) (ap (λ (j : PortNo × PortStep). j.1) c.in_ok-made.ensures.job) c.in_ok-made.ensures.made
+    (ap (λ (j : PortNo × PortStep). j.0) c.in_ok-made.ensures.job) (ap (λ (j : PortNo × PortStep). j.1) c.in_ok-made.ensures.job) c.in_ok-made.ensures.ok
     (subst (TakesOrStays (line_at c.args.scenario.now c.args.t c.args.number c.in_ok-made.made) c.args.lines.now c.read_line.new.lines) c.if-taken.false c.in_ok-taken.ensures)

@@ -4,7 +4,7 @@ use Rattle.std.specs.Option.{option_map_or}
 use Rattle.srp_base.proofs.Arithmetic.{if_ok}
 use Rattle.node_core.specs.declared.types.Wire.{Wire}
 use Rattle.node_core.specs.{Holding.states_in, Leaving.has_leave_all}
-use Rattle.world_core.specs.{inbox, world_with}
+use Rattle.world_core.specs.{world_with}
 use Rattle.world_core.proofs.{Happenings.port_there, Happenings.get_there, Nodes.inbox_is}
 use Rattle.world_core.proofs.marking.front_leaves.Goals as goal
 

@@ -1,4 +1,4 @@
-use Rattle.std.proofs.Common.{◌+◌, ℕ, ap, ◌∙◌, replicate, arith}
+use Rattle.std.proofs.Common.{ℕ, ap, ◌∙◌, replicate, arith}
 use Rattle.world_core.specs.{no_marks}
 use Rattle.world_core.proofs.NewMarks.{row_pushed}
 use Rattle.world_core.proofs.marks.new_rows.Goals as goal

@@ -1,6 +1,6 @@
 use Rattle.std.proofs.Common.{List, sym, ap, subst, ◌∙◌}
 use Rattle.srp_base.specs.declared.numbers.EgressPort.{EgressPort}
-use Rattle.world_core.specs.{EndMarks, MarksState, IsOfTree, ends_with, with_two}
+use Rattle.world_core.specs.{EndMarks, MarksState, IsOfTree, ends_with}
 use Rattle.world_core.proofs.MarkSteps.{both_of}
 use Rattle.world_core.proofs.marks.put_two.Goals as goal
 
