@@ -27,9 +27,6 @@ use Rattle.replay_words.proofs.Ledgers.{lines as change_lines}
 
 -- ---- lists of lines
 
-none : End → List Change
-none who = []
-
 flat_on : {X Y : Type 0} (f : X → List Y) (xs ys : List X) → flat_map f (xs ++ ys) ≡ flat_map f xs ++ flat_map f ys
 flat_on f [] ys = refl
 flat_on f (x ∷ xs) ys = ap (λ (zs : List _). f x ++ zs) (flat_on f xs ys) ∙ sym (append_assoc (f x) (flat_map f xs) (flat_map f ys))
@@ -97,7 +94,7 @@ module _ {K C : Type 0} (cmp : K → K → Ordering) (eq : C → C → Bool) (ke
   owed at way k =
       quiet _ _ (alone (Leaves at way.speaker (key k) (until_of at way))) (alone (Owes at way.speaker (key k) (until_of at way)))
 
-  pub begun : (at : Cs) (leave_all : Bool) (way : WayState K C) → IsQuiet (begun_text word at leave_all way)
+  begun : (at : Cs) (leave_all : Bool) (way : WayState K C) → IsQuiet (begun_text word at leave_all way)
   begun at leave_all way =
       quiet_where leave_all _ (quiet_all (leaving_text word at way) (λ r. quiet_where _ _ (owed at way r.key)) way.observer.rows)
 
@@ -108,7 +105,7 @@ module _ {K C : Type 0} (cmp : K → K → Ordering) (eq : C → C → Bool) (ke
   passing : (at : Cs) (way : WayState K C) → IsQuiet (passing_text cmp word at way)
   passing at way = quiet_all (gone_text cmp word at way) (gone at way) (left_keys at way.observer)
 
-  pub ways_passing : (at : Cs) (w : Ways K C) → IsQuiet (ways_passing_text cmp word at w)
+  ways_passing : (at : Cs) (w : Ways K C) → IsQuiet (ways_passing_text cmp word at w)
   ways_passing at w = quiet _ _ (passing at w.from_a) (passing at w.from_b)
 
   joining : (at : Cs) (way : WayState K C) (k : K) (c : C) → IsQuiet (joining_text cmp eq word words at way k c)
@@ -133,7 +130,7 @@ module _ {K C : Type 0} (cmp : K → K → Ordering) (eq : C → C → Bool) (ke
       (quiet _ _ (begun at x.1.leave_all (way_of x.0 w)) (all_heard at x.1.events (begun_way cmp at x.1.leave_all (way_of x.0 w))))
       (all_arriving at on_way (said_arriving cmp at w x))
 
-  pub arriving : (at : Cs) (l : LinkState K C) → IsQuiet (arriving_text cmp eq word words at l)
+  arriving : (at : Cs) (l : LinkState K C) → IsQuiet (arriving_text cmp eq word words at l)
   arriving at l = all_arriving at l.on_way l.ways
 
   kept : (at : Cs) (w : Ways K C) (x : End × (MrpEvent × K × C)) → IsQuiet (kept_text cmp word at w x)
@@ -142,7 +139,7 @@ module _ {K C : Type 0} (cmp : K → K → Ordering) (eq : C → C → Bool) (ke
       let way = way_of (other_end x.0) w in
       quiet_where (is_broken cmp way x.1) _ (alone (Denied at (other_end way.speaker) x.1.0 (key x.1.1) (is_held cmp way x.1.1)))
 
-  pub judging : (at : Cs) (l : LinkState K C) → IsQuiet (judging_text cmp word at l)
+  judging : (at : Cs) (l : LinkState K C) → IsQuiet (judging_text cmp word at l)
   judging at l = quiet_all (kept_text cmp word at l.ways) (kept at l.ways) l.kept
 
 -- VIDs and groups have no content
@@ -313,19 +310,19 @@ on_packet caps ends s p =
     as_changes _ (λ who. changes_at who at s ++ []) (λ who. changes_at who at s) (λ who. append-nil (changes_at who at s))
     (both _ _ (λ who. changes_at who at s) (λ who. []) (on_at caps at s) (frame_quiet ends at p (frame_in p) (seen_at at s).watched))
 
-pub on_packets : (caps : Caps) (ends : Ends) (ps : List Packet) (s : LinkSeen)
+pub on_frames : (caps : Caps) (ends : Ends) (ps : List Packet) (s : LinkSeen)
     → PrintsChanges (packets_text caps ends s ps) (λ who. packets_changes who ends s ps)
-on_packets caps ends [] s = blank
-on_packets caps ends (p ∷ ps) s =
+on_frames caps ends [] s = blank
+on_frames caps ends (p ∷ ps) s =
     both _ _ (λ who. changes_at who (moment_after s.at p) s) (λ who. packets_changes who ends (after_packet ends s p) ps)
-    (on_packet caps ends s p) (on_packets caps ends ps (after_packet ends s p))
+    (on_packet caps ends s p) (on_frames caps ends ps (after_packet ends s p))
 
 -- with what is on its way behind the last
 on_run : (caps : Caps) (ends : Ends) (s : LinkSeen) (ps : List Packet) → PrintsChanges (run_text caps ends s ps) (run_changes ends s ps)
 unfolding run_text
 on_run caps ends s ps =
     both _ _ (λ who. packets_changes who ends s ps) (λ who. arrived_changes who (after_packets ends s ps))
-    (on_packets caps ends ps s) (on_arrival caps (after_packets ends s ps))
+    (on_frames caps ends ps s) (on_arrival caps (after_packets ends s ps))
 
 broken_quiet : (broken_off : Option ℕ) → IsQuiet (broken_line broken_off)
 broken_quiet None = blank

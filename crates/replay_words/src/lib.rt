@@ -69,8 +69,8 @@
 //!
 //! A further application is a `WatchedApp` in `apps`, with its ways in `specs/Watched` and its
 //! reading in `watched`. A further key of the head is a rule in `specs/Head`, with its words in
-//! `specs/HeadKeys`. A further line is a definition in `specs/Lines` with its writer in `lines`, has
-//! its place in a text of `specs/Seen`, and is a kind of `Line` in `specs/Printed`.
+//! `specs/HeadKeys`. A further line is a definition in `specs/Lines` with its writer in `lines`; it
+//! has its place in a text of `specs/Seen`, and is a kind of `Line` in `specs/Printed`.
 #![tactic(auto)]
 
 mod apps;

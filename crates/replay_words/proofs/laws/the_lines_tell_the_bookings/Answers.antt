@@ -1,7 +1,7 @@
 use Rattle.std.proofs.Common.{refl}
 use Rattle.replay_words.specs.{bookings_of}
 use Rattle.replay_words.proofs.Ledgers.{lines, on_packets, on_run}
-use Rattle.replay_words.proofs.Printing.{on_packets as frames_print, on_capture}
+use Rattle.replay_words.proofs.Printing.{on_frames, on_capture}
 use Rattle.replay_words.proofs.laws.the_lines_tell_the_bookings.Goals as goal
 
 pub returns-clause-lines : goal.returns-clause-lines
@@ -18,7 +18,7 @@ returns-clause-ledger_at_the_end c = λ who ends s packets booking.
     (bookings_of who s.watched.streams.ways) refl
 
 pub returns-clause-frames : goal.returns-clause-frames
-returns-clause-frames c = λ caps ends s packets. frames_print caps ends packets s
+returns-clause-frames c = λ caps ends s packets. on_frames caps ends packets s
 
 pub returns-clause-print : goal.returns-clause-print
 returns-clause-print c = on_capture
