@@ -1,8 +1,8 @@
 """The links that tools/replays draws, each by a seed and its number.
 
 Two ends talk to each other over a link of all three applications, each with what it declares and with Registrars of its own, which
-take what comes over the link. Each says JoinIn or JoinMt by them, says anew what a LeaveAll asks of it, and withdraws with Lv. In
-some links
+take what comes over the link. Each says JoinIn or JoinMt by them, says anew what a LeaveAll asks of it, and withdraws with Lv,
+also, now and then, the old value of a Talker or a Domain beside the new one. In some links
 
     lost      PDUs don't arrive, or the capture lacks them
     forged    PDUs of no participant are there from an end's address, with any events of any keys in any order
@@ -12,7 +12,7 @@ some links
 """
 import struct
 
-from replays_observed import EVENTS, KINDS, Link, Talker, Way, other
+from replays_observed import EVENTS, KINDS, Link, Talker, Way, other, without_replaced
 
 ETHERTYPES = {"mvrp": 0x88F5, "msrp": 0x22EA, "mmrp": 0x88F6}
 GROUPS = {"mvrp": "0180c2000021", "msrp": "0180c200000e", "mmrp": "0180c2000020"}
@@ -224,7 +224,7 @@ class End:
     def __init__(self, app, name, leave_time):
         self.app, self.name = app, name
         self.heard = Way(app, other(name), leave_time)
-        self.declared, self.contents, self.to_say = {}, {}, {}
+        self.declared, self.contents, self.to_say, self.said = {}, {}, {}, {}
 
     def changes(self, draws):
         """Declares something, anew or otherwise, or withdraws it."""
@@ -252,16 +252,29 @@ class End:
     def events(self, draws):
         """What it says now; a key that it withdraws has the content that it declared last."""
         keys = draws.mixed(sorted(self.to_say)) if draws.one_in(2) else sorted(self.to_say)
-        said = [(self.word(draws, key) if key in self.declared else "lv", key, self.contents[key]) for key in keys]
+        said = [event for key in keys for event in self.events_of(draws, key)]
         self.to_say = {key: left - 1 for key, left in self.to_say.items() if left > 1 and key in self.declared}
         return said
+
+    def events_of(self, draws, key):
+        """What it says of a key: where a Talker's or a Domain's value is another than it said last, maybe an Lv of that too."""
+        if key not in self.declared:
+            self.said.pop(key, None)
+            return [("lv", key, self.contents[key])]
+        new, old = self.contents[key], self.said.get(key)
+        self.said[key] = new
+        joins = [(self.word(draws, key), key, new)]
+        if key[0] not in ("talker", "domain") or old in (None, new) or draws.one_in(3):
+            return joins
+        leaves = [("lv", key, old)]
+        return draws.one_of([leaves + joins, joins + leaves])
 
     def takes(self, at, leave_all, events):
         """Takes a PDU of the other end."""
         if leave_all:
             list(self.heard.leave_all(at))
             self.says_anew()
-        for event in events:
+        for event in without_replaced(events):
             list(self.heard.hears(at, *event))
 
 

@@ -65,12 +65,16 @@ def talkers_declared(events):
 
 
 def without_replaced(events):
-    """The events of a PDU without each Lv of a Talker of which it declares the other attribute: the stream goes from Failed to
-    Advertise, or back, and is told as what is declared."""
-    declared = talkers_declared(events)
+    """The events of a PDU without each Lv of a value of a Talker or a Domain of which it declares another: the value changes, and
+    is told as what is declared. A Listener's kind is no part of the attribute (35.2.2.7.2)."""
+    declared = {}
+    for event, key, content in events:
+        if event in JOINS:
+            declared.setdefault(key, []).append(content)
 
     def is_replaced(event, key, content):
-        return event == "lv" and key[0] == "talker" and (key[1], not content.failure) in declared
+        changes = any(other != content for other in declared.get(key, []))
+        return event == "lv" and key[0] in ("talker", "domain") and changes
 
     return [event for event in events if not is_replaced(*event)]
 

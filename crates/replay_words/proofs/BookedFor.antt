@@ -20,7 +20,7 @@ use Rattle.replay_words.specs.declared.booking.Booking.{Booking}
 use Rattle.replay_words.specs.{booking_cmp, booking_in, StreamWays, asked_by, standing_at, booked_at, row_booked, bookings_of, IsBookedFor}
 use Rattle.replay_words.proofs.Ledgers.{one_booking}
 
-one_key : (a b : MsrpKey) → same key_cmp a b ≡ true → a ≡ b
+pub one_key : (a b : MsrpKey) → same key_cmp a b ≡ true → a ≡ b
 one_key a b h = grind (arith, nat_tests)
 
 same_booking : (b : Booking) → is_eq (booking_cmp b b) ≡ true

@@ -28,7 +28,7 @@ use Rattle.registrar.specs.declared.RegEvent.TheVariants.{RxLeaveAll}
 use Rattle.registrar.specs.Table as registrar
 use Rattle.stream_importance.specs.declared.slope.Caps.{Caps}
 use Rattle.replay_words.specs.declared.{booking.Booking.Booking, ends.Ends.Ends}
-use Rattle.replay_words.specs.{booking_cmp, StreamWays, asked_by, booked_at, row_booked, bookings_of, dropped_line, booked_line, dropped_text, booked_text, has_new, caps_text, changes_text, stream_messages, end_at, Watched.Watched, watched_passing, watched_judged, after_vlans, after_streams, after_groups, after_octets, LinkSeen, moment_after, arrived, seen_arriving, seen_passing, all_passing, ending_by, seen_later, seen_at, after_said, seen_said, seen_from, seen_frame, after_packet, after_packets, Change, Change.Drops, Change.Books, change_line, after_change, after_changes, changes_to, ways_changes, arrived_changes, passed_changes, all_passed_changes, later_changes, changes_at, packets_changes}
+use Rattle.replay_words.specs.{booking_cmp, StreamWays, asked_by, booked_at, row_booked, bookings_of, dropped_line, booked_line, dropped_text, booked_text, has_new, caps_text, changes_text, stream_messages, end_at, Watched.Watched, watched_passing, watched_judged, after_vlans, after_streams, after_groups, after_octets, LinkSeen, moment_after, arrived, seen_arriving, seen_passing, all_passing, ending_by, seen_later, seen_at, after_said, seen_said, seen_from, seen_frame, after_packet, after_packets, Change, Change.Drops, Change.Books, change_line, after_change, after_changes, changes_to, ways_changes, arrived_changes, passed_changes, all_passed_changes, later_changes, changes_at, packets_changes, after_run, run_changes}
 
 -- ---- bookings that compare equal are one
 
@@ -385,3 +385,11 @@ module _ (marked : (k x : Booking) (set : List Booking) → is_awaiting booking_
   on_packets ends (p ∷ ps) s set is =
       ap (is_awaiting booking_cmp b) (fold-append after_change set (changes_at who (moment_after s.at p) s) (packets_changes who ends (after_packet ends s p) ps))
       ∙ on_packets ends ps (after_packet ends s p) (after_changes set (changes_at who (moment_after s.at p) s)) (on_packet ends p s set is)
+
+  -- and with what is on its way behind the last
+  pub on_run : (ends : Ends) (ps : List Packet) (s : LinkSeen) (set : List Booking) → Agrees marked cleared who b set s.watched.streams.ways
+      → Agrees marked cleared who b (after_changes set (run_changes ends s ps who)) (after_run ends s ps).watched.streams.ways
+  unfolding after_run
+  on_run ends ps s set is =
+      ap (is_awaiting booking_cmp b) (fold-append after_change set (packets_changes who ends s ps) (arrived_changes who (after_packets ends s ps)))
+      ∙ on_arrival marked cleared who b (after_changes set (packets_changes who ends s ps)) (after_packets ends s ps) (on_packets ends ps s set is)

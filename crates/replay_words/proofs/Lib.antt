@@ -2,9 +2,11 @@ pub mod BookedFor
 pub mod BookingLemmas
 pub mod CoreLinks
 pub mod CutLemmas
+pub mod Declaring
 pub mod Documents
 pub mod Joining
 pub mod Ledgers
 pub mod OneEach
+pub mod Printing
 pub mod Runs
 pub mod UpTo

@@ -1,18 +1,20 @@
--- Events of which each key has at most one, and each content is of its key: none of them declares a
--- stream anew as failed, and none withdraws a Talker that is declared.
+-- Events of which each key has at most one: none of them withdraws a key that another declares, and
+-- where each content is of its key none declares a Talker anew as failed.
 use Rattle.std.proofs.Common.{◌≡◌, ◌∙◌, ◌≤◌, Bool, true, false, not, if◌then◌else◌, List, [], ◌∷◌, ◌++◌, length, filter, refl, ap, sym, subst, arith, inl, inr}
 use Rattle.std.specs.Prelude.{◌⊎◌, ◌||◌, ◌&&◌, flat_map}
-use Rattle.std.specs.{Ordering.is_eq, List.AllByRecursion}
+use Rattle.std.specs.{Ordering.is_eq, List.AllByRecursion, List.list_any}
 use Rattle.std.proofs.lemmas.Bool.Decides.{nat_tests}
 use Rattle.srp_base.specs.declared.{numbers.StreamId.StreamId, streams.Talker.Talker, streams.Failure.Failure}
 use Rattle.attribute_propagation.specs.Dirty.{is_awaiting, all_marked}
+use Rattle.srp_base.specs.declared.mrp.MrpEvent.{MrpEvent}
+use Rattle.srp_base.specs.declared.mrp.MrpEvent.TheVariants.{New, JoinIn, OnlyIn, JoinMt, OnlyMt, Lv}
 use Rattle.mrp_participant.specs.{Lookup.same, Sending.is_leave}
 use Rattle.msrp.specs.Part.{key_cmp, stream_cmp}
 use Rattle.msrp_codec.specs.Content.{Belongs}
 use Rattle.msrp_codec.specs.declared.pdu.{MsrpKey.MsrpKey, MsrpContent.MsrpContent}
 use Rattle.msrp_codec.specs.declared.pdu.MsrpKey.TheVariants as keys
 use Rattle.msrp_codec.specs.declared.pdu.MsrpContent.TheVariants.{Advertise, Failed, Listener, Domain}
-use Rattle.replay_words.specs.{StreamEvent, is_declaring, advertised_by, advertised_in, advertised, is_failed_of, is_double, doubles_count, failed_by, failed_in, failed, is_other_declared, is_replaced, without_replaced}
+use Rattle.replay_words.specs.{StreamEvent, is_declaring, advertised_by, advertised_in, advertised, is_failed_of, is_double, doubles_count, has_value, declares_other, is_replaced, without_replaced}
 
 -- ---- lists
 
@@ -58,6 +60,21 @@ module _ {X : Type 0} where
   of_all P [] x many h = absurd h
   of_all P (y ∷ ys) x many (inl here) = subst P here many.0
   of_all P (y ∷ ys) x many (inr later) = of_all P ys x many.1 later
+
+  -- the one that passes a test
+  record Passes (p : X → Bool) (xs : List X) : Type 0 where
+    pub one : X
+    pub among : In one xs
+    pub test : p one ≡ true
+
+  passes_by : (p : X → Bool) (b : Bool) (x : X) (xs : List X) → p x ≡ b → (b || list_any p xs) ≡ true
+      → (list_any p xs ≡ true → Passes p xs) → Passes p (x ∷ xs)
+  passes_by p true x xs is h later = record { one = x; among = inl refl; test = is }
+  passes_by p false x xs is h later = let there = later h in record { one = there.one; among = inr there.among; test = there.test }
+
+  passes : (p : X → Bool) (xs : List X) → list_any p xs ≡ true → Passes p xs
+  passes p [] h = cc
+  passes p (x ∷ xs) h = passes_by p (p x) x xs refl h (passes p xs)
 
 -- what can't be true is false
 refuted : (b : Bool) → (b ≡ true → ⊥) → b ≡ false
@@ -153,21 +170,9 @@ advertises_by true key (Failed t failure) s h belongs = cc
 advertises_by true key (Listener kind) s h belongs = cc
 advertises_by true key (Domain priority vid) s h belongs = cc
 
-fails_by : (b : Bool) (key : MsrpKey) (content : MsrpContent) (s : StreamId)
-    → is_awaiting stream_cmp s (if b then failed_by content else []) ≡ true → Belongs key content → IsTalker s false key content
-fails_by false key content s h belongs = cc
-fails_by true key (Advertise t) s h belongs = cc
-fails_by true key (Failed t failure) s h belongs = talker_by key t.stream s (Failed t failure) false refl (key_of_failed key t failure belongs) h
-fails_by true key (Listener kind) s h belongs = cc
-fails_by true key (Domain priority vid) s h belongs = cc
-
 advertises : (e : StreamEvent) (s : StreamId) → is_awaiting stream_cmp s (advertised_in e) ≡ true → Belongs e.1 e.2 → IsTalker s true e.1 e.2
 unfolding advertised_in
 advertises e s h belongs = advertises_by (is_declaring e.0) e.1 e.2 s h belongs
-
-fails : (e : StreamEvent) (s : StreamId) → is_awaiting stream_cmp s (failed_in e) ≡ true → Belongs e.1 e.2 → IsTalker s false e.1 e.2
-unfolding failed_in
-fails e s h belongs = fails_by (is_declaring e.0) e.1 e.2 s h belongs
 
 -- ---- events of which each key has at most one
 
@@ -177,12 +182,34 @@ IsOnce events = (k : MsrpKey) → length (filter (λ e. same key_cmp e.1 k) even
 abbrev pub AreOwn : List StreamEvent → Type 0
 AreOwn events = AllByRecursion (λ e. Belongs e.1 e.2) events
 
+of_key : (k : MsrpKey) (e : StreamEvent) → e.1 ≡ k → same key_cmp e.1 k ≡ true
+of_key k e is = ap (λ (x : MsrpKey). same key_cmp x k) is ∙ same_key k
+
+-- no event both withdraws and declares
+not_both : (event : MrpEvent) → is_leave event ≡ true → is_declaring event ≡ true → ⊥
+not_both New leaves declares = cc
+not_both JoinIn leaves declares = cc
+not_both OnlyIn leaves declares = cc
+not_both JoinMt leaves declares = cc
+not_both OnlyMt leaves declares = cc
+not_both Lv leaves declares = cc
+
+-- none withdraws a value of which another is declared
+kept_in : (events : List StreamEvent) → IsOnce events → (e : StreamEvent) → In e events → is_replaced events e ≡ true → ⊥
+unfolding is_replaced
+kept_in events once e here h =
+    let leaves = and_first (is_leave e.0) _ h in
+    let found = passes (declares_other e.1 e.2) events (and_second (has_value e.1) _ (and_second (is_leave e.0) _ h)) in
+    let f = found.one in
+    let of_it = and_first (same key_cmp f.1 e.1) _ (and_second (is_declaring f.0) _ found.test) in
+    let one : e ≡ f = only_one (filter (λ x. same key_cmp x.1 e.1) events) e f (once e.1)
+    (in_filter (λ x. same key_cmp x.1 e.1) events e (same_key e.1) here)
+    (in_filter (λ x. same key_cmp x.1 e.1) events f of_it found.among) in
+    not_both f.0 (ap (λ (x : StreamEvent). is_leave x.0) (sym one) ∙ leaves) (and_first (is_declaring f.0) _ found.test)
+
 module _ (all : (k : StreamId) (more streams : List StreamId)
     → is_awaiting stream_cmp k (all_marked stream_cmp more streams) ≡ (is_awaiting stream_cmp k more || is_awaiting stream_cmp k streams))
     (events : List StreamEvent) (once : IsOnce events) (own : AreOwn events) where
-  of_key : (k : MsrpKey) (e : StreamEvent) → e.1 ≡ k → same key_cmp e.1 k ≡ true
-  of_key k e is = ap (λ (x : MsrpKey). same key_cmp x k) is ∙ same_key k
-
   one_event : (k : MsrpKey) (e f : StreamEvent) → In e events → In f events → e.1 ≡ k → f.1 ≡ k → e ≡ f
   one_event k e f there here one other =
       only_one (filter (λ x. same key_cmp x.1 k) events) e f (once k) (in_filter (λ x. same key_cmp x.1 k) events e (of_key k e one) there)
@@ -207,35 +234,18 @@ module _ (all : (k : StreamId) (more streams : List StreamId)
       (advertises found.event t.stream found.gives (of_all (λ e. Belongs e.1 e.2) events found.event own found.among))
       (record { key_is = key_of_failed f.1 t failure belongs; content_is = ap is_advertise is })
 
-  not_failed : (e : StreamEvent) (t : Talker) → In e events → e.2 ≡ Advertise t
-      → is_awaiting stream_cmp t.stream (failed events) ≡ true → ⊥
-  not_failed e t there is h =
-      let found = from failed_in t.stream events (or_nothing _ (sym (all t.stream (flat_map failed_in events) []) ∙ h)) in
-      let belongs = subst (Belongs e.1) is (of_all (λ e. Belongs e.1 e.2) events e own there) in
-      clash t.stream e found.event there found.among
-      (record { key_is = key_of_advertise e.1 t belongs; content_is = ap is_advertise is })
-      (fails found.event t.stream found.gives (of_all (λ e. Belongs e.1 e.2) events found.event own found.among))
-
   not_failed_of : (f : StreamEvent) (content : MsrpContent) → In f events → f.2 ≡ content → is_failed_of (advertised events) content ≡ true → ⊥
   not_failed_of f (Advertise t) here is h = cc
   not_failed_of f (Failed t failure) here is h = not_advertised f t failure here is h
   not_failed_of f (Listener kind) here is h = cc
   not_failed_of f (Domain priority vid) here is h = cc
 
-  none_other : (e : StreamEvent) (content : MsrpContent) → In e events → e.2 ≡ content
-      → is_other_declared (advertised events) (failed events) content ≡ true → ⊥
-  none_other e (Advertise t) here is h = not_failed e t here is h
-  none_other e (Failed t failure) here is h = not_advertised e t failure here is h
-  none_other e (Listener kind) here is h = cc
-  none_other e (Domain priority vid) here is h = cc
-
   not_double : (e : StreamEvent) → In e events → is_double (advertised events) e ≡ false
   unfolding is_double
   not_double e here = refuted _ (λ h. not_failed_of e e.2 here refl (and_second (is_declaring e.0) _ h))
 
-  not_replaced : (e : StreamEvent) → In e events → not (is_replaced (advertised events) (failed events) e) ≡ true
-  unfolding is_replaced
-  not_replaced e here = ap not (refuted _ (λ h. none_other e e.2 here refl (and_second (is_leave e.0) _ h)))
+  not_replaced : (e : StreamEvent) → In e events → not (is_replaced events e) ≡ true
+  not_replaced e here = ap not (refuted _ (kept_in events once e here))
 
   -- none is counted
   pub no_doubles : doubles_count events ≡ 0
@@ -245,4 +255,4 @@ module _ (all : (k : StreamId) (more streams : List StreamId)
   -- all are left
   pub all_left : without_replaced events ≡ events
   unfolding without_replaced
-  all_left = all_pass (λ e. not (is_replaced (advertised events) (failed events) e)) events not_replaced
+  all_left = all_pass (λ e. not (is_replaced events e)) events not_replaced

@@ -32,7 +32,7 @@ no_text _ = []
 abbrev pub vlan_messages : MvrpPdu → Messages ℕ (Unit {0})
 vlan_messages pdu = record { leave_all = pdu.leave_all; events = said_events pdu.events }
 
--- of MSRP: of a Talker that goes from one attribute to the other what it declares
+-- of MSRP: of a value that changes what it declares
 abbrev pub stream_messages : MsrpPdu → Messages MsrpKey MsrpContent
 stream_messages pdu = record { leave_all = pdu.leave_all; events = without_replaced pdu.events }
 

@@ -12,6 +12,7 @@ pub mod Bookings
 pub mod Seen
 pub mod Replay
 pub mod Changes
+pub mod Printed
 pub mod CoreLink
 unfoldable pub use Cut.*
 pub use Document.*
@@ -27,4 +28,5 @@ unfoldable pub use Bookings.*
 unfoldable pub use Seen.*
 unfoldable pub use Replay.*
 pub use Changes.*
+pub use Printed.*
 pub use CoreLink.*

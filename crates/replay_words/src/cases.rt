@@ -40,6 +40,21 @@ const FAILS_NO_MORE: &[u8] = &[
     0, 0, 0, 0,
 ];
 
+// JoinMt of a Talker Advertise of that stream with two frames an interval, and behind it Lv of the
+// one with one, in one PDU.
+const ASKS_FOR_MORE: &[u8] = &[
+    0, 1, 25, 0, 58, 0, 1, 2, 0, 0, 0, 0, 1, 0, 1, 0x91, 0xe0, 0xf0, 0, 0x0e, 0x80, 0, 2, 0, 224,
+    0, 2, 0x70, 0, 0, 0, 0, 0x6c, 0, 1, 2, 0, 0, 0, 0, 1, 0, 1, 0x91, 0xe0, 0xf0, 0, 0x0e, 0x80, 0,
+    2, 0, 224, 0, 1, 0x70, 0, 0, 0, 0, 0xb4, 0, 0, 0, 0,
+];
+
+// JoinMt of a Domain: class 6 of priority 3 in VLAN 2; and one PDU that moves it to VLAN 7.
+const DOMAIN: &[u8] = &[0, 4, 4, 0, 9, 0, 1, 6, 3, 0, 2, 0x6c, 0, 0, 0, 0];
+
+const DOMAIN_MOVES: &[u8] = &[
+    0, 4, 4, 0, 16, 0, 1, 6, 3, 0, 7, 0x6c, 0, 1, 6, 3, 0, 2, 0xb4, 0, 0, 0, 0,
+];
+
 // JoinMt and Lv of a Listener Ready of that stream.
 const READY: &[u8] = &[
     0, 3, 8, 0, 14, 0, 1, 2, 0, 0, 0, 0, 1, 0, 1, 0x6c, 0x80, 0, 0, 0, 0,
@@ -170,5 +185,29 @@ fn a_talker_that_fails_no_more_stands(rt: HostRuntime) {
                 91e0f0000e80 vid 2 octets 224 frames 1 priority 3 rank 1 latency 0\n\
                 2.01 a>b talker 0200000000010001 IN advertise dest 91e0f0000e80 vid 2 octets 224 \
                 frames 1 priority 3 rank 1 latency 0\nowed 0\nbroken 0\nframes 2 other 0\n";
+    assert!(rt; shows(rt.alloc(), &frames, text));
+}
+
+#[test]
+fn a_talker_that_asks_for_more_stands(rt: HostRuntime) {
+    let frames = [
+        (100, 1, AppForm::Msrp, ADVERTISE),
+        (200, 1, AppForm::Msrp, ASKS_FOR_MORE),
+    ];
+    let text = "1.01 a>b talker 0200000000010001 IN advertise dest 91e0f0000e80 vid 2 octets 224 \
+                frames 1 priority 3 rank 1 latency 0\n\
+                2.01 a>b talker 0200000000010001 IN advertise dest 91e0f0000e80 vid 2 octets 224 \
+                frames 2 priority 3 rank 1 latency 0\nowed 0\nbroken 0\nframes 2 other 0\n";
+    assert!(rt; shows(rt.alloc(), &frames, text));
+}
+
+#[test]
+fn a_domain_that_moves_stands(rt: HostRuntime) {
+    let frames = [
+        (100, 1, AppForm::Msrp, DOMAIN),
+        (200, 1, AppForm::Msrp, DOMAIN_MOVES),
+    ];
+    let text = "1.01 a>b domain 6 IN priority 3 vid 2\n2.01 a>b domain 6 IN priority 3 vid 7\n\
+                owed 0\nbroken 0\nframes 2 other 0\n";
     assert!(rt; shows(rt.alloc(), &frames, text));
 }

@@ -10,6 +10,7 @@ ghost use Rattle.replay_words.specs.Bookings.{StreamWays, booking_cmp, bookings_
 ghost use Rattle.replay_words.specs.Changes.{IsBookedFor, change_line, after_changes, changes_to, packets_changes};
 ghost use Rattle.replay_words.specs.CoreLink.{Pairs, LinkTick, HaveSaidNothing, AreCaptured, frames_of, HasNoBrokenWords, PrintsNoneBroken};
 ghost use Rattle.replay_words.specs.Ends.{ends_of};
+ghost use Rattle.replay_words.specs.Printed.{PrintsChanges, run_changes};
 ghost use Rattle.replay_words.specs.Replay.{after_run, capture_text};
 ghost use Rattle.replay_words.specs.Seen.{LinkSeen, new_seen, after_packet, after_packets, packets_text};
 
@@ -97,9 +98,11 @@ pub fn what_is_booked_stands()
 }
 
 /// The lines `booked` and `dropped` tell what is booked: in a text of changes they are those of
-/// what is gone and of what is new, in front of the caps that are passed. Who begins with what is
-/// booked at a port, and keeps a ledger by these lines of a replay, has behind every frame exactly
-/// what is booked there.
+/// what is gone and of what is new, in front of the caps that are passed. All that is printed is
+/// lines, of which those of a port's bookings tell just its changes, in order: of frames, and of a
+/// whole capture those too that come with what is on its way behind the last frame. Who begins with
+/// what is booked at a port, and keeps a ledger by these lines, has behind every frame and at the
+/// end exactly what is booked there.
 pub fn the_lines_tell_the_bookings()
     ensures lines { (at : Cs) (who : End) (caps : Caps) (before after : List Booking)
         → changes_text at who caps before after
@@ -111,6 +114,18 @@ pub fn the_lines_tell_the_bookings()
         (packets_changes who ends s packets))
         ≡ is_awaiting booking_cmp booking
         (bookings_of who (after_packets ends s packets).watched.streams.ways) }
+    ensures ledger_at_the_end { (who : End) (ends : Ends) (s : LinkSeen) (packets : List Packet)
+        (booking : Booking)
+        → is_awaiting booking_cmp booking (after_changes (bookings_of who s.watched.streams.ways)
+        (run_changes ends s packets who))
+        ≡ is_awaiting booking_cmp booking
+        (bookings_of who (after_run ends s packets).watched.streams.ways) }
+    ensures frames { (caps : Caps) (ends : Ends) (s : LinkSeen) (packets : List Packet)
+        → PrintsChanges (packets_text caps ends s packets)
+        (λ who. packets_changes who ends s packets) }
+    ensures print { (head : Head) (packets : List Packet) (broken_off : Option ℕ)
+        → PrintsChanges (capture_text head (Ok (packets, broken_off)))
+        (run_changes (ends_of head.ends packets) (new_seen head.leave_time) packets) }
 {
     each_key_awaits::<Booking>();
 }

@@ -62,14 +62,15 @@
 //! standard have booked (law `what_is_booked_stands`), as the lines tell it frame by frame
 //! (`the_lines_tell_the_bookings`). Where that passes a cap, an end granted more than it may.
 //!
-//! A Talker that goes from Failed to Advertise, or back, in one PDU is told as what that declares
-//! (`specs/Replaced`). What two nodes of this project say over a link, with nothing lost, is never
-//! broken: `what_this_core_sends_is_never_broken`, of the link and its capture in `specs/CoreLink`.
+//! A Talker or a Domain whose value changes in one PDU, a Talker from Failed to Advertise too, is
+//! told as what that declares (`specs/Replaced`). What two nodes of this project say over a link,
+//! with nothing lost, is never broken: `what_this_core_sends_is_never_broken`, of the link and its
+//! capture in `specs/CoreLink`.
 //!
 //! A further application is a `WatchedApp` in `apps`, with its ways in `specs/Watched` and its
 //! reading in `watched`. A further key of the head is a rule in `specs/Head`, with its words in
-//! `specs/HeadKeys`. A further line is a definition in `specs/Lines` with its writer in `lines`, and
-//! has its place in a text of `specs/Seen`.
+//! `specs/HeadKeys`. A further line is a definition in `specs/Lines` with its writer in `lines`; it
+//! has its place in a text of `specs/Seen`, and is a kind of `Line` in `specs/Printed`.
 #![tactic(auto)]
 
 mod apps;
