@@ -12,7 +12,7 @@ use Rattle.link_replay.specs.declared.lines.End.TheVariants.{A, B}
 use Rattle.link_replay.specs.Ticks.{Ask.Declares, Ask.Withdraws}
 use Rattle.link_replay.specs.Standing.{Standing, standing, passing}
 use Rattle.link_replay.proofs.Timers.{none_later, in_set, known_later, known_begun, known_said, known_passed, stands_at, due_a, due_b, due_holds, due_time, fires_again}
-use Rattle.link_replay.specs.{cs_cmp, new_way, link_passing, link_judged, unseen, Replayed, all_passing, arrived, going_by, both_saying, moments_to, is_quiet, said_at, said_after, replayed_after, broken_then, replay_broken, AreTicksFrom, new_pair, Observer.Sight.Comes, Observer.Sight.Goes, Observer.Sight.Passes, seen_state, IsObserved, observer_after, other_end, WayState, Ways, way_of, passing_way, begun_way, said_way, ways_saying, LinkState, doubted, link_saying, all_arriving, link_arriving, link_broken, Ask, Asks, Tick, Pair, asked, took, ready, sent_in_tick, after_tick, IsInEitherOrder, ready_a, ready_b, sent_by_a, sent_by_b, IsSentByBoth, pair_after, told_ready, all_saying, told_after, run_after, run_broken, IsTold, ReadsWhatIsWritten, AreFresh, sent_read, IsKnownUpTo, AreMoments, Lags, Follows}
+use Rattle.link_replay.specs.{cs_cmp, new_way, link_passing, link_judged, unseen, Replayed, all_passing, arrived, going_by, both_saying, moments_to, is_quiet, said_at, said_after, replayed_after, broken_then, replay_broken, AreTicksFrom, new_pair, Observer.Sight.Comes, Observer.Sight.Goes, Observer.Sight.Passes, seen_state, IsObserved, observer_after, other_end, WayState, Ways, way_of, passing_way, begun_way, said_way, ways_saying, LinkState, doubted, link_saying, all_arriving, link_arriving, link_broken, Ask, Asks, Tick, Pair, asked, took, ready, IsInEitherOrder, ready_a, ready_b, sent_by_a, sent_by_b, IsSentByBoth, pair_after, told_ready, all_saying, told_after, run_after, run_broken, IsTold, ReadsWhatIsWritten, AreFresh, sent_read, IsKnownUpTo, AreMoments, Lags, Follows}
 
 -- ---- new participants, and no word that is kept
 

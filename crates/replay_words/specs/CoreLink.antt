@@ -2,13 +2,12 @@
 -- application of MRP, which go by ticks, one in each hundredth of a second (link_replay), in which
 -- they send or wait, as nodes do that send in every twentieth; and the frames that were captured in
 -- them.
-use Rattle.std.specs.Prelude.{◌≡◌, ℕ, ◌/◌, Bool, true, false, nat_lt, List, [], ◌∷◌, ◌++◌, map, flat_map, length, Option, Some, None, Result, Ok, Err}
-use Rattle.std.specs.{declared.cmp.Ordering.Ordering, Ordering.nat_cmp, List.AllByRecursion}
+use Rattle.std.specs.Prelude.{◌≡◌, ℕ, ◌/◌, Bool, true, false, nat_lt, List, [], ◌∷◌, ◌++◌, flat_map, length, Option, Some, None, Result, Ok, Err}
+use Rattle.std.specs.{Ordering.nat_cmp, List.AllByRecursion}
 use Rattle.srp_base.specs.declared.{numbers.Cs.Cs, mrp.MrpEvent.MrpEvent}
 use Rattle.capture_file.specs.Packets.{Packet}
 use Rattle.flat_side.specs.Part.{same_content as same_nothing}
 use Rattle.link_replay.specs.declared.lines.End.{End}
-use Rattle.link_replay.specs.declared.lines.End.TheVariants as at_end
 use Rattle.link_replay.specs.{Ticks.Asks, Ticks.Tick, Ticks.Pair, Ticks.AreFresh, Ticks.IsSentByBoth, Ticks.pair_after, Ticks.next_moment}
 use Rattle.mmrp_codec.specs.{Meaning.mmrp_reading, declared.pdu.GroupPdu.GroupPdu}
 use Rattle.mrp_frames.specs.Frames.{Seen, frame_in}
