@@ -1,5 +1,5 @@
 -- What is told of a link between two participants that go by ticks.
-use Rattle.std.proofs.Common.{◌≡◌, ◌∙◌, ◌≤◌, ℕ, ◌+◌, Bool, true, false, if◌then◌else◌, nat_le, List, [], ◌∷◌, ◌++◌, map, fold, Contains, refl, ap, sym, subst, append-nil, arith}
+use Rattle.std.proofs.Common.{◌≡◌, ◌∙◌, ◌≤◌, ℕ, ◌+◌, Bool, true, false, if◌then◌else◌, nat_le, List, [], ◌∷◌, ◌++◌, map, fold, Contains, inl, inr, refl, ap, sym, subst, append-nil, arith}
 use Rattle.std.specs.Prelude.{option_map, option_and_then, not, ◌||◌, ◌&&◌}
 use Rattle.std.specs.{declared.cmp.Ordering.Ordering, Ordering.is_eq, List.AllByRecursion}
 use Rattle.srp_base.specs.declared.{numbers.Cs.Cs, mrp.MrpEvent.MrpEvent}
@@ -12,7 +12,7 @@ use Rattle.link_replay.specs.declared.lines.End.TheVariants.{A, B}
 use Rattle.link_replay.specs.Ticks.{Ask.Declares, Ask.Withdraws}
 use Rattle.link_replay.specs.Standing.{Standing, standing, passing}
 use Rattle.link_replay.proofs.Timers.{none_later, in_set, known_later, known_begun, known_said, known_passed, stands_at, due_a, due_b, due_holds, due_time, fires_again}
-use Rattle.link_replay.specs.{cs_cmp, new_way, link_passing, link_judged, unseen, Replayed, all_passing, arrived, going_by, moments_to, is_quiet, said_by, said_after, replayed_after, broken_then, replay_broken, AreTicksFrom, new_pair, Observer.Sight.Comes, Observer.Sight.Goes, Observer.Sight.Passes, seen_state, IsObserved, observer_after, other_end, WayState, Ways, way_of, passing_way, begun_way, said_way, ways_saying, LinkState, doubted, link_saying, all_arriving, link_arriving, link_broken, Ask, Asks, Tick, Pair, asked, took, ready, sent_in_tick, after_tick, ready_a, ready_b, pair_after, told_ready, all_saying, told_after, run_after, run_broken, IsTold, ReadsWhatIsWritten, AreFresh, sent_read, IsKnownUpTo, AreMoments, Lags, Follows}
+use Rattle.link_replay.specs.{cs_cmp, new_way, link_passing, link_judged, unseen, Replayed, all_passing, arrived, going_by, both_saying, moments_to, is_quiet, said_at, said_after, replayed_after, broken_then, replay_broken, AreTicksFrom, new_pair, Observer.Sight.Comes, Observer.Sight.Goes, Observer.Sight.Passes, seen_state, IsObserved, observer_after, other_end, WayState, Ways, way_of, passing_way, begun_way, said_way, ways_saying, LinkState, doubted, link_saying, all_arriving, link_arriving, link_broken, Ask, Asks, Tick, Pair, asked, took, ready, IsInEitherOrder, ready_a, ready_b, sent_by_a, sent_by_b, IsSentByBoth, pair_after, told_ready, all_saying, told_after, run_after, run_broken, IsTold, ReadsWhatIsWritten, AreFresh, sent_read, IsKnownUpTo, AreMoments, Lags, Follows}
 
 -- ---- new participants, and no word that is kept
 
@@ -155,25 +155,30 @@ module _ {K C : Type 0} (base : ℕ) (octets : C → ℕ) (cmp : K → K → Ord
     arrive_a at [] w rest = refl
     arrive_a at (m ∷ ms) w rest = arrive_a at ms (record w { from_a = said_way cmp at m w.from_a }) rest
 
-    arrive_b : (at : Cs) (ms : List (Messages K C)) (w : Ways K C)
-        → all_arriving cmp at w (map (λ m. (B, m)) ms) ≡ record w { from_b = all_said at w.from_b ms }
-    arrive_b at [] w = refl
-    arrive_b at (m ∷ ms) w = arrive_b at ms (record w { from_b = said_way cmp at m w.from_b })
+    arrive_b : (at : Cs) (ms : List (Messages K C)) (w : Ways K C) (rest : List (End × Messages K C))
+        → all_arriving cmp at w (map (λ m. (B, m)) ms ++ rest) ≡ all_arriving cmp at (record w { from_b = all_said at w.from_b ms }) rest
+    arrive_b at [] w rest = refl
+    arrive_b at (m ∷ ms) w rest = arrive_b at ms (record w { from_b = said_way cmp at m w.from_b }) rest
 
-    -- what was on its way has arrived
+    -- what was on its way has arrived, whichever was said first
     arrives : (at : Cs) (l : LinkState K C) (from_a from_b : List (Messages K C))
-        → l.on_way ≡ map (λ m. (A, m)) from_a ++ map (λ m. (B, m)) from_b
+        → IsInEitherOrder (map (λ m. (A, m)) from_a) (map (λ m. (B, m)) from_b) l.on_way
         → all_arriving cmp at l.ways l.on_way
         ≡ record { from_a = all_said at l.ways.from_a from_a; from_b = all_said at l.ways.from_b from_b }
-    arrives at l from_a from_b is =
+    arrives at l from_a from_b (inl is) =
+        let w = record l.ways { from_a = all_said at l.ways.from_a from_a } in
         ap (all_arriving cmp at l.ways) is ∙ arrive_a at from_a l.ways (map (λ m. (B, m)) from_b)
-        ∙ arrive_b at from_b (record l.ways { from_a = all_said at l.ways.from_a from_a })
+        ∙ ap (all_arriving cmp at w) (sym (append-nil (map (λ m. (B, m)) from_b))) ∙ arrive_b at from_b w []
+    arrives at l from_a from_b (inr is) =
+        let w = record l.ways { from_b = all_said at l.ways.from_b from_b } in
+        ap (all_arriving cmp at l.ways) is ∙ arrive_b at from_b l.ways (map (λ m. (A, m)) from_a)
+        ∙ ap (all_arriving cmp at w) (sym (append-nil (map (λ m. (A, m)) from_a))) ∙ arrive_a at from_a w []
 
     gets_ready : (t : Tick K C) (p : Pair K C) (l : LinkState K C)
         → Told l p.a p.b (map (λ m. (A, m)) p.from_a ++ map (λ m. (B, m)) p.from_b)
         → Told (told_ready base octets cmp eq read t.at l) (ready_a base octets cmp eq read t p) (ready_b base octets cmp eq read t p) []
     gets_ready t p l told =
-        let here = arrives t.at l p.from_a p.from_b told.on_way in
+        let here = arrives t.at l p.from_a p.from_b (inl told.on_way) in
         record {
           at_a = subst (λ (o : State K C). Both (due_state t.at o) (ready_a base octets cmp eq read t p))
               (sym (ap (λ (w : Ways K C). w.from_b.observer) here ∙ all_come t.at p.from_b l.ways.from_b))
@@ -226,6 +231,18 @@ module _ {K C : Type 0} (base : ℕ) (octets : C → ℕ) (cmp : K → K → Ord
         (on ++ map (λ m. (B, m)) (if silent then [] else sent_read base octets cmp eq read at b ∷ []))
     says_b sends true at l a b on is told = subst (Told l a b) (sym (append-nil on)) told
     says_b sends false at l a b on is told = one_from_b at l a b on (speaks sends b is) told
+
+    -- an end says something, and then the other
+    one_says : (at : Cs) (who : End) (ms : List (Messages K C)) (l : LinkState K C)
+        → both_saying cmp at l (map (λ m. (who, m)) ms) ≡ all_saying base octets cmp eq read at who l ms
+    one_says at who [] l = refl
+    one_says at who (m ∷ ms) l = one_says at who ms (link_saying cmp at who m l)
+
+    both_say : (at : Cs) (who other : End) (ms ns : List (Messages K C)) (l : LinkState K C)
+        → both_saying cmp at l (map (λ m. (who, m)) ms ++ map (λ m. (other, m)) ns)
+        ≡ all_saying base octets cmp eq read at other (all_saying base octets cmp eq read at who l ms) ns
+    both_say at who other [] ns l = one_says at other ns l
+    both_say at who other (m ∷ ms) ns l = both_say at who other ms ns (link_saying cmp at who m l)
 
     -- a tick
     ticks_on : (t : Tick K C) (p : Pair K C) (l : LinkState K C) → IsTold cmp (p, l)
@@ -463,36 +480,87 @@ module _ {K C : Type 0} (base : ℕ) (octets : C → ℕ) (cmp : K → K → Ord
       quietly false true t p r is follows = cc
       quietly false false t p r is follows = cc
 
-      -- one to which time goes on
-      pub loudly : (t : Tick K C) (p : Pair K C) (r : Replayed K C) (moments : List Cs) → Follows base octets cmp eq read t.at p r → AreMoments cmp t.at r moments
-          → Follows base octets cmp eq read (record { 0 = t.at.0 + 1 }) (pair_after base octets cmp eq read p t) (said_by base octets cmp eq read moments p r t)
-      loudly t p r moments follows are =
+      -- a link once both ends have said what they send in a tick, whichever was first
+      record HaveSaid (t : Tick K C) (p : Pair K C) (l new : LinkState K C) : Type 0 where
+        pub on : List (End × Messages K C)
+        pub told : Told new (pair_after base octets cmp eq read p t).a (pair_after base octets cmp eq read p t).b on
+        pub order : IsSentByBoth base octets cmp eq read t p on
+        pub from_a : new.ways.from_a ≡ all_begun t.at l.ways.from_a (pair_after base octets cmp eq read p t).from_b
+        pub from_b : new.ways.from_b ≡ all_begun t.at l.ways.from_b (pair_after base octets cmp eq read p t).from_a
+
+      a_first : (t : Tick K C) (p : Pair K C) (l : LinkState K C)
+          → Told l (ready_a base octets cmp eq read t p) (ready_b base octets cmp eq read t p) []
+          → HaveSaid t p l (all_saying base octets cmp eq read t.at B
+          (all_saying base octets cmp eq read t.at A l (pair_after base octets cmp eq read p t).from_a) (pair_after base octets cmp eq read p t).from_b)
+      a_first t p l told =
           let a = ready_a base octets cmp eq read t p in
           let b = ready_b base octets cmp eq read t p in
+          let after = pair_after base octets cmp eq read p t in
+          let mid = all_saying base octets cmp eq read t.at A l after.from_a in
+          let one = says_a t.asks_a.sends (not t.asks_a.sends || is_silent a) t.at l a b [] refl told in
+          record {
+            on = sent_by_a base octets cmp eq read t p ++ sent_by_b base octets cmp eq read t p;
+            told = says_b t.asks_b.sends (not t.asks_b.sends || is_silent b) t.at mid _ b _ refl one;
+            order = inl refl;
+            from_a = b_says_a t.at after.from_b mid ∙ ap (λ (way : WayState K C). all_begun t.at way after.from_b) (a_says_a t.at after.from_a l);
+            from_b = b_says_b t.at after.from_b mid ∙ a_says_b t.at after.from_a l;
+          }
+
+      b_first : (t : Tick K C) (p : Pair K C) (l : LinkState K C)
+          → Told l (ready_a base octets cmp eq read t p) (ready_b base octets cmp eq read t p) []
+          → HaveSaid t p l (all_saying base octets cmp eq read t.at A
+          (all_saying base octets cmp eq read t.at B l (pair_after base octets cmp eq read p t).from_b) (pair_after base octets cmp eq read p t).from_a)
+      b_first t p l told =
+          let a = ready_a base octets cmp eq read t p in
+          let b = ready_b base octets cmp eq read t p in
+          let after = pair_after base octets cmp eq read p t in
+          let mid = all_saying base octets cmp eq read t.at B l after.from_b in
+          let one = says_b t.asks_b.sends (not t.asks_b.sends || is_silent b) t.at l a b [] refl told in
+          record {
+            on = sent_by_b base octets cmp eq read t p ++ sent_by_a base octets cmp eq read t p;
+            told = says_a t.asks_a.sends (not t.asks_a.sends || is_silent a) t.at mid a _ _ refl one;
+            order = inr refl;
+            from_a = a_says_a t.at after.from_a mid ∙ b_says_a t.at after.from_b l;
+            from_b = a_says_b t.at after.from_a mid ∙ ap (λ (way : WayState K C). all_begun t.at way after.from_a) (b_says_b t.at after.from_b l);
+          }
+
+      have_said : (t : Tick K C) (p : Pair K C) (l : LinkState K C) (said : List (End × Messages K C))
+          → Told l (ready_a base octets cmp eq read t p) (ready_b base octets cmp eq read t p) []
+          → IsSentByBoth base octets cmp eq read t p said → HaveSaid t p l (both_saying cmp t.at l said)
+      have_said t p l said told (inl is) =
+          let after = pair_after base octets cmp eq read p t in
+          subst (HaveSaid t p l) (sym (ap (both_saying cmp t.at l) is ∙ both_say t.at A B after.from_a after.from_b l)) (a_first t p l told)
+      have_said t p l said told (inr is) =
+          let after = pair_after base octets cmp eq read p t in
+          subst (HaveSaid t p l) (sym (ap (both_saying cmp t.at l) is ∙ both_say t.at B A after.from_b after.from_a l)) (b_first t p l told)
+
+      -- one to which time goes on
+      pub loudly : (t : Tick K C) (p : Pair K C) (r : Replayed K C) (moments : List Cs) (said : List (End × Messages K C))
+          → Follows base octets cmp eq read t.at p r → AreMoments cmp t.at r moments → IsSentByBoth base octets cmp eq read t p said
+          → Follows base octets cmp eq read (record { 0 = t.at.0 + 1 }) (pair_after base octets cmp eq read p t) (said_at cmp t.at moments said r)
+      loudly t p r moments said follows are sent =
           let next : Cs = record { 0 = t.at.0 + 1 } in
           let here = link_judged (arrived cmp r) in
           let l = going_by cmp moments r in
-          let sent_a = sent_in_tick base octets cmp eq read t.at t.asks_a.sends a in
-          let sent_b = sent_in_tick base octets cmp eq read t.at t.asks_b.sends b in
-          let l_a = all_saying base octets cmp eq read t.at A l sent_a in
-          let l_b = all_saying base octets cmp eq read t.at B l_a sent_b in
-          let first = says_a t.asks_a.sends (not t.asks_a.sends || is_silent a) t.at l a b [] refl (caught_up t p r moments follows are) in
-          let told = says_b t.asks_b.sends (not t.asks_b.sends || is_silent b) t.at l_a _ b _ refl first in
-          let known_a : IsKnownUpTo cmp t.at l_b.ways.from_a =
-          subst (IsKnownUpTo cmp t.at) (sym (b_says_a t.at sent_b l_a ∙ ap (λ (way : WayState K C). all_begun t.at way sent_b) (a_says_a t.at sent_a l ∙ passing_a moments here)))
-          (known_all_begun t.at sent_b _ (known_passed cmp marked all receive receive_rows due due_rows moments t.at here.ways.from_a are.low follows.at_b.known)) in
-          let known_b : IsKnownUpTo cmp t.at l_b.ways.from_b =
-          subst (IsKnownUpTo cmp t.at) (sym (b_says_b t.at sent_b l_a ∙ a_says_b t.at sent_a l ∙ ap (λ (way : WayState K C). all_begun t.at way sent_a) (passing_b moments here)))
-          (known_all_begun t.at sent_a _ (known_passed cmp marked all receive receive_rows due due_rows moments t.at here.ways.from_b are.low follows.at_a.known)) in
-          let there = arrives next l_b sent_a sent_b told.on_way in
+          let after = pair_after base octets cmp eq read p t in
+          let new = both_saying cmp t.at l said in
+          let have = have_said t p l said (caught_up t p r moments follows are) sent in
+          let known_a : IsKnownUpTo cmp t.at new.ways.from_a =
+          subst (IsKnownUpTo cmp t.at) (sym (have.from_a ∙ ap (λ (way : WayState K C). all_begun t.at way after.from_b) (passing_a moments here)))
+          (known_all_begun t.at after.from_b _ (known_passed cmp marked all receive receive_rows due due_rows moments t.at here.ways.from_a are.low follows.at_b.known)) in
+          let known_b : IsKnownUpTo cmp t.at new.ways.from_b =
+          subst (IsKnownUpTo cmp t.at) (sym (have.from_b ∙ ap (λ (way : WayState K C). all_begun t.at way after.from_a) (passing_b moments here)))
+          (known_all_begun t.at after.from_a _ (known_passed cmp marked all receive receive_rows due due_rows moments t.at here.ways.from_b are.low follows.at_a.known)) in
+          let there = arrives next new after.from_a after.from_b
+          (subst (IsSentByBoth base octets cmp eq read t p) (sym have.told.on_way) have.order) in
           record {
-            at_a = subst (Lags base octets cmp eq read next (after_tick base octets cmp eq read t.at t.asks_a.sends a) sent_b) (sym (ap (λ (w : Ways K C). w.from_b) there))
-                (lags_anew next sent_b (after_tick base octets cmp eq read t.at t.asks_a.sends a) l_b.ways.from_b told.at_a
-                (known_later cmp marked all receive receive_rows due due_rows t.at next l_b.ways.from_b (omega arith) known_b));
-            at_b = subst (Lags base octets cmp eq read next (after_tick base octets cmp eq read t.at t.asks_b.sends b) sent_a) (sym (ap (λ (w : Ways K C). w.from_a) there))
-                (lags_anew next sent_a (after_tick base octets cmp eq read t.at t.asks_b.sends b) l_b.ways.from_a told.at_b
-                (known_later cmp marked all receive receive_rows due due_rows t.at next l_b.ways.from_a (omega arith) known_a));
-            none_kept = told.kept;
+            at_a = subst (Lags base octets cmp eq read next after.a after.from_b) (sym (ap (λ (w : Ways K C). w.from_b) there))
+                (lags_anew next after.from_b after.a new.ways.from_b have.told.at_a
+                (known_later cmp marked all receive receive_rows due due_rows t.at next new.ways.from_b (omega arith) known_b));
+            at_b = subst (Lags base octets cmp eq read next after.b after.from_a) (sym (ap (λ (w : Ways K C). w.from_a) there))
+                (lags_anew next after.from_a after.b new.ways.from_a have.told.at_b
+                (known_later cmp marked all receive receive_rows due due_rows t.at next new.ways.from_a (omega arith) known_a));
+            none_kept = have.told.kept;
           }
 
       -- the moments up to a tick, each once
@@ -506,7 +574,8 @@ module _ {K C : Type 0} (base : ℕ) (octets : C → ℕ) (cmp : K → K → Ord
           → Follows base octets cmp eq read (record { 0 = t.at.0 + 1 }) (pair_after base octets cmp eq read p t) (if quiet then r else said_after base octets cmp eq read p r t)
       follows_by true t p r is follows =
           quietly (not t.asks_a.sends || is_silent (ready_a base octets cmp eq read t p)) (not t.asks_b.sends || is_silent (ready_b base octets cmp eq read t p)) t p r is follows
-      follows_by false t p r is follows = loudly t p r (moments_to cmp t.at r) follows (are_moments t.at r)
+      follows_by false t p r is follows =
+          loudly t p r (moments_to cmp t.at r) (sent_by_a base octets cmp eq read t p ++ sent_by_b base octets cmp eq read t p) follows (are_moments t.at r) (inl refl)
 
       -- ---- runs
 

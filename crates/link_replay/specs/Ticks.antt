@@ -3,7 +3,7 @@
 -- before, its timers fire, and it sends, or waits for a later tick, as for the next of those in which
 -- it sends (IEEE Std 802.1Q-2018, 10.7). Ticks are this project's. What goes over the link is what is
 -- read there of the events that an end writes: `read` says it of them.
-use Rattle.std.specs.Prelude.{◌≡◌, ℕ, ◌+◌, ◌&&◌, ◌||◌, not, Bool, if◌then◌else◌, List, [], ◌∷◌, ◌++◌, map, fold, Contains}
+use Rattle.std.specs.Prelude.{◌≡◌, ◌⊎◌, ℕ, ◌+◌, ◌&&◌, ◌||◌, not, Bool, if◌then◌else◌, List, [], ◌∷◌, ◌++◌, map, fold, Contains}
 use Rattle.std.specs.declared.cmp.Ordering.{Ordering}
 use Rattle.srp_base.specs.declared.{numbers.Cs.Cs, mrp.MrpEvent.MrpEvent}
 use Rattle.attribute_propagation.specs.Dirty.{all_marked}
@@ -53,6 +53,12 @@ pub record AreFresh {K C : Type 0} (leave_time : Cs) (p : Pair K C) : Type 0 whe
   pub from_a : p.from_a ≡ []
   pub from_b : p.from_b ≡ []
 
+-- ---- in which order
+
+-- a list is two others, one behind the other: either may come first
+abbrev pub IsInEitherOrder : {X : Type 0} → (one other all : List X) → Type 0
+IsInEitherOrder one other all = (all ≡ one ++ other) ⊎ (all ≡ other ++ one)
+
 -- ---- what is read of what is written
 
 -- what is read has no event that wasn't written
@@ -101,6 +107,17 @@ module _ {K C : Type 0} (base : ℕ) (octets : C → ℕ) (cmp : K → K → Ord
 
   abbrev pub ready_b : Tick K C → Pair K C → State K C
   ready_b t p = ready t.at t.asks_b p.from_a p.b
+
+  -- what the end a sends in a tick, at most one PDU, and the end b
+  abbrev pub sent_by_a : Tick K C → Pair K C → List (End × Messages K C)
+  sent_by_a t p = map (λ m. (A, m)) (sent_in_tick t.at t.asks_a.sends (ready_a t p))
+
+  abbrev pub sent_by_b : Tick K C → Pair K C → List (End × Messages K C)
+  sent_by_b t p = map (λ m. (B, m)) (sent_in_tick t.at t.asks_b.sends (ready_b t p))
+
+  -- this is what both send in it, either first
+  abbrev pub IsSentByBoth : Tick K C → Pair K C → List (End × Messages K C) → Type 0
+  IsSentByBoth t p sent = IsInEitherOrder (sent_by_a t p) (sent_by_b t p) sent
 
   -- both ends after a tick
   abbrev pub pair_after : Pair K C → Tick K C → Pair K C
@@ -177,6 +194,14 @@ module _ {K C : Type 0} (cmp : K → K → Ordering) where
   abbrev pub moments_to : Cs → Replayed K C → List Cs
   moments_to at r = all_marked cs_cmp (ways_ends_up_to at (arrived r).ways) []
 
+  -- after the ends say something, in order
+  abbrev pub both_saying : Cs → LinkState K C → List (End × Messages K C) → LinkState K C
+  both_saying at l said = fold (λ l x. link_saying cmp at x.0 x.1 l) l said
+
+  -- after a moment to which time goes on by some others, and at which this is said
+  abbrev pub said_at : Cs → List Cs → List (End × Messages K C) → Replayed K C → Replayed K C
+  said_at at moments said r = record { upto = at; link = both_saying at (going_by moments r) said }
+
   -- how many words are judged as broken when time goes on from the last PDU, of which there is one more
   -- or the capture's end
   abbrev pub broken_then : Replayed K C → ℕ
@@ -190,20 +215,10 @@ module _ {K C : Type 0} (base : ℕ) (octets : C → ℕ) (cmp : K → K → Ord
       says_nothing base octets cmp eq read t.asks_a.sends (ready_a base octets cmp eq read t p)
       && says_nothing base octets cmp eq read t.asks_b.sends (ready_b base octets cmp eq read t p)
 
-  -- after a tick to which time goes on by some moments
-  abbrev pub said_by : List Cs → Pair K C → Replayed K C → Tick K C → Replayed K C
-  said_by moments p r t =
-      record {
-        upto = t.at;
-        link = all_saying base octets cmp eq read t.at B
-            (all_saying base octets cmp eq read t.at A (going_by cmp moments r)
-            (sent_in_tick base octets cmp eq read t.at t.asks_a.sends (ready_a base octets cmp eq read t p)))
-            (sent_in_tick base octets cmp eq read t.at t.asks_b.sends (ready_b base octets cmp eq read t p));
-      }
-
-  -- after one in which something is said
+  -- after a tick in which something is said
   abbrev pub said_after : Pair K C → Replayed K C → Tick K C → Replayed K C
-  said_after p r t = said_by (moments_to cmp t.at r) p r t
+  said_after p r t =
+      said_at cmp t.at (moments_to cmp t.at r) (sent_by_a base octets cmp eq read t p ++ sent_by_b base octets cmp eq read t p) r
 
   -- after a tick
   abbrev pub replayed_after : Pair K C → Replayed K C → Tick K C → Replayed K C

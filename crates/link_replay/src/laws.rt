@@ -15,7 +15,7 @@ ghost use Rattle.link_replay.specs.Watch.{IsObserved, AreObserved, Watched, obse
 ghost use Rattle.link_replay.specs.Way.{WayState, new_way, ends_up_to, passing_way, AreEndsKnown};
 ghost use Rattle.link_replay.specs.BothWays.{Ways, way_of, begun_way, said_way, ways_saying};
 ghost use Rattle.link_replay.specs.LinkWatch.{LinkState, unseen_link, doubted};
-ghost use Rattle.link_replay.specs.Ticks.{Tick, Pair, AreFresh, ReadsWhatIsWritten, new_pair, ready_a, ready_b, pair_after, run_after, run_broken, IsTold, Replayed, unseen, broken_then, is_quiet, said_by, next_moment, replay_broken, AreTicksFrom};
+ghost use Rattle.link_replay.specs.Ticks.{Tick, Pair, AreFresh, ReadsWhatIsWritten, new_pair, ready_a, ready_b, pair_after, run_after, run_broken, IsTold, Replayed, unseen, broken_then, is_quiet, IsSentByBoth, said_at, next_moment, replay_broken, AreTicksFrom};
 ghost use Rattle.link_replay.specs.Following.{AreMoments, Follows};
 
 use attribute_propagation::laws::each_key_awaits;
@@ -149,8 +149,8 @@ pub fn no_word_is_broken_in_a_run<A: MrpApp>()
 /// said anything: once what was said last has arrived, each observer holds what the registrars of
 /// its end hold, but for leave timers that have fired since, and no word is kept. It may pass over
 /// a tick in which neither end says anything, and in each may go on by further moments than those
-/// at which leave timers end. When an end comes to send, its rows are a participant's. No word is
-/// broken at any tick.
+/// at which leave timers end, and may see what either end says first. When an end comes to send,
+/// its rows are a participant's. No word is broken at any tick.
 pub fn a_replay_follows_a_run<A: MrpApp>()
     ensures new { (read : List (MrpEvent × A.Key × A.Content)
         → List (MrpEvent × A.Key × A.Content)) (leave_time first : Cs)
@@ -171,12 +171,14 @@ pub fn a_replay_follows_a_run<A: MrpApp>()
         → List (MrpEvent × A.Key × A.Content))
         (tick : Tick A.Key A.Content) (pair : Pair A.Key A.Content)
         (replayed : Replayed A.Key A.Content) (moments : List Cs)
+        (said : List (End × Messages A.Key A.Content))
         → ReadsWhatIsWritten read
         → AreMoments A.Key.cmp tick.at replayed moments
+        → IsSentByBoth A.base A.octets A.Key.cmp A.Content.eq read tick pair said
         → Follows A.base A.octets A.Key.cmp A.Content.eq read tick.at pair replayed
         → Follows A.base A.octets A.Key.cmp A.Content.eq read (next_moment tick.at)
         (pair_after A.base A.octets A.Key.cmp A.Content.eq read pair tick)
-        (said_by A.base A.octets A.Key.cmp A.Content.eq read moments pair replayed tick) }
+        (said_at A.Key.cmp tick.at moments said replayed) }
     ensures rows { (read : List (MrpEvent × A.Key × A.Content)
         → List (MrpEvent × A.Key × A.Content))
         (tick : Tick A.Key A.Content) (pair : Pair A.Key A.Content)

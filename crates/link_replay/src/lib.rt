@@ -61,8 +61,8 @@
 //! go by ticks, in which what goes out in one comes in in the next before the timers fire
 //! (`specs/Ticks.antt`), the observers hold after every tick what the registrars hold, and no word is
 //! ever broken (`no_word_is_broken_in_a_run`). A replay that sees some of the ticks alone follows
-//! such a run all the same, whatever further moments it goes to (`specs/Following.antt`, law
-//! `a_replay_follows_a_run`). No leave timer is late: each that runs ends at a moment that
+//! such a run all the same, whatever further moments it goes to, and whichever end it sees first in a
+//! tick (`specs/Following.antt`, law `a_replay_follows_a_run`). No leave timer is late: each that runs ends at a moment that
 //! `mark_ends` tells (`each_timer_ends_at_a_known_moment`). After want of memory the text may have
 //! a part of the lines.
 //!

@@ -1,5 +1,5 @@
 -- A replay of a capture of a link between two nodes of this project follows the nodes from tick to tick.
-use Rattle.std.proofs.Common.{◌≡◌, ◌≢◌, ◌∙◌, ◌<◌, ◌≤◌, ℕ, ◌+◌, ◌/◌, Bool, true, false, if◌then◌else◌, List, [], ◌∷◌, ◌++◌, map, fold, length, filter, refl, ap, sym, subst, arith}
+use Rattle.std.proofs.Common.{◌≡◌, ◌≢◌, ◌∙◌, ◌<◌, ◌≤◌, ℕ, ◌+◌, ◌/◌, Bool, true, false, if◌then◌else◌, List, [], ◌∷◌, ◌++◌, map, fold, length, filter, inl, inr, refl, ap, sym, subst, arith}
 use Rattle.std.specs.Prelude.{Option, Some, None, Result, Ok, Err, not, ◌||◌, ◌&&◌, nat_lt, option_to_list, option_and_then}
 use Rattle.std.specs.{declared.cmp.Ordering.Ordering, Ordering.nat_cmp, Ordering.is_eq, List.AllByRecursion}
 use Rattle.std.proofs.lemmas.Bool.Decides.{nat_tests}
@@ -10,7 +10,7 @@ use Rattle.flat_side.specs.Part.{same_content as same_nothing}
 use Rattle.link_replay.specs.declared.lines.End.{End}
 use Rattle.link_replay.specs.declared.lines.End.TheVariants as at_end
 use Rattle.link_replay.specs.{Moments.cs_cmp, BothWays.ways_ends_up_to, LinkWatch.LinkState, LinkWatch.link_saying, LinkWatch.judging_text}
-use Rattle.link_replay.specs.Ticks.{Tick, Pair, Replayed, all_saying, all_passing as link_all_passing, going_by, is_quiet, said_by, pair_after, ready_a, ready_b, sent_in_tick, sent_read, next_moment, broken_then}
+use Rattle.link_replay.specs.Ticks.{Tick, Pair, Replayed, all_passing as link_all_passing, going_by, both_saying, said_at, is_quiet, pair_after, ready_a, ready_b, IsSentByBoth, sent_read, next_moment, broken_then}
 use Rattle.link_replay.specs.Following.{AreMoments, Follows}
 use Rattle.mrp_frames.specs.Frames.{Seen, frame_in}
 use Rattle.mrp_participant.specs.{State.State, State.Messages, State.AreRows, State.is_silent, State.sent_events, State.event_sent, Lookup.same, Lookup.find}
@@ -24,7 +24,7 @@ use Rattle.mvrp_codec.specs.{Meaning.mvrp_reading, declared.pdu.MvrpPdu.MvrpPdu}
 use Rattle.mmrp_codec.specs.{Meaning.mmrp_reading, declared.pdu.GroupPdu.GroupPdu}
 use Rattle.replay_words.specs.declared.ends.Ends.{Ends}
 use Rattle.pdu_words.specs.Events.{key_text}
-use Rattle.replay_words.specs.{group_base, group_octets, vlan_text, group_text, watched_judging_text, end_at, Watched.Watched, watched_ends, watched_passing, watched_arriving, watched_judged, watched_broken, after_vlans, after_streams, after_groups, after_octets, vlans_broken, streams_broken, groups_broken, octets_broken, risen, LinkSeen, moment_after, arrived, seen_arriving, seen_passing, all_passing, ending_by, seen_later, seen_at, after_said, said_broken, seen_said, seen_from, seen_frame, after_packet, after_packets, PlainSaid, StreamsSaid, vlans_read, streams_read, groups_read, vlans_said, streams_said, groups_said, said_from, said_in, all_said, is_unread, is_malformed, IsSoundFrom, IsSoundAs, IsSound, Pairs, LinkTick, tick_of, as_written, sent_by_both, streams_sent, pairs_after, IsCaptured, AreCaptured, frames_of, new_seen}
+use Rattle.replay_words.specs.{group_base, group_octets, vlan_text, group_text, watched_judging_text, end_at, Watched.Watched, watched_ends, watched_passing, watched_arriving, watched_judged, watched_broken, after_vlans, after_streams, after_groups, after_octets, vlans_broken, streams_broken, groups_broken, octets_broken, risen, LinkSeen, moment_after, arrived, seen_arriving, seen_passing, all_passing, ending_by, seen_later, seen_at, after_said, said_broken, seen_said, seen_from, seen_frame, after_packet, after_packets, PlainSaid, StreamsSaid, vlans_read, streams_read, groups_read, vlans_said, streams_said, groups_said, said_from, said_in, all_said, is_unread, is_malformed, IsSoundFrom, IsSoundAs, IsSound, Pairs, LinkTick, tick_of, as_written, AreVlansSent, AreStreamsSent, AreGroupsSent, pairs_after, IsCaptured, AreCaptured, frames_of, new_seen}
 use Rattle.replay_words.proofs.OneEach.{IsOnce, AreOwn, no_doubles, all_left}
 use Rattle.replay_words.proofs.Runs.{of_frame}
 use Rattle.replay_words.proofs.UpTo.{ends_up_to}
@@ -37,61 +37,54 @@ pub record Rules {K C : Type 0} (base : ℕ) (octets : C → ℕ) (cmp : K → K
   pub passed_over : (tick : Tick K C) (pair : Pair K C) (replayed : Replayed K C) → is_quiet base octets cmp eq read tick pair ≡ true
       → Follows base octets cmp eq read tick.at pair replayed
       → Follows base octets cmp eq read (next_moment tick.at) (pair_after base octets cmp eq read pair tick) replayed
-  pub gone_to : (tick : Tick K C) (pair : Pair K C) (replayed : Replayed K C) (moments : List Cs) → AreMoments cmp tick.at replayed moments
+  pub gone_to : (tick : Tick K C) (pair : Pair K C) (replayed : Replayed K C) (moments : List Cs) (said : List (End × Messages K C))
+      → AreMoments cmp tick.at replayed moments
+      → IsSentByBoth base octets cmp eq read tick pair said
       → Follows base octets cmp eq read tick.at pair replayed
       → Follows base octets cmp eq read (next_moment tick.at) (pair_after base octets cmp eq read pair tick)
-      (said_by base octets cmp eq read moments pair replayed tick)
+      (said_at cmp tick.at moments said replayed)
   pub unbroken : (next : Cs) (pair : Pair K C) (replayed : Replayed K C) → Follows base octets cmp eq read next pair replayed
       → broken_then cmp replayed ≡ 0
 
 -- where both ends send nothing, both are silent
-quiet_by : {M : Type 0} (a b : Bool) (m n : M)
-    → ◌≡◌ {A = List (End × M)} [] (map (λ m. (at_end.A, m)) (if a then [] else m ∷ []) ++ map (λ m. (at_end.B, m)) (if b then [] else n ∷ []))
+quiet_by : {M : Type 0} (one other : End) (a b : Bool) (m n : M)
+    → ◌≡◌ {A = List (End × M)} [] (map (λ m. (one, m)) (if a then [] else m ∷ []) ++ map (λ m. (other, m)) (if b then [] else n ∷ []))
     → (a && b) ≡ true
-quiet_by true true m n h = refl
-quiet_by true false m n h = cc
-quiet_by false true m n h = cc
-quiet_by false false m n h = cc
+quiet_by one other true true m n h = refl
+quiet_by one other true false m n h = cc
+quiet_by one other false true m n h = cc
+quiet_by one other false false m n h = cc
 
-module _ {K C : Type 0} (cmp : K → K → Ordering) where
-  -- a link after its ends say something, in order
-  abbrev all_say : Cs → LinkState K C → List (End × Messages K C) → LinkState K C
-  all_say at l said = fold (λ l x. link_saying cmp at x.0 x.1 l) l said
-
-  say_on : (at : Cs) (l : LinkState K C) (said more : List (End × Messages K C)) → all_say at l (said ++ more) ≡ all_say at (all_say at l said) more
-  say_on at l [] more = refl
-  say_on at l (x ∷ said) more = say_on at (link_saying cmp at x.0 x.1 l) said more
+turned : (a b : Bool) → (b && a) ≡ true → (a && b) ≡ true
+turned true true h = refl
+turned true false h = cc
+turned false true h = cc
+turned false false h = cc
 
 module _ {K C : Type 0} (base : ℕ) (octets : C → ℕ) (cmp : K → K → Ordering) (eq : C → C → Bool)
     (read : List (MrpEvent × K × C) → List (MrpEvent × K × C)) where
-  is_quiet_by : (t : Tick K C) (p : Pair K C) → [] ≡ sent_by_both base octets cmp eq read t p → is_quiet base octets cmp eq read t p ≡ true
-  is_quiet_by t p h =
+  is_quiet_by : (t : Tick K C) (p : Pair K C) → IsSentByBoth base octets cmp eq read t p [] → is_quiet base octets cmp eq read t p ≡ true
+  is_quiet_by t p (inl h) =
       let a = ready_a base octets cmp eq read t p in
       let b = ready_b base octets cmp eq read t p in
-      quiet_by (not t.asks_a.sends || is_silent a) (not t.asks_b.sends || is_silent b) (sent_read base octets cmp eq read t.at a) (sent_read base octets cmp eq read t.at b) h
+      quiet_by at_end.A at_end.B (not t.asks_a.sends || is_silent a) (not t.asks_b.sends || is_silent b)
+      (sent_read base octets cmp eq read t.at a) (sent_read base octets cmp eq read t.at b) h
+  is_quiet_by t p (inr h) =
+      let a = ready_a base octets cmp eq read t p in
+      let b = ready_b base octets cmp eq read t p in
+      turned (not t.asks_a.sends || is_silent a) (not t.asks_b.sends || is_silent b)
+      (quiet_by at_end.B at_end.A (not t.asks_b.sends || is_silent b) (not t.asks_a.sends || is_silent a)
+      (sent_read base octets cmp eq read t.at b) (sent_read base octets cmp eq read t.at a) h)
 
-  says_b : (at : Cs) (l : LinkState K C) (from_b : List (Messages K C))
-      → all_say cmp at l (map (λ m. (at_end.B, m)) from_b) ≡ all_saying base octets cmp eq read at at_end.B l from_b
-  says_b at l [] = refl
-  says_b at l (m ∷ from_b) = says_b at (link_saying cmp at at_end.B m l) from_b
-
-  says_both : (at : Cs) (l : LinkState K C) (from_a from_b : List (Messages K C))
-      → all_say cmp at l (map (λ m. (at_end.A, m)) from_a ++ map (λ m. (at_end.B, m)) from_b)
-      ≡ all_saying base octets cmp eq read at at_end.B (all_saying base octets cmp eq read at at_end.A l from_a) from_b
-  says_both at l [] from_b = says_b at l from_b
-  says_both at l (m ∷ from_a) from_b = says_both at (link_saying cmp at at_end.A m l) from_a from_b
-
-  -- a link after what both ends send in a tick, once time has gone on to it
-  says_sent : (moments : List Cs) (p : Pair K C) (r : Replayed K C) (t : Tick K C)
-      → all_say cmp t.at (going_by cmp moments r) (sent_by_both base octets cmp eq read t p) ≡ (said_by base octets cmp eq read moments p r t).link
-  says_sent moments p r t =
-      says_both t.at (going_by cmp moments r) (sent_in_tick base octets cmp eq read t.at t.asks_a.sends (ready_a base octets cmp eq read t p))
-      (sent_in_tick base octets cmp eq read t.at t.asks_b.sends (ready_b base octets cmp eq read t p))
+say_on : {K C : Type 0} (cmp : K → K → Ordering) (at : Cs) (l : LinkState K C) (said more : List (End × Messages K C))
+    → both_saying cmp at l (said ++ more) ≡ both_saying cmp at (both_saying cmp at l said) more
+say_on cmp at l [] more = refl
+say_on cmp at l (x ∷ said) more = say_on cmp at (link_saying cmp at x.0 x.1 l) said more
 
 -- ---- a frame
 
 module _ (at : Cs) (who : End) (w : Watched) where
-  by_vlans : (r : Result MvrpPdu ℕ) → (after_vlans at who r w).vlans ≡ all_say nat_cmp at w.vlans (vlans_read who r)
+  by_vlans : (r : Result MvrpPdu ℕ) → (after_vlans at who r w).vlans ≡ both_saying nat_cmp at w.vlans (vlans_read who r)
   unfolding after_vlans
   by_vlans (Ok pdu) = refl
   by_vlans (Err place) = refl
@@ -116,7 +109,7 @@ module _ (at : Cs) (who : End) (w : Watched) where
   streams_kept_groups (Ok pdu) = refl
   streams_kept_groups (Err place) = refl
 
-  by_groups : (r : Result GroupPdu ℕ) → (after_groups at who r w).groups ≡ all_say nat_cmp at w.groups (groups_read who r)
+  by_groups : (r : Result GroupPdu ℕ) → (after_groups at who r w).groups ≡ both_saying nat_cmp at w.groups (groups_read who r)
   unfolding after_groups
   by_groups (Ok pdu) = refl
   by_groups (Err place) = refl
@@ -131,13 +124,13 @@ module _ (at : Cs) (who : End) (w : Watched) where
   groups_kept_streams (Ok pdu) = refl
   groups_kept_streams (Err place) = refl
 
-  octets_vlans : (app : AppForm) (octets : List ℕ) → (after_octets at who app octets w).vlans ≡ all_say nat_cmp at w.vlans (vlans_said who app octets)
+  octets_vlans : (app : AppForm) (octets : List ℕ) → (after_octets at who app octets w).vlans ≡ both_saying nat_cmp at w.vlans (vlans_said who app octets)
   unfolding after_octets
   octets_vlans Mvrp octets = by_vlans (mvrp_reading octets)
   octets_vlans Msrp octets = streams_kept (msrp_reading octets)
   octets_vlans Mmrp octets = groups_kept (mmrp_reading octets)
 
-  octets_groups : (app : AppForm) (octets : List ℕ) → (after_octets at who app octets w).groups ≡ all_say nat_cmp at w.groups (groups_said who app octets)
+  octets_groups : (app : AppForm) (octets : List ℕ) → (after_octets at who app octets w).groups ≡ both_saying nat_cmp at w.groups (groups_said who app octets)
   unfolding after_octets
   octets_groups Mvrp octets = vlans_kept_groups (mvrp_reading octets)
   octets_groups Msrp octets = streams_kept_groups (msrp_reading octets)
@@ -154,7 +147,7 @@ module _ (all : (k : StreamId) (more streams : List StreamId)
     → is_awaiting stream_cmp k (all_marked stream_cmp more streams) ≡ (is_awaiting stream_cmp k more || is_awaiting stream_cmp k streams))
     (owned : (octets : List ℕ) (pdu : MsrpPdu) → msrp_reading octets ≡ Ok pdu → AreOwn pdu.events) where
   by_streams : (at : Cs) (who : End) (w : Watched) (octets : List ℕ) (r : Result MsrpPdu ℕ) → msrp_reading octets ≡ r → AreOnce (streams_read who r)
-      → (after_streams at who r w).streams ≡ all_say key_cmp at w.streams (streams_read who r)
+      → (after_streams at who r w).streams ≡ both_saying key_cmp at w.streams (streams_read who r)
   unfolding after_streams
   by_streams at who w octets (Ok pdu) reads once =
       ap (λ (events : List (MrpEvent × MsrpKey × MsrpContent)). link_saying key_cmp at who (record { leave_all = pdu.leave_all; events = events }) w.streams)
@@ -162,7 +155,7 @@ module _ (all : (k : StreamId) (more streams : List StreamId)
   by_streams at who w octets (Err place) reads once = refl
 
   octets_streams : (at : Cs) (who : End) (w : Watched) (app : AppForm) (octets : List ℕ) → AreOnce (streams_said who app octets)
-      → (after_octets at who app octets w).streams ≡ all_say key_cmp at w.streams (streams_said who app octets)
+      → (after_octets at who app octets w).streams ≡ both_saying key_cmp at w.streams (streams_said who app octets)
   unfolding after_octets
   octets_streams at who w Mvrp octets once = vlans_kept at who w (mvrp_reading octets)
   octets_streams at who w Msrp octets once = by_streams at who w octets (msrp_reading octets) refl once
@@ -199,9 +192,9 @@ module _ (all : (k : StreamId) (more streams : List StreamId)
   -- what frames at a moment make of what was seen by then, where this is what they say
   record Shown (at : Cs) (old new : LinkSeen) (vlans : List PlainSaid) (streams : List StreamsSaid) (groups : List PlainSaid) : Type 0 where
     pub same_at : new.at ≡ old.at
-    pub vlans_are : new.watched.vlans ≡ all_say nat_cmp at old.watched.vlans vlans
-    pub streams_are : new.watched.streams ≡ all_say key_cmp at old.watched.streams streams
-    pub groups_are : new.watched.groups ≡ all_say nat_cmp at old.watched.groups groups
+    pub vlans_are : new.watched.vlans ≡ both_saying nat_cmp at old.watched.vlans vlans
+    pub streams_are : new.watched.streams ≡ both_saying key_cmp at old.watched.streams streams
+    pub groups_are : new.watched.groups ≡ both_saying nat_cmp at old.watched.groups groups
     pub unbroken : old.counts.broken ≡ 0 → new.counts.broken ≡ 0
 
   shown_octets : (at : Cs) (p : Packet) (seen : Seen) (who : End) (s : LinkSeen) → nat_lt (length p.octets) p.whole ≡ false
@@ -270,13 +263,13 @@ module _ (all : (k : StreamId) (more streams : List StreamId)
       record {
         same_at = there.same_at ∙ here.same_at;
         vlans_are = there.vlans_are
-            ∙ ap (λ (l : LinkState ℕ (Unit {0})). all_say nat_cmp at l (all_said vlans_said ends ps)) here.vlans_are
+            ∙ ap (λ (l : LinkState ℕ (Unit {0})). both_saying nat_cmp at l (all_said vlans_said ends ps)) here.vlans_are
             ∙ sym (say_on nat_cmp at s.watched.vlans (said_in vlans_said ends found) (all_said vlans_said ends ps));
         streams_are = there.streams_are
-            ∙ ap (λ (l : LinkState MsrpKey MsrpContent). all_say key_cmp at l (all_said streams_said ends ps)) here.streams_are
+            ∙ ap (λ (l : LinkState MsrpKey MsrpContent). both_saying key_cmp at l (all_said streams_said ends ps)) here.streams_are
             ∙ sym (say_on key_cmp at s.watched.streams (said_in streams_said ends found) (all_said streams_said ends ps));
         groups_are = there.groups_are
-            ∙ ap (λ (l : LinkState ℕ (Unit {0})). all_say nat_cmp at l (all_said groups_said ends ps)) here.groups_are
+            ∙ ap (λ (l : LinkState ℕ (Unit {0})). both_saying nat_cmp at l (all_said groups_said ends ps)) here.groups_are
             ∙ sym (say_on nat_cmp at s.watched.groups (said_in groups_said ends found) (all_said groups_said ends ps));
         unbroken = λ none. there.unbroken (here.unbroken none);
       }
@@ -482,7 +475,8 @@ pub record Facts : Type 0 where
       → is_awaiting stream_cmp k (all_marked stream_cmp more keys) ≡ (is_awaiting stream_cmp k more || is_awaiting stream_cmp k keys)
   pub owned : (octets : List ℕ) (pdu : MsrpPdu) → msrp_reading octets ≡ Ok pdu → AreOwn pdu.events
   pub once : (t : LinkTick) (p : Pairs) (s : LinkSeen)
-      → Follows base_octets octets_of key_cmp same_content in_type_order t.at p.streams (streams_of s) → AreOnce (streams_sent t p)
+      → Follows base_octets octets_of key_cmp same_content in_type_order t.at p.streams (streams_of s)
+      → (said : List StreamsSaid) → AreStreamsSent t p said → AreOnce said
 
 module _ (facts : Facts) where
   none_counted : (next : Cs) (p : Pairs) (s : LinkSeen) → Keeps next p s → (seen_arriving s).counts.broken ≡ 0
@@ -496,13 +490,13 @@ module _ (facts : Facts) where
   passes_over ends t p s captured none keeps = record {
     vlans = facts.vlans.passed_over (tick_of t.at t.vlans) p.vlans (vlans_of s)
         (is_quiet_by vlan_base vlan_octets nat_cmp same_nothing as_written (tick_of t.at t.vlans) p.vlans
-        (ap (all_said vlans_said ends) (sym none) ∙ captured.vlans)) keeps.vlans;
+        (subst (λ (ps : List Packet). AreVlansSent t p (all_said vlans_said ends ps)) none captured.vlans)) keeps.vlans;
     streams = facts.streams.passed_over (tick_of t.at t.streams) p.streams (streams_of s)
         (is_quiet_by base_octets octets_of key_cmp same_content in_type_order (tick_of t.at t.streams) p.streams
-        (ap (all_said streams_said ends) (sym none) ∙ captured.streams)) keeps.streams;
+        (subst (λ (ps : List Packet). AreStreamsSent t p (all_said streams_said ends ps)) none captured.streams)) keeps.streams;
     groups = facts.groups.passed_over (tick_of t.at t.groups) p.groups (groups_of s)
         (is_quiet_by group_base group_octets nat_cmp same_nothing as_written (tick_of t.at t.groups) p.groups
-        (ap (all_said groups_said ends) (sym none) ∙ captured.groups)) keeps.groups;
+        (subst (λ (ps : List Packet). AreGroupsSent t p (all_said groups_said ends ps)) none captured.groups)) keeps.groups;
     unbroken = keeps.unbroken;
   }
 
@@ -510,7 +504,7 @@ module _ (facts : Facts) where
   come_to : (ends : Ends) (t : LinkTick) (p : Pairs) (s new : LinkSeen) → IsCaptured ends p t → Keeps t.at p s
       → new ≡ fold (λ s p. seen_frame ends t.at p (frame_in p) s) (seen_later t.at s) t.frames → new.at ≡ t.at
   come_to ends t p s new captured keeps is =
-      let once = subst AreOnce (sym captured.streams) (facts.once t p s keeps.streams) in
+      let once = facts.once t p s keeps.streams (all_said streams_said ends t.frames) captured.streams in
       let there = shown facts.stream_sets facts.owned ends t.at t.frames (seen_later t.at s) captured.sound once in
       ap (λ (x : LinkSeen). x.at) is ∙ there.same_at ∙ later_at t.at s
 
@@ -521,28 +515,25 @@ module _ (facts : Facts) where
       let at = t.at in
       let mid = seen_later at s in
       let moments = ending_by at s in
-      let once = subst AreOnce (sym captured.streams) (facts.once t p s keeps.streams) in
+      let once = facts.once t p s keeps.streams (all_said streams_said ends t.frames) captured.streams in
       let there = shown facts.stream_sets facts.owned ends at t.frames mid captured.sound once in
       let come : new.at ≡ at = come_to ends t p s new captured keeps is in
-      let of_vlans : new.watched.vlans ≡ (said_by vlan_base vlan_octets nat_cmp same_nothing as_written moments p.vlans (vlans_of s) (tick_of at t.vlans)).link =
+      let of_vlans : new.watched.vlans ≡ (said_at nat_cmp at moments (all_said vlans_said ends t.frames) (vlans_of s)).link =
       ap (λ (x : LinkSeen). x.watched.vlans) is ∙ there.vlans_are
-      ∙ ap (λ (l : LinkState ℕ (Unit {0})). all_say nat_cmp at l (all_said vlans_said ends t.frames)) (later_vlans at s)
-      ∙ ap (all_say nat_cmp at (going_by nat_cmp moments (vlans_of s))) captured.vlans
-      ∙ says_sent vlan_base vlan_octets nat_cmp same_nothing as_written moments p.vlans (vlans_of s) (tick_of at t.vlans) in
-      let of_streams : new.watched.streams ≡ (said_by base_octets octets_of key_cmp same_content in_type_order moments p.streams (streams_of s) (tick_of at t.streams)).link =
+      ∙ ap (λ (l : LinkState ℕ (Unit {0})). both_saying nat_cmp at l (all_said vlans_said ends t.frames)) (later_vlans at s) in
+      let of_streams : new.watched.streams ≡ (said_at key_cmp at moments (all_said streams_said ends t.frames) (streams_of s)).link =
       ap (λ (x : LinkSeen). x.watched.streams) is ∙ there.streams_are
-      ∙ ap (λ (l : LinkState MsrpKey MsrpContent). all_say key_cmp at l (all_said streams_said ends t.frames)) (later_streams at s)
-      ∙ ap (all_say key_cmp at (going_by key_cmp moments (streams_of s))) captured.streams
-      ∙ says_sent base_octets octets_of key_cmp same_content in_type_order moments p.streams (streams_of s) (tick_of at t.streams) in
-      let of_groups : new.watched.groups ≡ (said_by group_base group_octets nat_cmp same_nothing as_written moments p.groups (groups_of s) (tick_of at t.groups)).link =
+      ∙ ap (λ (l : LinkState MsrpKey MsrpContent). both_saying key_cmp at l (all_said streams_said ends t.frames)) (later_streams at s) in
+      let of_groups : new.watched.groups ≡ (said_at nat_cmp at moments (all_said groups_said ends t.frames) (groups_of s)).link =
       ap (λ (x : LinkSeen). x.watched.groups) is ∙ there.groups_are
-      ∙ ap (λ (l : LinkState ℕ (Unit {0})). all_say nat_cmp at l (all_said groups_said ends t.frames)) (later_groups at s)
-      ∙ ap (all_say nat_cmp at (going_by nat_cmp moments (groups_of s))) captured.groups
-      ∙ says_sent group_base group_octets nat_cmp same_nothing as_written moments p.groups (groups_of s) (tick_of at t.groups) in
+      ∙ ap (λ (l : LinkState ℕ (Unit {0})). both_saying nat_cmp at l (all_said groups_said ends t.frames)) (later_groups at s) in
       record {
-        vlans = followed (facts.vlans.gone_to (tick_of at t.vlans) p.vlans (vlans_of s) moments (vlans_moments facts.moments at s) keeps.vlans) come of_vlans;
-        streams = followed (facts.streams.gone_to (tick_of at t.streams) p.streams (streams_of s) moments (streams_moments facts.moments at s) keeps.streams) come of_streams;
-        groups = followed (facts.groups.gone_to (tick_of at t.groups) p.groups (groups_of s) moments (groups_moments facts.moments at s) keeps.groups) come of_groups;
+        vlans = followed (facts.vlans.gone_to (tick_of at t.vlans) p.vlans (vlans_of s) moments (all_said vlans_said ends t.frames)
+            (vlans_moments facts.moments at s) captured.vlans keeps.vlans) come of_vlans;
+        streams = followed (facts.streams.gone_to (tick_of at t.streams) p.streams (streams_of s) moments (all_said streams_said ends t.frames)
+            (streams_moments facts.moments at s) captured.streams keeps.streams) come of_streams;
+        groups = followed (facts.groups.gone_to (tick_of at t.groups) p.groups (groups_of s) moments (all_said groups_said ends t.frames)
+            (groups_moments facts.moments at s) captured.groups keeps.groups) come of_groups;
         unbroken = ap (λ (x : LinkSeen). x.counts.broken) is ∙ there.unbroken (later_broken at s (none_counted at p s keeps));
       }
     where
@@ -656,12 +647,12 @@ few_in : {X : Type 0} (o : Option X) → length (option_to_list o) ≤ 1
 few_in None = omega arith
 few_in (Some x) = omega arith
 
-both_once : (a b : Bool) (m n : Messages MsrpKey MsrpContent) → IsOnce m.events → IsOnce n.events
-    → AreOnce (map (λ m. (at_end.A, m)) (if a then [] else m ∷ []) ++ map (λ m. (at_end.B, m)) (if b then [] else n ∷ []))
-both_once true true m n one other = tt
-both_once true false m n one other = (other, tt)
-both_once false true m n one other = (one, tt)
-both_once false false m n one other = (one, (other, tt))
+both_once : (one other : End) (a b : Bool) (m n : Messages MsrpKey MsrpContent) → IsOnce m.events → IsOnce n.events
+    → AreOnce (map (λ m. (one, m)) (if a then [] else m ∷ []) ++ map (λ m. (other, m)) (if b then [] else n ∷ []))
+both_once one other true true m n is too = tt
+both_once one other true false m n is too = (too, tt)
+both_once one other false true m n is too = (is, tt)
+both_once one other false false m n is too = (is, (too, tt))
 
 module _ (sent : (s : State MsrpKey MsrpContent) (now : Cs) → AreRows key_cmp s.rows → (k : MsrpKey)
     → filter (λ e. same key_cmp e.1 k) (sent_events base_octets octets_of key_cmp now s)
@@ -680,9 +671,18 @@ module _ (sent : (s : State MsrpKey MsrpContent) (now : Cs) → AreRows key_cmp 
   pub once_in_tick : (t : LinkTick) (p : Pairs)
       → AreRows key_cmp (ready_a base_octets octets_of key_cmp same_content in_type_order (tick_of t.at t.streams) p.streams).rows
       → AreRows key_cmp (ready_b base_octets octets_of key_cmp same_content in_type_order (tick_of t.at t.streams) p.streams).rows
-      → AreOnce (streams_sent t p)
-  once_in_tick t p a_rows b_rows =
+      → (said : List StreamsSaid) → AreStreamsSent t p said → AreOnce said
+  once_in_tick t p a_rows b_rows said (inl is) =
       let a = ready_a base_octets octets_of key_cmp same_content in_type_order (tick_of t.at t.streams) p.streams in
       let b = ready_b base_octets octets_of key_cmp same_content in_type_order (tick_of t.at t.streams) p.streams in
-      both_once (not t.streams.0.sends || is_silent a) (not t.streams.1.sends || is_silent b) (sent_read base_octets octets_of key_cmp same_content in_type_order t.at a)
-      (sent_read base_octets octets_of key_cmp same_content in_type_order t.at b) (once_sent a t.at a_rows) (once_sent b t.at b_rows)
+      subst AreOnce (sym is)
+      (both_once at_end.A at_end.B (not t.streams.0.sends || is_silent a) (not t.streams.1.sends || is_silent b)
+      (sent_read base_octets octets_of key_cmp same_content in_type_order t.at a)
+      (sent_read base_octets octets_of key_cmp same_content in_type_order t.at b) (once_sent a t.at a_rows) (once_sent b t.at b_rows))
+  once_in_tick t p a_rows b_rows said (inr is) =
+      let a = ready_a base_octets octets_of key_cmp same_content in_type_order (tick_of t.at t.streams) p.streams in
+      let b = ready_b base_octets octets_of key_cmp same_content in_type_order (tick_of t.at t.streams) p.streams in
+      subst AreOnce (sym is)
+      (both_once at_end.B at_end.A (not t.streams.1.sends || is_silent b) (not t.streams.0.sends || is_silent a)
+      (sent_read base_octets octets_of key_cmp same_content in_type_order t.at b)
+      (sent_read base_octets octets_of key_cmp same_content in_type_order t.at a) (once_sent b t.at b_rows) (once_sent a t.at a_rows))

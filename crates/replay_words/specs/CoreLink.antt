@@ -2,14 +2,13 @@
 -- application of MRP, which go by ticks, one in each hundredth of a second (link_replay), in which
 -- they send or wait, as nodes do that send in every twentieth; and the frames that were captured in
 -- them.
-use Rattle.std.specs.Prelude.{◌≡◌, ℕ, ◌/◌, Bool, true, false, nat_lt, List, [], ◌∷◌, ◌++◌, map, flat_map, length, Option, Some, None, Result, Ok, Err}
-use Rattle.std.specs.{declared.cmp.Ordering.Ordering, Ordering.nat_cmp, List.AllByRecursion}
+use Rattle.std.specs.Prelude.{◌≡◌, ℕ, ◌/◌, Bool, true, false, nat_lt, List, [], ◌∷◌, ◌++◌, flat_map, length, Option, Some, None, Result, Ok, Err}
+use Rattle.std.specs.{Ordering.nat_cmp, List.AllByRecursion}
 use Rattle.srp_base.specs.declared.{numbers.Cs.Cs, mrp.MrpEvent.MrpEvent}
 use Rattle.capture_file.specs.Packets.{Packet}
 use Rattle.flat_side.specs.Part.{same_content as same_nothing}
 use Rattle.link_replay.specs.declared.lines.End.{End}
-use Rattle.link_replay.specs.declared.lines.End.TheVariants as at_end
-use Rattle.link_replay.specs.{Ticks.Asks, Ticks.Tick, Ticks.Pair, Ticks.AreFresh, Ticks.ready_a, Ticks.ready_b, Ticks.sent_in_tick, Ticks.pair_after, Ticks.next_moment}
+use Rattle.link_replay.specs.{Ticks.Asks, Ticks.Tick, Ticks.Pair, Ticks.AreFresh, Ticks.IsSentByBoth, Ticks.pair_after, Ticks.next_moment}
 use Rattle.mmrp_codec.specs.{Meaning.mmrp_reading, declared.pdu.GroupPdu.GroupPdu}
 use Rattle.mrp_frames.specs.Frames.{Seen, frame_in}
 use Rattle.mrp_participant.specs.State.{Messages}
@@ -133,23 +132,15 @@ tick_of at asks = record { at = at; asks_a = asks.0; asks_b = asks.1 }
 abbrev pub as_written : {K C : Type 0} → List (MrpEvent × K × C) → List (MrpEvent × K × C)
 as_written events = events
 
-module _ {K C : Type 0} (base : ℕ) (octets : C → ℕ) (cmp : K → K → Ordering) (eq : C → C → Bool)
-    (read : List (MrpEvent × K × C) → List (MrpEvent × K × C)) where
-  -- what both ends send in a tick, each at most one PDU
-  abbrev pub sent_by_both : Tick K C → Pair K C → List (End × Messages K C)
-  sent_by_both t p =
-      map (λ m. (at_end.A, m)) (sent_in_tick base octets cmp eq read t.at t.asks_a.sends (ready_a base octets cmp eq read t p))
-      ++ map (λ m. (at_end.B, m)) (sent_in_tick base octets cmp eq read t.at t.asks_b.sends (ready_b base octets cmp eq read t p))
+-- of each application, this is what both ends send in a tick: each at most one PDU, either first
+abbrev pub AreVlansSent : LinkTick → Pairs → List PlainSaid → Type 0
+AreVlansSent t p said = IsSentByBoth vlan_base vlan_octets nat_cmp same_nothing as_written (tick_of t.at t.vlans) p.vlans said
 
--- of each application
-abbrev pub vlans_sent : LinkTick → Pairs → List PlainSaid
-vlans_sent t p = sent_by_both vlan_base vlan_octets nat_cmp same_nothing as_written (tick_of t.at t.vlans) p.vlans
+abbrev pub AreStreamsSent : LinkTick → Pairs → List StreamsSaid → Type 0
+AreStreamsSent t p said = IsSentByBoth base_octets octets_of key_cmp same_content in_type_order (tick_of t.at t.streams) p.streams said
 
-abbrev pub streams_sent : LinkTick → Pairs → List StreamsSaid
-streams_sent t p = sent_by_both base_octets octets_of key_cmp same_content in_type_order (tick_of t.at t.streams) p.streams
-
-abbrev pub groups_sent : LinkTick → Pairs → List PlainSaid
-groups_sent t p = sent_by_both group_base group_octets nat_cmp same_nothing as_written (tick_of t.at t.groups) p.groups
+abbrev pub AreGroupsSent : LinkTick → Pairs → List PlainSaid → Type 0
+AreGroupsSent t p said = IsSentByBoth group_base group_octets nat_cmp same_nothing as_written (tick_of t.at t.groups) p.groups said
 
 -- the participants after a tick
 abbrev pub pairs_after : Pairs → LinkTick → Pairs
@@ -161,13 +152,13 @@ pairs_after p t =
     }
 
 -- What is captured in a tick is of its hundredth of a second, and of each application its frames say
--- exactly what the ends send, the end a first. Beside these there may be other frames.
+-- exactly what the ends send, either end first. Beside these there may be other frames.
 pub record IsCaptured (ends : Ends) (p : Pairs) (t : LinkTick) : Type 0 where
   pub moments : AllByRecursion (λ f. f.at_ns / 10000000 ≡ t.at.0) t.frames
   pub sound : AllByRecursion (IsSound ends) t.frames
-  pub vlans : all_said vlans_said ends t.frames ≡ vlans_sent t p
-  pub streams : all_said streams_said ends t.frames ≡ streams_sent t p
-  pub groups : all_said groups_said ends t.frames ≡ groups_sent t p
+  pub vlans : AreVlansSent t p (all_said vlans_said ends t.frames)
+  pub streams : AreStreamsSent t p (all_said streams_said ends t.frames)
+  pub groups : AreGroupsSent t p (all_said groups_said ends t.frames)
 
 -- the ticks come one by one, the first at this moment, and each is captured: nothing is lost
 abbrev pub AreCaptured : Ends → Cs → Pairs → List LinkTick → Type 0

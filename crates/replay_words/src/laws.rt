@@ -46,9 +46,9 @@ pub fn moments_never_fall()
 {}
 
 /// What two nodes of this project say over a link is never broken: from a tick on before which they
-/// have said nothing they go by ticks of 1 cs, by the capture's clock,
-/// whatever is asked for at either and in whichever of the ticks each application of either sends,
-/// and all that they send is captured, of a tick the end a first, with other frames between or not.
+/// have said nothing they go by ticks of 1 cs, by the capture's clock, whatever is asked for at
+/// either and in whichever of the ticks each application of either sends, and all that they send is
+/// captured, of each application in each tick either end first, with other frames between or not.
 /// Then nothing is counted as broken, neither a word on a registrar nor a Talker that is declared
 /// twice; behind no tick a line says that a word is; and what is printed ends with `broken 0`.
 pub fn what_this_core_sends_is_never_broken()

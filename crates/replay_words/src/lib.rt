@@ -64,8 +64,8 @@
 //!
 //! A Talker or a Domain whose value changes in one PDU, a Talker from Failed to Advertise too, is
 //! told as what that declares (`specs/Replaced`). What two nodes of this project say over a link,
-//! with nothing lost, is never broken: `what_this_core_sends_is_never_broken`, of the link and its
-//! capture in `specs/CoreLink`.
+//! with nothing lost, is never broken, whichever of them comes first in a moment:
+//! `what_this_core_sends_is_never_broken`, of the link and its capture in `specs/CoreLink`.
 //!
 //! A further application is a `WatchedApp` in `apps`, with its ways in `specs/Watched` and its
 //! reading in `watched`. A further key of the head is a rule in `specs/Head`, with its words in

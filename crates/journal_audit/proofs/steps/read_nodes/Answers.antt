@@ -34,7 +34,7 @@ loop-x-preserved c =
     c.in_ok-made.field-0 made c.in-Some.is c.in_ok-made.ensures.read
     in
     let later : suc (c.loop-x.x + 1) ≡ c.loop-x.x + 1 + 1 = omega arith in
-    subst (λ (k : ℕ). AreNodesRead plan c.args.t k c.args.world.now c.args.lines.now c.push_steps.new.steps.items c.read_node.new.world c.read_node.new.lines) later
+    subst (λ (k : ℕ). AreNodesRead plan c.args.t k c.args.world.now c.args.lines.now c.push_steps.new.made.items c.read_node.new.world c.read_node.new.lines) later
     (subst (λ (steps : List NodeSteps). AreNodesRead plan c.args.t (suc (c.loop-x.x + 1)) c.args.world.now c.args.lines.now steps c.read_node.new.world c.read_node.new.lines)
     (sym {A = List NodeSteps} c.in_ok-push_steps.ensures)
     (nodes_more plan c.laws_of_replay.ensures c.args.t (c.loop-x.x + 1) c.args.world.now c.loop-x.world c.read_node.new.world c.args.lines.now c.loop-x.lines c.read_node.new.lines

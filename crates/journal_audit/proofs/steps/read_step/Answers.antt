@@ -55,7 +55,7 @@ returns-then-taken-clause-read c =
     let found = found_port ports c.as_slice.result.now c.next_port-place.result c.args.lines.now c.index_mut.result.now c.as_slice.ensures.value c.next_port-place.ensures c.index_mut.ensures.value in
     step_is c.args.scenario.now c.laws_of_replay.ensures c.args.t c.args.number.0 ports c.args.world.now c.requires.node c.requires.ports c.next_port-place.result c.index_mut.result.now
     c.take_job-step.new.self
-    (slice_set ports c.next_port-place.result c.take_job-step.new.self) c.take_job-step.result c.in_ok-made.made c.make_step.new.world c.args.lines.now c.read_line.new.lines found.0
+    (slice_set ports c.next_port-place.result c.take_job-step.new.self) c.take_job-step.result c.in_ok-made.made c.make_step.new.self c.args.lines.now c.read_line.new.lines found.0
     c.take_job-step.ensures.job
     (ap (λ (j : PortNo × PortStep). j.0) c.in_ok-made.ensures.job) (ap (λ (j : PortNo × PortStep). j.1) c.in_ok-made.ensures.job) c.in_ok-made.ensures.ok refl
     (c.in_ok-taken.ensures.takes c.if-taken.true)
@@ -74,6 +74,6 @@ returns-else-taken-clause-stuck c =
     let found = found_port ports c.as_slice.result.now c.next_port-place.result c.args.lines.now c.index_mut.result.now c.as_slice.ensures.value c.next_port-place.ensures c.index_mut.ensures.value in
     made_stuck c.args.scenario.now c.laws_of_replay.ensures c.args.t c.args.number.0 ports c.args.world.now c.requires.node c.requires.ports c.next_port-place.result c.index_mut.result.now
     c.take_job-step.new.self
-    c.take_job-step.result c.in_ok-made.made c.make_step.new.world c.args.lines.now c.read_line.new.lines c.requires.within c.requires.during found.0 found.2 c.take_job-step.ensures.job
+    c.take_job-step.result c.in_ok-made.made c.make_step.new.self c.args.lines.now c.read_line.new.lines c.requires.within c.requires.during found.0 found.2 c.take_job-step.ensures.job
     (ap (λ (j : PortNo × PortStep). j.0) c.in_ok-made.ensures.job) (ap (λ (j : PortNo × PortStep). j.1) c.in_ok-made.ensures.job) c.in_ok-made.ensures.ok
     (subst (TakesOrStays (line_at c.args.scenario.now c.args.t c.args.number c.in_ok-made.made) c.args.lines.now c.read_line.new.lines) c.if-taken.false c.in_ok-taken.ensures)

@@ -20,13 +20,13 @@ returns-clause-passed_over g c = λ read tick pair replayed only quiet follows.
     tick pair replayed quiet follows
 
 pub returns-clause-gone_to : goal.returns-clause-gone_to
-returns-clause-gone_to g c = λ read tick pair replayed moments only are follows.
+returns-clause-gone_to g c = λ read tick pair replayed moments said only are sent follows.
     loudly g.A.MrpApp.base g.A.MrpApp.octets g.A.Key.Ord.cmp g.A.Content.PartialEq.eq read only
     c.what_happens_at_an_end_is_seen.ensures.event c.what_happens_at_an_end_is_seen.ensures.rows
     c.a_way_holds_what_was_seen.ensures.comes c.a_way_holds_what_was_seen.ensures.goes c.no_word_of_a_participant_disagrees.ensures
     c.each_key_awaits.ensures.marked c.each_key_awaits.ensures.all_marked c.each_key_after_receive.ensures c.rows_stay_rows.ensures.receive
     c.each_key_after_due.ensures c.rows_stay_rows.ensures.due
-    tick pair replayed moments follows are
+    tick pair replayed moments said follows are sent
 
 pub returns-clause-rows : goal.returns-clause-rows
 returns-clause-rows g c = λ read tick pair replayed only follows.

@@ -22,25 +22,25 @@ facts : goal.After-what_is_read_belongs_to_its_keys → Facts
 facts c = record {
   vlans = record {
     passed_over = λ tick pair replayed quiet follows. c.a_replay_follows_a_run.ensures.passed_over as_written tick pair replayed plainly quiet follows;
-    gone_to = λ tick pair replayed moments are follows. c.a_replay_follows_a_run.ensures.gone_to as_written tick pair replayed moments plainly are follows;
+    gone_to = λ tick pair replayed moments said are sent follows. c.a_replay_follows_a_run.ensures.gone_to as_written tick pair replayed moments said plainly are sent follows;
     unbroken = λ next pair replayed follows. c.a_replay_follows_a_run.ensures.unbroken as_written next pair replayed follows;
   };
   streams = record {
     passed_over = λ tick pair replayed quiet follows. c.a_replay_follows_a_run-2.ensures.passed_over in_type_order tick pair replayed (by_type c) quiet follows;
-    gone_to = λ tick pair replayed moments are follows. c.a_replay_follows_a_run-2.ensures.gone_to in_type_order tick pair replayed moments (by_type c) are follows;
+    gone_to = λ tick pair replayed moments said are sent follows. c.a_replay_follows_a_run-2.ensures.gone_to in_type_order tick pair replayed moments said (by_type c) are sent follows;
     unbroken = λ next pair replayed follows. c.a_replay_follows_a_run-2.ensures.unbroken in_type_order next pair replayed follows;
   };
   groups = record {
     passed_over = λ tick pair replayed quiet follows. c.a_replay_follows_a_run-3.ensures.passed_over as_written tick pair replayed plainly quiet follows;
-    gone_to = λ tick pair replayed moments are follows. c.a_replay_follows_a_run-3.ensures.gone_to as_written tick pair replayed moments plainly are follows;
+    gone_to = λ tick pair replayed moments said are sent follows. c.a_replay_follows_a_run-3.ensures.gone_to as_written tick pair replayed moments said plainly are sent follows;
     unbroken = λ next pair replayed follows. c.a_replay_follows_a_run-3.ensures.unbroken as_written next pair replayed follows;
   };
   moments = c.each_key_awaits.ensures.all_marked;
   stream_sets = c.each_key_awaits-2.ensures.all_marked;
   owned = λ octets pdu reads. c.what_is_read_belongs_to_its_keys.ensures octets pdu ((c.reading_is_the_grammar.ensures.reads octets pdu).0 reads);
-  once = λ t p s follows.
+  once = λ t p s follows said sent.
       let rows = c.a_replay_follows_a_run-2.ensures.rows in_type_order (tick_of t.at t.streams) p.streams (streams_of s) (by_type c) follows in
-      once_in_tick c.each_key_in_what_is_sent.ensures c.each_key_keeps_its_event.ensures t p rows.0 rows.1;
+      once_in_tick c.each_key_in_what_is_sent.ensures c.each_key_keeps_its_event.ensures t p rows.0 rows.1 said sent;
 }
 
 begins : goal.After-what_is_read_belongs_to_its_keys → (leave_time first : Cs) (pairs : Pairs) → 1 ≤ leave_time.0 → HaveSaidNothing leave_time pairs
