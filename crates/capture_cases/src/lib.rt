@@ -1,9 +1,11 @@
-//! Worked cases of what PDUs and capture files say in words, a file for each call of pdu_words:
+//! Worked cases of what PDUs, capture files and replayed links say in words, a file for each call of
+//! pdu_words and replay_words:
 //!
 //! ```text
 //! texts    decoded_text: lines of octets, hex dumps, and files that are no text of octets
 //! files    captured_text: files of pcap and pcapng with whole, tagged, cut and other frames, files
 //!          that break off, and files that are no capture
+//! replays  replayed_text: small captures, made frame by frame
 //! ```
 //!
 //! The crate has tests alone, called as a user calls, since a crate with tests beside its code is
@@ -17,5 +19,7 @@
 
 #[cfg(test)]
 mod files;
+#[cfg(test)]
+mod replays;
 #[cfg(test)]
 mod texts;

@@ -75,8 +75,6 @@
 
 mod apps;
 mod booking;
-#[cfg(test)]
-mod cases;
 mod counts;
 mod cut;
 mod document;

@@ -1,9 +1,9 @@
 //! Small captures, made frame by frame, and what is printed of them.
 
-use crate::replay::replayed_text;
 use capture_file::{ByteOrder, LinkType, Record, put_head, put_record};
 use mrp_frames::put_frame;
 use mrpdu_codec::AppForm;
+use replay_words::replayed_text;
 use srp_base::{Mac, NoMemory};
 use std::alloc::Global;
 
