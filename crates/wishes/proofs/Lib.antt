@@ -9,3 +9,4 @@ mod CopyLemmas
 mod NeedLemmas
 mod GrantedNeeds
 mod GrantedAll
+mod NeverLemmas
