@@ -1,5 +1,6 @@
 mod GrantLemmas
 mod ListLemmas
+mod StandingLemmas
 mod SinceLemmas
 mod RestLemmas
 mod ScriptLemmas

@@ -342,7 +342,8 @@ module _ (plan : Plan) (w : WorldState) (known : IsKnown plan w) (rest : IsAtRes
                   unbarred place wish at granted talked class is p
                   (at_each (HasPort w.tree) (link_ports w.tree) all_ports j p (ap (λ (tree : Topology). slice_get (link_ports tree) j) known.tree ∙ there)));
             }),
-            tt)
+            tt,
+          )
 
       by : (t n : Bool) → wish.talked ≡ t → AllByRecursion (IsServed plan e) (stations_of plan.tree (if t && n then need ∷ [] else []) (i + 1))
       by true true talked = one talked (is_wish_of plan.tree (i + 1) need) refl

@@ -22,5 +22,5 @@ returns c plan ticks end w wish rules legal moment rest listed never =
     } in
     never_missed plan w known rest (c.ports.ensures w.tree kept.tree)
     (λ q s port reg class has node at is.
-        c.edges_are_those_of_the_scenario.ensures.talker plan ticks end w q s port reg class rules legal moment rest has node at is)
+    c.edges_are_those_of_the_scenario.ensures.talker plan ticks end w q s port reg class rules legal moment rest has node at is)
     (λ wishes. c.nothing_is_needed_where_all_are_large_enough.ensures.streams plan wishes) wish listed never

@@ -24,6 +24,6 @@ returns c plan ticks end w p rules legal moment rest has need =
     } in
     let there = subst (λ (t : Topology). HasPort t p) (sym tree) has in
     missed_behind plan w known p there need (λ granted.
-        granted_is_large plan w known p there granted
-        (λ want. (c.what_is_wished_is_asked.ensures plan (needs_in plan w) p want).0)
-        (λ link book full. c.a_ledger_that_booked_all_is_large_enough.ensures plan (needs_in plan w) p link book rules full))
+    granted_is_large plan w known p there granted
+    (λ want. (c.what_is_wished_is_asked.ensures plan (needs_in plan w) p want).0)
+    (λ link book full. c.a_ledger_that_booked_all_is_large_enough.ensures plan (needs_in plan w) p link book rules full))
