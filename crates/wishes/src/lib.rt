@@ -38,6 +38,8 @@
 //! `entry_doubts`, `station_doubts` or `doubts_by`, with its writer in `doubt_lines.rt` and its call
 //! in `doubts.rt`. A further moment is a field of `Moments` with its definition in
 //! `specs/RunMoments.antt`, and what has to be kept for it in `specs/Watching.antt` and `watch.rt`.
+//! What `settled` compares more of a node is a field of `Standing` (`standing.rt`) with its part of
+//! `standing_at` and `same_standing`.
 #![tactic(auto)]
 
 pub mod copy_laws;
