@@ -77,7 +77,7 @@ node_says_is : (class : Class) (o : Option NodeEntry)
 node_says_is class None = refl
 node_says_is class (Some e) = says_is class e.domain
 
-boundary_is_edge : (plan : Plan) (class : Class) (p : EgressPort) → is_boundary_in plan class p ≡ is_edge plan class p
+pub boundary_is_edge : (plan : Plan) (class : Class) (p : EgressPort) → is_boundary_in plan class p ≡ is_edge plan class p
 boundary_is_edge plan class p = by plan.domains (slice_get plan.nodes (p.node.0 - 1)) (slice_get plan.nodes ((peer_of plan.tree.links p).node.0 - 1))
   where
     by : (d : Bool) (o q : Option NodeEntry)
@@ -97,7 +97,7 @@ edge_class port (Some class) h = (class, refl)
 -- ---- classes
 
 -- what a stream asks is of its class
-asked_class : (e : StreamEntry) (want : Want) (o : Option Class) → class_of_priority e.priority ≡ o → option_map (λ (c : Class). want_of_entry e c) o ≡ Some want
+pub asked_class : (e : StreamEntry) (want : Want) (o : Option Class) → class_of_priority e.priority ≡ o → option_map (λ (c : Class). want_of_entry e c) o ≡ Some want
     → (class : Class) × (class_of_priority e.priority ≡ Some class) × (want_of_entry e class ≡ want)
 asked_class e want None is h = cc
 asked_class e want (Some class) is h = (class, is, same_Some (want_of_entry e class) want h)

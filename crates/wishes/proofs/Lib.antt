@@ -1,5 +1,6 @@
 mod GrantLemmas
 mod ListLemmas
+mod StandingLemmas
 mod SinceLemmas
 mod RestLemmas
 mod ScriptLemmas
@@ -9,3 +10,4 @@ mod CopyLemmas
 mod NeedLemmas
 mod GrantedNeeds
 mod GrantedAll
+mod NeverLemmas

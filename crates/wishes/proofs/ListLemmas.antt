@@ -11,7 +11,8 @@ use Rattle.topology_file.specs.declared.entries.StreamEntry.{StreamEntry}
 use Rattle.topology_file.specs.Plan.{Plan}
 use Rattle.node_core.specs.State.{NodeState}
 use Rattle.wishes.specs.declared.wish.Wish.{Wish}
-use Rattle.wishes.specs.Watching.{behind_node, node_since, nodes_since}
+use Rattle.wishes.specs.declared.standing.Standing.{Standing}
+use Rattle.wishes.specs.Watching.{standing_since, standings_since}
 use Rattle.wishes.specs.{Wishes.listeners, Wishes.numbered, Wishes.stream_wishes, Wishes.wish_of, Wishes.wishes_from, Doubts.stream_doubts, Doubts.streams_doubts}
 
 pub next_part : {X Y : Type 0} (f : X → List Y) (i : ℕ) (out after : List Y) (xs : List X) (x : X) → slice_get xs i ≡ Some x → after ≡ out ++ f x
@@ -92,28 +93,28 @@ wishers_are_nodes w place (e ∷ entries) =
     join_all (λ (wish : Wish). HasNode w.tree wish.station.0) (stream_wishes w place e) (wishes_from w (place + 1) entries)
     (wishes_at_nodes w place e (listeners w e.id) (listeners_are_nodes w e.id)) (wishers_are_nodes w (place + 1) entries)
 
--- a node more whose marks are put down
-pub next_node : (streams : List StreamEntry) (rests : List Bool) (i : ℕ) (old out after : List Bool) (nodes : List NodeState) (s : NodeState) → slice_get nodes i ≡ Some s
-    → after ≡ out ++ node_since streams rests old i s
-    → after ++ nodes_since streams rests (behind_node streams old) (i + 1) (drop (i + 1) nodes) ≡ out ++ nodes_since streams rests old i (drop i nodes)
-next_node streams rests i old out after nodes s at put =
-    let later : List Bool = nodes_since streams rests (behind_node streams old) (i + 1) (drop (i + 1) nodes) in
+-- a node more whose standing is put down
+pub next_node : (streams : List StreamEntry) (rests : List Bool) (old : List Standing) (i : ℕ) (out after : List Standing) (nodes : List NodeState) (s : NodeState)
+    → slice_get nodes i ≡ Some s → after ≡ out ++ standing_since streams rests old i s ∷ []
+    → after ++ standings_since streams rests old (i + 1) (drop (i + 1) nodes) ≡ out ++ standings_since streams rests old i (drop i nodes)
+next_node streams rests old i out after nodes s at put =
+    let later : List Standing = standings_since streams rests old (i + 1) (drop (i + 1) nodes) in
     let below : i < length nodes = slice_get_within nodes i s at in
     let here : get_or nodes i s ≡ s = get_or_from_slice_get nodes i s s at in
-    let all : nodes_since streams rests old i (drop i nodes) ≡ node_since streams rests old i (get_or nodes i s) ++ later =
-    at_drop_more (nodes_since streams rests old i) nodes i s below
+    let all : standings_since streams rests old i (drop i nodes) ≡ standing_since streams rests old i (get_or nodes i s) ∷ later =
+    at_drop_more (standings_since streams rests old i) nodes i s below
     in
-    ap (λ (text : List Bool). text ++ later) put
-    ∙ (append_assoc out (node_since streams rests old i s) later
-    ∙ ap (λ (text : List Bool). out ++ text) (sym (all ∙ ap (λ (x : NodeState). node_since streams rests old i x ++ later) here)))
+    ap (λ (rows : List Standing). rows ++ later) put
+    ∙ (append_assoc out (standing_since streams rests old i s ∷ []) later
+    ∙ ap (λ (rows : List Standing). out ++ rows) (sym (all ∙ ap (λ (x : NodeState). standing_since streams rests old i x ∷ later) here)))
 
--- a node more whose flag is put down
-pub next_flag : {X : Type 0} (f : X → Bool) (i : ℕ) (out after : List Bool) (xs : List X) (x : X) → slice_get xs i ≡ Some x → after ≡ out ++ f x ∷ []
+-- one more of what a list is mapped to is put down
+pub next_mapped : {X Y : Type 0} (f : X → Y) (i : ℕ) (out after : List Y) (xs : List X) (x : X) → slice_get xs i ≡ Some x → after ≡ out ++ f x ∷ []
     → after ++ map f (drop (i + 1) xs) ≡ out ++ map f (drop i xs)
-next_flag {X} f i out after xs x at put =
-    let later : List Bool = map f (drop (i + 1) xs) in
+next_mapped {X} {Y} f i out after xs x at put =
+    let later : List Y = map f (drop (i + 1) xs) in
     let below : i < length xs = slice_get_within xs i x at in
     let here : get_or xs i x ≡ x = get_or_from_slice_get xs i x x at in
     let all : map f (drop i xs) ≡ f (get_or xs i x) ∷ later = at_drop_more (map f) xs i x below in
-    ap (λ (flags : List Bool). flags ++ later) put
-    ∙ (append_assoc out (f x ∷ []) later ∙ ap (λ (flags : List Bool). out ++ flags) (sym (all ∙ ap (λ (y : X). f y ∷ later) here)))
+    ap (λ (ys : List Y). ys ++ later) put
+    ∙ (append_assoc out (f x ∷ []) later ∙ ap (λ (ys : List Y). out ++ ys) (sym (all ∙ ap (λ (y : X). f y ∷ later) here)))

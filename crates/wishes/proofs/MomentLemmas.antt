@@ -1,78 +1,52 @@
 -- What is kept of a run while it goes on is what its ends say.
-use Rattle.std.proofs.Common.{◌≡◌, ℕ, suc, ◌+◌, ◌-◌, ◌≤◌, ◌==◌, Bool, true, false, ◌&&◌, if◌then◌else◌, List, [], ◌∷◌, ◌++◌, length, map, Option, Some, None, refl, sym, ap, subst, ◌∙◌, append_assoc, append-nil, arith}
-use Rattle.std.specs.Prelude.{flat_map, option_map, slice_get}
+use Rattle.std.proofs.Common.{◌≡◌, ℕ, suc, ◌+◌, ◌≤◌, ◌==◌, Bool, true, false, ◌&&◌, if◌then◌else◌, List, [], ◌∷◌, ◌++◌, length, map, Option, Some, None, refl, sym, ap, subst, ◌∙◌, append_assoc, append-nil, arith}
+use Rattle.std.specs.Prelude.{option_map, slice_get}
 use Rattle.std.specs.{List.list_all, Option.option_map_or}
 use Rattle.srp_base.proofs.Lists.{get-all, mapped_length, paired}
-use Rattle.srp_base.specs.declared.numbers.EgressPort.{EgressPort}
-use Rattle.tree_topology.specs.Topology.{Topology, link_ports}
 use Rattle.topology_file.specs.declared.entries.StreamEntry.{StreamEntry}
 use Rattle.topology_file.specs.{Plan.Plan, Scenario.KeepsRules}
 use Rattle.node_core.specs.State.{NodeState}
 use Rattle.world_core.specs.declared.journal.Tick.{Tick}
 use Rattle.world_core.specs.{World.WorldState, World.world_after, Start.world_of, Ticks.tick_events, Ticks.after_script, Ticks.AreCanonicalTicks, Ticks.IsCanonicalTick, Ticks.IsLegalTick, Ticks.LeadTo}
-use Rattle.world_core.proofs.Runs.{trees_stay}
 use Rattle.srp_schedule.specs.Watch.{ends_from, ends_of, having_seen}
-use Rattle.wishes.specs.declared.moments.{Moments.Moments, Span.Span}
-use Rattle.wishes.specs.RunMoments.{are_same_marks, calm_spans, is_calm, is_same_mark, joined, marks_of, moments_of, node_marks, one_tick, port_marks, settled_in, stands_so}
-use Rattle.wishes.specs.Watching.{Watched, after_end, all_rest, ended, events_to, going_on, is_disturbed, is_idle, marks_seen, marks_since, resting, rests_at, settled_seen, undisturbed, unwatched}
-use Rattle.wishes.proofs.{RestLemmas.StepLaws, RestLemmas.IsClocked, RestLemmas.count-events, RestLemmas.get-mapped, RestLemmas.node-same, RestLemmas.port-none, RestLemmas.port-same, RestLemmas.streams_at, RestLemmas.tick-streams, ScriptLemmas.AreToCome, ScriptLemmas.all-to-come, ScriptLemmas.do-not-fall, ScriptLemmas.next-to-come, ScriptLemmas.rests-parts, ScriptLemmas.script-leaves, ScriptLemmas.undisturbed-length, SinceLemmas.alike-from, SinceLemmas.marks-exact, SinceLemmas.marks-fresh, SinceLemmas.same-booked, SinceLemmas.same-heard}
+use Rattle.wishes.specs.declared.{moments.Moments.Moments, moments.Span.Span, standing.Standing.Standing}
+use Rattle.wishes.specs.RunMoments.{are_same_standings, calm_spans, is_calm, joined, moments_of, one_tick, settled_in, standing_at, standings_of, stands_so}
+use Rattle.wishes.specs.Watching.{Watched, after_end, all_rest, ended, events_to, going_on, is_disturbed, is_idle, resting, rests_at, settled_seen, standings_seen, standings_since, undisturbed, unwatched}
+use Rattle.wishes.proofs.{RestLemmas.StepLaws, RestLemmas.IsClocked, RestLemmas.count-events, RestLemmas.get-mapped, RestLemmas.node-same, RestLemmas.streams_at, RestLemmas.tick-streams, ScriptLemmas.AreToCome, ScriptLemmas.all-to-come, ScriptLemmas.do-not-fall, ScriptLemmas.next-to-come, ScriptLemmas.rests-parts, ScriptLemmas.script-leaves, ScriptLemmas.undisturbed-length, SinceLemmas.same-standings, SinceLemmas.standings-exact, SinceLemmas.standings-fresh, StandingLemmas.standings_itself, StandingLemmas.standings_same}
 
 -- ---- since when nothing changes
 
-mark_same : (a b : Bool) → is_same_mark a b ≡ true → a ≡ b
-mark_same true b h = sym h
-mark_same false true h = cc
-mark_same false false h = refl
-
-mark_itself : (a : Bool) → is_same_mark a a ≡ true
-mark_itself true = refl
-mark_itself false = refl
-
-marks_same : (xs ys : List Bool) → are_same_marks xs ys ≡ true → xs ≡ ys
-marks_same [] [] h = refl
-marks_same [] (y ∷ ys) h = cc
-marks_same (x ∷ xs) [] h = cc
-marks_same (true ∷ xs) (true ∷ ys) h = ap (λ (zs : List Bool). true ∷ zs) (marks_same xs ys h)
-marks_same (true ∷ xs) (false ∷ ys) h = cc
-marks_same (false ∷ xs) (true ∷ ys) h = cc
-marks_same (false ∷ xs) (false ∷ ys) h = ap (λ (zs : List Bool). false ∷ zs) (marks_same xs ys h)
-
-marks_itself : (xs : List Bool) → are_same_marks xs xs ≡ true
-marks_itself [] = refl
-marks_itself (true ∷ xs) = marks_itself xs
-marks_itself (false ∷ xs) = marks_itself xs
-
 module _ (streams : List StreamEntry) where
   -- what is kept of the moment since when nothing changes
-  abbrev pub since : List Bool → ℕ → List (ℕ × WorldState) → ℕ
-  since marks settled [] = settled
-  since marks settled (end ∷ later) =
-      since (marks_of streams end.1) (if are_same_marks marks (marks_of streams end.1) then settled else end.0) later
+  abbrev pub since : List Standing → ℕ → List (ℕ × WorldState) → ℕ
+  since standings settled [] = settled
+  since standings settled (end ∷ later) =
+      since (standings_of streams end.1) (if are_same_standings standings (standings_of streams end.1) then settled else end.0) later
 
   -- while all stands so, that moment stays
-  pub since_is : (marks : List Bool) (settled : ℕ) (ends : List (ℕ × WorldState))
-      → since marks settled ends ≡ (if list_all (stands_so streams marks) ends then settled else settled_in streams ends)
-  since_is marks settled [] = refl
-  since_is marks settled (end ∷ later) =
-      by (are_same_marks marks (marks_of streams end.1)) refl (since_is (marks_of streams end.1) settled later) (since_is (marks_of streams end.1) end.0 later)
+  pub since_is : (standings : List Standing) (settled : ℕ) (ends : List (ℕ × WorldState))
+      → since standings settled ends ≡ (if list_all (stands_so streams standings) ends then settled else settled_in streams ends)
+  since_is standings settled [] = refl
+  since_is standings settled (end ∷ later) =
+      by (are_same_standings standings (standings_of streams end.1)) refl (since_is (standings_of streams end.1) settled later) (since_is (standings_of streams end.1) end.0 later)
     where
-      new : List Bool
-      new = marks_of streams end.1
+      new : List Standing
+      new = standings_of streams end.1
 
       inner : (c : Bool) → (if c then settled else settled_in streams later) ≡ (if c then settled else (if c then end.0 else settled_in streams later))
       inner true = refl
       inner false = refl
 
-      by : (b : Bool) → are_same_marks marks new ≡ b
+      by : (b : Bool) → are_same_standings standings new ≡ b
           → since new settled later ≡ (if list_all (stands_so streams new) later then settled else settled_in streams later)
           → since new end.0 later ≡ (if list_all (stands_so streams new) later then end.0 else settled_in streams later)
           → since new (if b then settled else end.0) later
-          ≡ (if b && list_all (stands_so streams marks) later then settled else settled_in streams (end ∷ later))
+          ≡ (if b && list_all (stands_so streams standings) later then settled else settled_in streams (end ∷ later))
       by true is kept changed =
-          let same : marks ≡ new = marks_same marks new is in
+          let same : standings ≡ new = standings_same standings new is in
           kept
           ∙ (inner (list_all (stands_so streams new) later)
-          ∙ ap (λ (ms : List Bool). if list_all (stands_so streams ms) later then settled else settled_in streams (end ∷ later)) (sym same))
+          ∙ ap (λ (ms : List Standing). if list_all (stands_so streams ms) later then settled else settled_in streams (end ∷ later)) (sym same))
       by false is kept changed = changed
 
 -- ---- the stretches
@@ -180,52 +154,52 @@ kept_are t past latest (end ∷ later) h g = by (is_calm end.1) (λ p o k. kept_
 -- before a tick nothing is known, or which nodes are idle and what stands
 pub data Knows (s : Watched) (v : WorldState) : Type 0 where
   nothing : s.idle ≡ [] → Knows s v
-  before : s.idle ≡ map is_idle v.nodes → s.marks ≡ marks_of s.streams v → Knows s v
+  before : s.idle ≡ map is_idle v.nodes → s.standings ≡ standings_of s.streams v → Knows s v
 
 -- what is seen at the end of a tick is what stands, and since when
 abbrev pub Seen : Watched → ℕ → WorldState → Type 0
 Seen s t w =
-    (marks_seen s t w ≡ marks_of s.streams w)
-    × (settled_seen s t w ≡ (if are_same_marks s.marks (marks_of s.streams w) then s.settled else t))
+    (standings_seen s t w ≡ standings_of s.streams w)
+    × (settled_seen s t w ≡ (if are_same_standings s.standings (standings_of s.streams w) then s.settled else t))
 
 module _ (s : Watched) (t : ℕ) (w : WorldState) where
-  abbrev marks_by : List Bool → List Bool
-  marks_by rests = if all_rest rests then s.marks else marks_since s.streams rests s.marks w
+  abbrev standings_by : List Bool → List Standing
+  standings_by rests = if all_rest rests then s.standings else standings_since s.streams rests s.standings 0 w.nodes
 
   abbrev settled_by : List Bool → ℕ
   settled_by rests =
       if all_rest rests then s.settled
-      else if are_same_marks s.marks (marks_since s.streams rests s.marks w) then s.settled
+      else if are_same_standings s.standings (standings_since s.streams rests s.standings 0 w.nodes) then s.settled
       else t
 
   -- where no node is known to rest
   fresh_seen : resting s t ≡ [] → Seen s t w
   fresh_seen h =
-      let now : marks_since s.streams [] s.marks w ≡ marks_of s.streams w = marks-fresh s.streams s.marks w in
-      (ap marks_by h ∙ now, ap settled_by h ∙ ap (λ (ms : List Bool). if are_same_marks s.marks ms then s.settled else t) now)
+      let now : standings_since s.streams [] s.standings 0 w.nodes ≡ standings_of s.streams w = standings-fresh s.streams s.standings 0 w.nodes in
+      (ap standings_by h ∙ now, ap settled_by h ∙ ap (λ (ms : List Standing). if are_same_standings s.standings ms then s.settled else t) now)
 
   -- where some are
-  known_seen : marks_since s.streams (resting s t) s.marks w ≡ marks_of s.streams w
-      → (all_rest (resting s t) ≡ true → s.marks ≡ marks_of s.streams w) → Seen s t w
+  known_seen : standings_since s.streams (resting s t) s.standings 0 w.nodes ≡ standings_of s.streams w
+      → (all_rest (resting s t) ≡ true → s.standings ≡ standings_of s.streams w) → Seen s t w
   known_seen now same = by (all_rest (resting s t)) refl
     where
       by : (b : Bool) → all_rest (resting s t) ≡ b → Seen s t w
       by true e =
-          let is : s.marks ≡ marks_of s.streams w = same e in
-          let first : marks_by (resting s t) ≡ s.marks = ap (λ (b : Bool). if b then s.marks else marks_since s.streams (resting s t) s.marks w) e in
+          let is : s.standings ≡ standings_of s.streams w = same e in
+          let first : standings_by (resting s t) ≡ s.standings = ap (λ (b : Bool). if b then s.standings else standings_since s.streams (resting s t) s.standings 0 w.nodes) e in
           let second : settled_by (resting s t) ≡ s.settled =
-          ap (λ (b : Bool). if b then s.settled else if are_same_marks s.marks (marks_since s.streams (resting s t) s.marks w) then s.settled else t) e
+          ap (λ (b : Bool). if b then s.settled else if are_same_standings s.standings (standings_since s.streams (resting s t) s.standings 0 w.nodes) then s.settled else t) e
           in
-          let alike : are_same_marks s.marks (marks_of s.streams w) ≡ true = ap (λ (ms : List Bool). are_same_marks s.marks ms) (sym is) ∙ marks_itself s.marks in
+          let alike : are_same_standings s.standings (standings_of s.streams w) ≡ true = ap (λ (ms : List Standing). are_same_standings s.standings ms) (sym is) ∙ standings_itself s.standings in
           (first ∙ is, second ∙ sym (ap (λ (b : Bool). if b then s.settled else t) alike))
       by false e =
-          let first : marks_by (resting s t) ≡ marks_since s.streams (resting s t) s.marks w =
-          ap (λ (b : Bool). if b then s.marks else marks_since s.streams (resting s t) s.marks w) e
+          let first : standings_by (resting s t) ≡ standings_since s.streams (resting s t) s.standings 0 w.nodes =
+          ap (λ (b : Bool). if b then s.standings else standings_since s.streams (resting s t) s.standings 0 w.nodes) e
           in
-          let second : settled_by (resting s t) ≡ (if are_same_marks s.marks (marks_since s.streams (resting s t) s.marks w) then s.settled else t) =
-          ap (λ (b : Bool). if b then s.settled else if are_same_marks s.marks (marks_since s.streams (resting s t) s.marks w) then s.settled else t) e
+          let second : settled_by (resting s t) ≡ (if are_same_standings s.standings (standings_since s.streams (resting s t) s.standings 0 w.nodes) then s.settled else t) =
+          ap (λ (b : Bool). if b then s.settled else if are_same_standings s.standings (standings_since s.streams (resting s t) s.standings 0 w.nodes) then s.settled else t) e
           in
-          (first ∙ now, second ∙ ap (λ (ms : List Bool). if are_same_marks s.marks ms then s.settled else t) now)
+          (first ∙ now, second ∙ ap (λ (ms : List Standing). if are_same_standings s.standings ms then s.settled else t) now)
 
 -- where all rest each does
 each_rests : (rests : List Bool) → all_rest rests ≡ true → list_all (λ b. b) rests ≡ true
@@ -255,70 +229,35 @@ module _ (laws : StepLaws) (plan : Plan) (t : ℕ) (v : WorldState) (tick : Tick
   clocked : (x : ℕ) (s : NodeState) → slice_get v.nodes x ≡ Some s → rests_at rests x ≡ true → IsClocked (streams_at x w) s.streams
   clocked x s h r = let known = rest x s h r in tick-streams laws x s known.0 plan t v tick legal known.1
 
-  heard_same : (x : ℕ) (s u : NodeState) → slice_get v.nodes x ≡ Some s → slice_get w.nodes x ≡ Some u → rests_at rests x ≡ true → node_marks streams s ≡ node_marks streams u
-  heard_same x s u h k r = node-same streams x w s u (clocked x s h r) k
+  stood : (x : ℕ) (s u : NodeState) → slice_get v.nodes x ≡ Some s → slice_get w.nodes x ≡ Some u → rests_at rests x ≡ true → standing_at streams s ≡ standing_at streams u
+  stood x s u h k r = node-same streams x w s u (clocked x s h r) k
 
-  booked_same : (p : EgressPort) (s : NodeState) → slice_get v.nodes (p.node.0 - 1) ≡ Some s → rests_at rests (p.node.0 - 1) ≡ true → port_marks streams v p ≡ port_marks streams w p
-  booked_same p s h r = port-same streams p v w s.streams (ap (option_map (λ (u : NodeState). u.streams)) h) (clocked (p.node.0 - 1) s h r)
+  by_rests : standings_since streams rests (standings_of streams v) 0 w.nodes ≡ standings_of streams w
+  by_rests = standings-exact streams rests (standings_of streams v) 0 w.nodes (λ i k u is at r.
+      let place : k ≡ i = omega (arith, is) in
+      let here : slice_get w.nodes k ≡ Some u = ap (slice_get w.nodes) place ∙ at in
+      let was = paired v.nodes w.nodes k u (sym few) here in
+      get-mapped (standing_at streams) v.nodes k ∙ (ap (option_map (standing_at streams)) was.1 ∙ ap (λ (s : Standing). Some s) (stood k was.0 u was.1 here r)))
 
-  booked_none : (p : EgressPort) → slice_get v.nodes (p.node.0 - 1) ≡ None → port_marks streams v p ≡ port_marks streams w p
-  booked_none p h = port-none streams p v w h (by (slice_get w.nodes (p.node.0 - 1)) refl)
-    where
-      by : (o : Option NodeState) → slice_get w.nodes (p.node.0 - 1) ≡ o → slice_get w.nodes (p.node.0 - 1) ≡ None
-      by None is = is
-      by (Some u) is = let there = paired v.nodes w.nodes (p.node.0 - 1) u (sym few) is in absurd (let no : None ≡ Some there.0 = sym h ∙ there.1 in cc)
-
-  tree_same : w.tree ≡ v.tree
-  tree_same = trees_stay (tick_events plan t tick) v
-
-  by_rests : marks_since streams rests (marks_of streams v) w ≡ marks_of streams w
-  by_rests =
-      marks-exact streams rests v w tree_same
-      (alike-from streams rests 0 v.nodes w.nodes (sym few)
-      (λ i k s u is at_s at_u r. let place : k ≡ i = omega (arith, is) in heard_same i s u at_s at_u (ap (rests_at rests) (sym place) ∙ r)))
-      (λ p r. port p r (slice_get v.nodes (p.node.0 - 1)) refl)
-    where
-      port : (p : EgressPort) → rests_at rests (p.node.0 - 1) ≡ true → (o : Option NodeState) → slice_get v.nodes (p.node.0 - 1) ≡ o
-          → port_marks streams v p ≡ port_marks streams w p
-      port p r None is = booked_none p is
-      port p r (Some s) is = booked_same p s is r
-
-  all_idle : length rests ≡ length v.nodes → all_rest rests ≡ true → marks_of streams v ≡ marks_of streams w
-  all_idle many all =
-      let each : (x : ℕ) (s : NodeState) → slice_get v.nodes x ≡ Some s → rests_at rests x ≡ true =
-      λ x s h.
-      let flag = paired rests v.nodes x s many h in
+  all_idle : length rests ≡ length v.nodes → all_rest rests ≡ true → standings_of streams v ≡ standings_of streams w
+  all_idle many all = same-standings streams v.nodes w.nodes (sym few) (λ x s u at_s at_u.
+      let flag = paired rests v.nodes x s many at_s in
       let up : flag.0 ≡ true = get-all (λ (b : Bool). b) rests x flag.0 (each_rests rests all) flag.1 in
-      ap (λ (o : Option Bool). option_map_or (λ b. b) o false) flag.1 ∙ up
-      in
-      let heard : flat_map (node_marks streams) v.nodes ≡ flat_map (node_marks streams) w.nodes =
-      same-heard streams v.nodes w.nodes (sym few) (λ i s u at_s at_u. heard_same i s u at_s at_u (each i s at_s))
-      in
-      let booked : flat_map (port_marks streams v) (link_ports v.tree) ≡ flat_map (port_marks streams w) (link_ports v.tree) =
-      same-booked streams v w (λ p. port each p (slice_get v.nodes (p.node.0 - 1)) refl) (link_ports v.tree)
-      in
-      ap (λ (front : List Bool). front ++ flat_map (port_marks streams v) (link_ports v.tree)) heard
-      ∙ ap (λ (back : List Bool). flat_map (node_marks streams) w.nodes ++ back)
-      (booked ∙ ap (λ (tree : Topology). flat_map (port_marks streams w) (link_ports tree)) (sym tree_same))
-    where
-      port : ((x : ℕ) (s : NodeState) → slice_get v.nodes x ≡ Some s → rests_at rests x ≡ true) → (p : EgressPort) → (o : Option NodeState) → slice_get v.nodes (p.node.0 - 1) ≡ o
-          → port_marks streams v p ≡ port_marks streams w p
-      port each p None is = booked_none p is
-      port each p (Some s) is = booked_same p s is (each (p.node.0 - 1) s is)
+      stood x s u at_s at_u (ap (λ (o : Option Bool). option_map_or (λ b. b) o false) flag.1 ∙ up))
 
 module _ (laws : StepLaws) (plan : Plan) where
   tick_seen : (t : ℕ) (v : WorldState) (tick : Tick) (s : Watched) → IsLegalTick plan t v tick → s.streams ≡ plan.streams → AreToCome plan t s.script → Knows s v
       → Seen s t (world_after (tick_events plan t tick) v)
   tick_seen t v tick s legal streams come (nothing idle) =
       fresh_seen s t (world_after (tick_events plan t tick) v) (ap (λ (flags : List Bool). undisturbed s.streams (events_to t s.script) 0 flags) idle)
-  tick_seen t v tick s legal streams come (before idle marks) =
+  tick_seen t v tick s legal streams come (before idle is) =
       let w' : WorldState = world_after (tick_events plan t tick) v in
       let many : length (resting s t) ≡ length v.nodes =
       undisturbed-length s.streams (events_to t s.script) 0 s.idle ∙ (ap (λ (flags : List Bool). length flags) idle ∙ mapped_length is_idle v.nodes)
       in
       known_seen s t w'
-      (ap (λ (old : List Bool). marks_since s.streams (resting s t) old w') marks ∙ by_rests laws plan t v tick legal (resting s t) rest s.streams)
-      (λ all. marks ∙ all_idle laws plan t v tick legal (resting s t) rest s.streams many all)
+      (ap (λ (old : List Standing). standings_since s.streams (resting s t) old 0 w'.nodes) is ∙ by_rests laws plan t v tick legal (resting s t) rest s.streams)
+      (λ all. is ∙ all_idle laws plan t v tick legal (resting s t) rest s.streams many all)
     where
       rest : Rests plan t v (resting s t)
       rest x u h r =
@@ -331,14 +270,14 @@ module _ (laws : StepLaws) (plan : Plan) where
 
   pub seen_settled : (ticks : List Tick) (t : ℕ) (v : WorldState) (last : ℕ) (end : WorldState) (s : Watched) → LeadTo (IsCanonicalTick plan) plan t v ticks last end
       → s.streams ≡ plan.streams → AreToCome plan t s.script → Knows s v
-      → (having_seen after_end s (ends_from plan t v ticks)).settled ≡ since s.streams s.marks s.settled (ends_from plan t v ticks)
+      → (having_seen after_end s (ends_from plan t v ticks)).settled ≡ since s.streams s.standings s.settled (ends_from plan t v ticks)
   seen_settled [] t v last end s lead streams come knows = refl
   seen_settled (tick ∷ ticks) t v last end s lead streams come knows =
       let v' : WorldState = world_after (tick_events plan t tick) v in
       let seen : Seen s t v' = tick_seen t v tick s lead.0.legal streams come knows in
       seen_settled ticks (suc t) v' last end (after_end s t v') lead.1 streams (next-to-come plan t s.script come) (before refl seen.0)
-      ∙ (ap (λ (ms : List Bool). since s.streams ms (settled_seen s t v') (ends_from plan (suc t) v' ticks)) seen.0
-      ∙ ap (λ (n : ℕ). since s.streams (marks_of s.streams v') n (ends_from plan (suc t) v' ticks)) seen.1)
+      ∙ (ap (λ (ms : List Standing). since s.streams ms (settled_seen s t v') (ends_from plan (suc t) v' ticks)) seen.0
+      ∙ ap (λ (n : ℕ). since s.streams (standings_of s.streams v') n (ends_from plan (suc t) v' ticks)) seen.1)
 
 pub seen_spans : (s : Watched) (ends : List (ℕ × WorldState))
     → ended (having_seen after_end s ends).past (having_seen after_end s ends).latest ≡ kept_spans s.past s.latest ends
@@ -349,7 +288,7 @@ seen_spans s (end ∷ later) = seen_spans (after_end s end.0 end.1) later
 pub settled_is : (streams : List StreamEntry) (plan : Plan) (w : WorldState) (ticks : List Tick)
     → since streams [] 0 (ends_from plan 0 w ticks) ≡ settled_in streams (ends_from plan 0 w ticks)
 settled_is streams plan w [] = refl
-settled_is streams plan w (tick ∷ ticks) = since_is streams [] 0 ((0, v) ∷ later) ∙ by (are_same_marks [] (marks_of streams v)) refl
+settled_is streams plan w (tick ∷ ticks) = since_is streams [] 0 ((0, v) ∷ later) ∙ by (are_same_standings [] (standings_of streams v)) refl
   where
     v : WorldState
     v = world_after (tick_events plan 0 tick) w
@@ -357,11 +296,11 @@ settled_is streams plan w (tick ∷ ticks) = since_is streams [] 0 ((0, v) ∷ l
     later : List (ℕ × WorldState)
     later = ends_from plan 1 v ticks
 
-    by : (b : Bool) → are_same_marks [] (marks_of streams v) ≡ b
+    by : (b : Bool) → are_same_standings [] (standings_of streams v) ≡ b
         → (if b && list_all (stands_so streams []) later then 0 else settled_in streams ((0, v) ∷ later)) ≡ settled_in streams ((0, v) ∷ later)
     by true is =
-        subst (λ (ms : List Bool). (if list_all (stands_so streams ms) later then 0 else settled_in streams ((0, v) ∷ later)) ≡ settled_in streams ((0, v) ∷ later))
-        (sym (marks_same [] (marks_of streams v) is)) (inner (list_all (stands_so streams (marks_of streams v)) later))
+        subst (λ (ms : List Standing). (if list_all (stands_so streams ms) later then 0 else settled_in streams ((0, v) ∷ later)) ≡ settled_in streams ((0, v) ∷ later))
+        (sym (standings_same [] (standings_of streams v) is)) (inner (list_all (stands_so streams (standings_of streams v)) later))
       where
         inner : (c : Bool) → (if c then 0 else (if c then 0 else settled_in streams later)) ≡ (if c then 0 else settled_in streams later)
         inner true = refl

@@ -1,35 +1,35 @@
 -- A node that no event of a tick changes, that isn't busy when the tick begins, and that has nothing to say where it sends, hears
 -- and has booked at its end what it did at its beginning.
 use Rattle.std.proofs.Common.{◌≡◌, ◌≢◌, ◌⊎◌, inl, inr, ℕ, zero, suc, ◌+◌, ◌-◌, ◌==◌, Bool, true, false, not, ◌&&◌, ◌||◌, if◌then◌else◌, List, [], ◌∷◌, ◌++◌, length, map, refl, sym, ap, subst, ◌∙◌, arith}
-use Rattle.std.specs.Prelude.{filter, flat_map, slice_get, slice_set, Option, Some, None, is_some, option_map, option_and_then}
+use Rattle.std.specs.Prelude.{filter, slice_get, slice_set, Option, Some, None, option_map}
 use Rattle.std.specs.{Option.option_map_or, List.AllByRecursion, List.list_all}
 use Rattle.std.proofs.lemmas.Bool.{and_parts}
-use Rattle.srp_base.proofs.{Arithmetic.decide, Lists.get-all, Lists.get_set, Lists.get_set_other, Lists.get-set_same, Lists.length_set, Lists.map-map, Lists.mapped_length}
-use Rattle.srp_base.specs.declared.{numbers.NodeNo.NodeNo, numbers.PortNo.PortNo, numbers.EgressPort.EgressPort, numbers.StreamId.StreamId, streams.TalkerReg.TalkerReg, mrp.App.App, mrp.App.TheVariants.Mvrp, mrp.App.TheVariants.Msrp}
-use Rattle.tree_topology.specs.declared.graph.Link.{Link}
+use Rattle.srp_base.proofs.{Arithmetic.decide, Lists.get-all, Lists.get_set, Lists.get_set_other, Lists.length_set, Lists.map-map, Lists.mapped_length}
+use Rattle.srp_base.specs.declared.{numbers.NodeNo.NodeNo, numbers.PortNo.PortNo, numbers.EgressPort.EgressPort, numbers.StreamId.StreamId, streams.TalkerReg.TalkerReg, streams.ListenerKind.ListenerKind, mrp.App.App, mrp.App.TheVariants.Mvrp, mrp.App.TheVariants.Msrp}
 use Rattle.tree_topology.specs.Ports.{peer_of}
 use Rattle.tree_topology.specs.Topology.{Topology, HasPort, link_ports}
-use Rattle.topology_file.specs.declared.{entries.EventEntry.EventEntry, entries.StreamEntry.StreamEntry}
+use Rattle.topology_file.specs.declared.{entries.StreamEntry.StreamEntry}
 use Rattle.topology_file.specs.Plan.{Plan}
 use Rattle.attribute_propagation.specs.Ports.{place_of}
 use Rattle.mrp_participant.specs.State.{is_silent, is_still}
 use Rattle.mvrp.specs.Part.{Part as VlanPart}
 use Rattle.msrp.specs.Part.{Part as StreamPart}
 use Rattle.flat_side.specs.Side.{are_still}
-use Rattle.port_ledger.specs.Book.{entry_of}
 use Rattle.msrp.specs.{PortState.PortState, Part.registered_talker, Stream.advertise_of, Stream.first_talker, Stream.heard_from, Stream.is_listened, Stream.is_talker_port, Stream.talk_of, Side.Streams, Side.are_still as streams_are_still, Side.clocked_port, Side.clocked_streams, Side.has_listen, Side.heard_of}
 use Rattle.node_core.specs.declared.{types.NodeEvent.NodeEvent, types.NodeStep.NodeStep, types.PortStep.PortStep}
 use Rattle.node_core.specs.declared.types.NodeEvent.TheVariants as node_events
 use Rattle.node_core.specs.declared.types.PortStep.TheVariants.{Due, Settle, Send}
 use Rattle.node_core.specs.declared.types.Wire.{Wire}
-use Rattle.node_core.specs.{Links.forged_at, Links.lost_at, Links.repeated_at, Links.spoilt_at, Links.with_carried, Links.with_outbox, State.NodeState, State.are_empty, State.booked_at, State.box_at, State.if_booked, State.is_busy_node, State.is_sending_time, State.is_still_node, State.job_list, State.of_port, State.works, Step.node_step, Step.octets_to_say, Step.sent_octets}
+use Rattle.node_core.specs.{Links.forged_at, Links.lost_at, Links.repeated_at, Links.spoilt_at, Links.with_carried, Links.with_outbox, State.NodeState, State.are_empty, State.box_at, State.is_busy_node, State.is_sending_time, State.is_still_node, State.job_list, State.works, Step.node_step, Step.octets_to_say, Step.sent_octets}
 use Rattle.world_core.specs.declared.{events.WorldEvent.WorldEvent, journal.NodeSteps.NodeSteps, journal.Tick.Tick}
 use Rattle.world_core.specs.declared.events.WorldEvent.TheVariants.{Request, Port, Lose, Repeat, Forge, Carry, Clock}
-use Rattle.world_core.specs.{Ticks.IsLegalTick, Ticks.after_script, Ticks.closing_events, Ticks.jobs_of, Ticks.script_at, Ticks.scripted_from, Ticks.step_events, Ticks.steps_at_port, Ticks.steps_of, Ticks.tick_events, World.WorldState, World.after_carrying, World.after_repeat, World.app_of, World.reaches, World.with_forgery, World.with_loss, World.with_unsound_ends, World.after_step, World.node_at, World.outbox, World.step_of_node, World.with_changed, World.with_node, World.world_after, World.world_step}
+use Rattle.world_core.specs.{Ticks.IsLegalTick, Ticks.after_script, Ticks.closing_events, Ticks.jobs_of, Ticks.script_at, Ticks.step_events, Ticks.steps_at_port, Ticks.steps_of, Ticks.tick_events, World.WorldState, World.after_carrying, World.after_repeat, World.app_of, World.reaches, World.with_forgery, World.with_loss, World.with_unsound_ends, World.after_step, World.node_at, World.outbox, World.step_of_node, World.with_changed, World.with_node, World.world_after, World.world_step}
 use Rattle.world_core.specs.declared.events.WorldReply.TheVariants.{Missed}
 use Rattle.world_core.proofs.Timelines.{after_both}
-use Rattle.network_laws.specs.Streams.{has_booked}
-use Rattle.wishes.specs.RunMoments.{heard_marks, node_marks, port_marks, stream_marks}
+use Rattle.stream_importance.specs.declared.entry.Entry.{Entry}
+use Rattle.port_ledger.specs.Decision.{booked_of}
+use Rattle.wishes.specs.declared.standing.{Hearing.Hearing, Standing.Standing}
+use Rattle.wishes.specs.RunMoments.{bookings_in, hearing_of, hearings_in, standing_at}
 use Rattle.wishes.specs.Watching.{is_idle}
 
 -- ---- what a step is of
@@ -251,66 +251,27 @@ heard-clocked stream now side =
     ap (λ (rest : List TalkerReg). if is_listened stream side.listens && not (is_talker_port 0 (advertise_of (talk_of stream side.talks) ∷ rest))
     then heard_from (first_talker (advertise_of (talk_of stream side.talks) ∷ rest)) else None) talkers
 
-heard-marks : (now : ℕ) (side : Streams) (es : List StreamEntry)
-    → flat_map (stream_marks (clocked_streams now side)) es ≡ flat_map (stream_marks side) es
-heard-marks now side [] = refl
-heard-marks now side (e ∷ es) =
-    ap (λ (front : List Bool). front ++ flat_map (stream_marks (clocked_streams now side)) es) (ap (heard_marks (has_listen e.id side)) (heard-clocked e.id now side))
-    ∙ ap (λ (back : List Bool). stream_marks side e ++ back) (heard-marks now side es)
+hearings-clocked : (now : ℕ) (side : Streams) (es : List StreamEntry) → hearings_in es (clocked_streams now side) ≡ hearings_in es side
+hearings-clocked now side [] = refl
+hearings-clocked now side (e ∷ es) =
+    ap (λ (heard : Option ListenerKind). (record { listens = has_listen e.id side; heard = heard }) ∷ hearings_in es (clocked_streams now side)) (heard-clocked e.id now side)
+    ∙ ap (λ (later : List Hearing). hearing_of side e ∷ later) (hearings-clocked now side es)
 
--- a node whose clock went on hears what it did
+bookings-clocked : (now : ℕ) (side : Streams) → bookings_in (clocked_streams now side) ≡ bookings_in side
+bookings-clocked now side = map-map (λ (p : PortState). booked_of p.ledger.entries) (clocked_port now) side.ports
+
+-- at a node whose clock went on stands what stood
 pub node-same : (streams : List StreamEntry) (x : ℕ) (w : WorldState) (s t : NodeState) → IsClocked (streams_at x w) s.streams → slice_get w.nodes x ≡ Some t
-    → node_marks streams s ≡ node_marks streams t
+    → standing_at streams s ≡ standing_at streams t
 node-same streams x w s t clocked h =
     let one : Some t.streams ≡ Some (clocked_streams clocked.0 s.streams) = sym (ap (option_map (λ (u : NodeState). u.streams)) h) ∙ clocked.1 in
     let same : t.streams ≡ clocked_streams clocked.0 s.streams = cc in
-    sym (ap (λ (side : Streams). flat_map (stream_marks side) streams) same ∙ heard-marks clocked.0 s.streams streams)
-
--- whether a stream is booked at a place of what MSRP keeps
-abbrev booked_in : StreamId → ℕ → Streams → Bool
-booked_in stream k side = is_some (of_port (λ (port : PortState). option_and_then if_booked (entry_of port.ledger.entries stream)) None k side)
-
-booked-clocked : (stream : StreamId) (k now : ℕ) (side : Streams) → booked_in stream k (clocked_streams now side) ≡ booked_in stream k side
-booked-clocked stream k now side =
-    ap (λ o. is_some (option_map_or (λ (port : PortState). option_and_then if_booked (entry_of port.ledger.entries stream)) o None)) (get-mapped (clocked_port now) side.ports k)
-    ∙ by (slice_get side.ports k)
+    let heard : hearings_in streams t.streams ≡ hearings_in streams s.streams = ap (hearings_in streams) same ∙ hearings-clocked clocked.0 s.streams streams in
+    let booked : bookings_in t.streams ≡ bookings_in s.streams = ap bookings_in same ∙ bookings-clocked clocked.0 s.streams in
+    sym (ap (λ (row : List Hearing). standing_with row (bookings_in t.streams)) heard ∙ ap (λ (rows : List (List Entry)). standing_with (hearings_in streams s.streams) rows) booked)
   where
-    by : (o : Option PortState)
-        → is_some (option_map_or (λ (port : PortState). option_and_then if_booked (entry_of port.ledger.entries stream)) (option_map (clocked_port now) o) None)
-        ≡ is_some (option_map_or (λ (port : PortState). option_and_then if_booked (entry_of port.ledger.entries stream)) o None)
-    by None = refl
-    by (Some port) = refl
-
-booked-by : (stream : StreamId) (p : EgressPort) (w : WorldState)
-    → has_booked w stream p ≡ option_map_or (booked_in stream (place_of p.port)) (streams_at (p.node.0 - 1) w) false
-booked-by stream p w = by (slice_get w.nodes (p.node.0 - 1))
-  where
-    by : (o : Option NodeState)
-        → option_map_or (λ (s : NodeState). is_some (booked_at stream (place_of p.port) s)) o false
-        ≡ option_map_or (booked_in stream (place_of p.port)) (option_map (λ (s : NodeState). s.streams) o) false
-    by None = refl
-    by (Some s) = refl
-
-each-same : (streams : List StreamEntry) (p : EgressPort) (v w : WorldState) → ((stream : StreamId) → has_booked v stream p ≡ has_booked w stream p)
-    → port_marks streams v p ≡ port_marks streams w p
-each-same [] p v w one = refl
-each-same (e ∷ es) p v w one =
-    ap (λ (b : Bool). b ∷ map (λ (f : StreamEntry). has_booked v f.id p) es) (one e.id) ∙ ap (λ (bs : List Bool). has_booked w e.id p ∷ bs) (each-same es p v w one)
-
--- a port of such a node has booked what it had
-pub port-same : (streams : List StreamEntry) (p : EgressPort) (v w : WorldState) (side : Streams) → streams_at (p.node.0 - 1) v ≡ Some side
-    → IsClocked (streams_at (p.node.0 - 1) w) side → port_marks streams v p ≡ port_marks streams w p
-port-same streams p v w side h clocked = each-same streams p v w (λ stream.
-    booked-by stream p v
-    ∙ (ap (λ o. option_map_or (booked_in stream (place_of p.port)) o false) h
-    ∙ (sym (booked-clocked stream (place_of p.port) clocked.0 side)
-    ∙ (sym (ap (λ o. option_map_or (booked_in stream (place_of p.port)) o false) clocked.1) ∙ sym (booked-by stream p w)))))
-
--- a port of no node has booked nothing
-pub port-none : (streams : List StreamEntry) (p : EgressPort) (v w : WorldState) → slice_get v.nodes (p.node.0 - 1) ≡ None → slice_get w.nodes (p.node.0 - 1) ≡ None
-    → port_marks streams v p ≡ port_marks streams w p
-port-none streams p v w h k = each-same streams p v w (λ stream.
-    ap (λ (o : Option NodeState). option_map_or (λ (s : NodeState). is_some (booked_at stream (place_of p.port) s)) o false) (h ∙ sym k))
+    standing_with : List Hearing → List (List Entry) → Standing
+    standing_with row rows = record { heard = row; booked = rows }
 
 -- ---- how many nodes there are
 

@@ -1,7 +1,7 @@
 -- A node that no event of a tick may change is left by the events of the tick.
-use Rattle.std.proofs.Common.{◌≡◌, ◌≢◌, ◌⊎◌, inl, inr, ℕ, zero, suc, ◌+◌, ◌-◌, ◌<◌, ◌≤◌, ◌==◌, Bool, true, false, not, ◌&&◌, ◌||◌, if◌then◌else◌, List, [], ◌∷◌, ◌++◌, length, map, take, drop, get_or, refl, sym, ap, subst, ◌∙◌, append_assoc, arith}
-use Rattle.std.specs.Prelude.{nat_le, slice_get, slice_set, Option, Some, None, IfSome, option_map}
-use Rattle.std.specs.{Option.option_map_or, List.AllByRecursion, List.list_any, List.Sorted.IsNonDecreasing}
+use Rattle.std.proofs.Common.{◌≡◌, ◌≢◌, ◌⊎◌, inl, inr, ℕ, zero, suc, ◌+◌, ◌-◌, ◌<◌, ◌≤◌, ◌==◌, Bool, true, false, not, ◌&&◌, if◌then◌else◌, List, [], ◌∷◌, ◌++◌, length, map, take, drop, get_or, refl, sym, ap, subst, ◌∙◌, append_assoc, arith}
+use Rattle.std.specs.Prelude.{nat_le, slice_get, Option, Some, None, IfSome, option_map}
+use Rattle.std.specs.{Option.option_map_or, List.AllByRecursion, List.Sorted.IsNonDecreasing}
 use Rattle.std.proofs.lemmas.{Bool.eqb-false, Bool.or_parts, Bool.Decides.nat_tests, Option.slice_get_within, List.length-map}
 use Rattle.srp_base.proofs.{Arithmetic.decide, Arithmetic.same_where_equal, Lists.each_append, Lists.each_more, Lists.each_of, Lists.get_set_other}
 use Rattle.srp_base.specs.declared.numbers.NodeNo.{NodeNo}
@@ -16,7 +16,7 @@ use Rattle.node_core.specs.{State.NodeState, Step.node_step}
 use Rattle.world_core.specs.declared.{events.WorldEvent.WorldEvent, events.WorldReply.TheVariants.Missed}
 use Rattle.world_core.specs.declared.events.WorldEvent.TheVariants.{Request, Port, Lose, Repeat, Forge, Carry, Clock}
 use Rattle.world_core.specs.{Ticks.after_script, Ticks.event_of, Ticks.script_at, Ticks.scripted_from, Ticks.stream_at, Ticks.talker_of_entry, Ticks.with_event, World.WorldState, World.after_step, World.node_at, World.world_after, World.world_step}
-use Rattle.wishes.specs.Watching.{count_to, disturbs, events_past, events_to, is_at_place, is_disturbed, is_talker_at, rests_at, undisturbed}
+use Rattle.wishes.specs.Watching.{count_to, disturbs, events_past, events_to, is_at_place, is_disturbed, rests_at, undisturbed}
 
 -- ---- an event that asks nothing of a node
 

@@ -1,60 +1,72 @@
--- The moments of a run: since when nothing that the stations hear or the ports have booked changes,
+-- The moments of a run: since when nothing that the applications hear or the ports have booked changes,
 -- and in which ticks nothing is pending. Each network is that at the end of a tick, with the tick's
 -- number.
-use Rattle.std.specs.Prelude.{ℕ, ◌+◌, ◌==◌, Bool, true, false, ◌&&◌, if◌then◌else◌, List, [], ◌∷◌, ◌++◌, map, flat_map, codes, Option}
-use Rattle.std.specs.{Option.is_some, List.list_all, Cmp.Lexicographic.pointwise, Fmt.decimal}
+use Rattle.std.specs.Prelude.{ℕ, ◌+◌, ◌==◌, Bool, true, false, ◌&&◌, if◌then◌else◌, List, [], ◌∷◌, ◌++◌, map, flat_map, codes}
+use Rattle.std.specs.{Option.option_eq, List.list_all, Cmp.Lexicographic.pointwise, Fmt.decimal}
 use Rattle.srp_base.specs.Text.{whole_of}
-use Rattle.tree_topology.specs.Topology.{link_ports}
 use Rattle.topology_file.specs.declared.entries.StreamEntry.{StreamEntry}
 use Rattle.topology_file.specs.Plan.{Plan}
-use Rattle.srp_base.specs.declared.{numbers.EgressPort.EgressPort, streams.ListenerKind.ListenerKind}
-use Rattle.msrp.specs.Side.{Streams, has_listen, heard_of}
+use Rattle.srp_base.specs.declared.streams.ListenerKind.{ListenerKind}
+use Rattle.srp_base.specs.{contracts.streams.ListenerKindPartialEq.TheImpl.ghosts as kind_equality}
+use Rattle.stream_importance.specs.declared.entry.Entry.{Entry}
+use Rattle.port_ledger.specs.{Book.same_entry, Decision.booked_of}
+use Rattle.msrp.specs.{PortState.PortState, Side.Streams, Side.has_listen, Side.heard_of}
 use Rattle.node_core.specs.State.{NodeState}
 use Rattle.world_core.specs.declared.journal.Tick.{Tick}
 use Rattle.world_core.specs.World.{WorldState, is_in_step, is_quiet}
-use Rattle.network_laws.specs.Streams.{has_booked, is_ready_heard}
 use Rattle.srp_schedule.specs.Watch.{ends_of}
-use Rattle.wishes.specs.declared.moments.{Moments.Moments, Span.Span}
+use Rattle.wishes.specs.declared.{moments.Moments.Moments, moments.Span.Span, standing.Hearing.Hearing, standing.Standing.Standing}
 
 -- ---- what stands
 
--- whether an application listens, whether anything is heard, and whether that is Ready
-abbrev pub heard_marks : Bool → Option ListenerKind → List Bool
-heard_marks listens heard = listens ∷ is_some heard ∷ is_ready_heard heard ∷ []
+-- what is heard of a stream at a node: whether its application listens, and what that hears
+abbrev pub hearing_of : Streams → StreamEntry → Hearing
+hearing_of side e = record { listens = has_listen e.id side; heard = heard_of e.id side }
 
--- what the application of a node hears of a stream
-abbrev pub stream_marks : Streams → StreamEntry → List Bool
-stream_marks side e = heard_marks (has_listen e.id side) (heard_of e.id side)
+-- of each of some streams
+abbrev pub hearings_in : List StreamEntry → Streams → List Hearing
+hearings_in streams side = map (hearing_of side) streams
 
--- what it hears of each of some streams
-abbrev pub node_marks : List StreamEntry → NodeState → List Bool
-node_marks streams s = flat_map (stream_marks s.streams) streams
+-- what each link port of a node has booked, of whatever streams: their wants, and since when
+abbrev pub bookings_in : Streams → List (List Entry)
+bookings_in side = map (λ (p : PortState). booked_of p.ledger.entries) side.ports
 
--- which of them a port has booked
-abbrev pub port_marks : List StreamEntry → WorldState → EgressPort → List Bool
-port_marks streams w p = map (λ (e : StreamEntry). has_booked w e.id p) streams
+-- what stands at a node
+abbrev pub standing_at : List StreamEntry → NodeState → Standing
+standing_at streams s = record { heard = hearings_in streams s.streams; booked = bookings_in s.streams }
 
--- what stands in a network: what each node hears, and what each port has booked
-abbrev pub marks_of : List StreamEntry → WorldState → List Bool
-marks_of streams w = flat_map (node_marks streams) w.nodes ++ flat_map (port_marks streams w) (link_ports w.tree)
+-- what stands in a network, node by node
+abbrev pub standings_of : List StreamEntry → WorldState → List Standing
+standings_of streams w = map (standing_at streams) w.nodes
 
-abbrev pub is_same_mark : Bool → Bool → Bool
-is_same_mark true b = b
-is_same_mark false true = false
-is_same_mark false false = true
+abbrev pub same_flag : Bool → Bool → Bool
+same_flag true b = b
+same_flag false true = false
+same_flag false false = true
 
-abbrev pub are_same_marks : List Bool → List Bool → Bool
-are_same_marks xs ys = pointwise is_same_mark xs ys
+abbrev pub same_kind : ListenerKind → ListenerKind → Bool
+same_kind = kind_equality.eq
 
--- whether a network of the same streams stands as these marks say
-abbrev pub stands_so : List StreamEntry → List Bool → ℕ × WorldState → Bool
-stands_so streams marks end = are_same_marks marks (marks_of streams end.1)
+abbrev pub same_hearing : Hearing → Hearing → Bool
+same_hearing a b = same_flag a.listens b.listens && option_eq same_kind a.heard b.heard
+
+-- whether the same stands at two nodes: the same is heard of each stream, and the same is booked at
+-- each port
+abbrev pub same_standing : Standing → Standing → Bool
+same_standing a b = pointwise same_hearing a.heard b.heard && pointwise (pointwise same_entry) a.booked b.booked
+
+abbrev pub are_same_standings : List Standing → List Standing → Bool
+are_same_standings xs ys = pointwise same_standing xs ys
+
+-- whether a network stands so
+abbrev pub stands_so : List StreamEntry → List Standing → ℕ × WorldState → Bool
+stands_so streams standings end = are_same_standings standings (standings_of streams end.1)
 
 -- the first tick from whose end on all stands as then
 abbrev pub settled_in : List StreamEntry → List (ℕ × WorldState) → ℕ
 settled_in streams [] = 0
 settled_in streams (end ∷ later) =
-    if list_all (stands_so streams (marks_of streams end.1)) later then end.0 else settled_in streams later
+    if list_all (stands_so streams (standings_of streams end.1)) later then end.0 else settled_in streams later
 
 -- ---- where nothing is pending
 

@@ -1,14 +1,13 @@
 -- What is kept of a run while it goes on. No public contract names these words.
 use Rattle.std.specs.Prelude.{ℕ, ◌+◌, ◌-◌, ◌==◌, Bool, true, false, not, ◌&&◌, ◌||◌, nat_le, if◌then◌else◌, List, [], ◌∷◌, ◌++◌, length, map, take, drop, Option, Some, None, slice_get}
 use Rattle.std.specs.{Option.option_map_or, List.list_all, List.list_any}
-use Rattle.srp_base.specs.declared.{numbers.EgressPort.EgressPort, numbers.NodeNo.NodeNo}
-use Rattle.tree_topology.specs.Topology.{link_ports}
+use Rattle.srp_base.specs.declared.numbers.NodeNo.{NodeNo}
 use Rattle.topology_file.specs.declared.{entries.EventEntry.EventEntry, entries.EventKind.EventKind, entries.StreamEntry.StreamEntry}
 use Rattle.topology_file.specs.declared.entries.EventKind.TheVariants as kinds
 use Rattle.node_core.specs.State.{NodeState, is_busy_node, is_sending_time, is_still_node}
 use Rattle.world_core.specs.{Ticks.stream_at, World.WorldState}
-use Rattle.wishes.specs.declared.moments.Span.{Span}
-use Rattle.wishes.specs.RunMoments.{are_same_marks, is_calm, node_marks, one_tick, port_marks}
+use Rattle.wishes.specs.declared.{moments.Span.Span, standing.Standing.Standing}
+use Rattle.wishes.specs.RunMoments.{are_same_standings, is_calm, one_tick, standing_at}
 
 -- the streams that are watched, the scenario's events that are still to come, which nodes have nothing
 -- to do by themselves in the next tick, what stands since which tick, the stretches that are over, and
@@ -17,7 +16,7 @@ pub record Watched : Type 0 where
   pub streams : List StreamEntry
   pub script : List EventEntry
   pub idle : List Bool
-  pub marks : List Bool
+  pub standings : List Standing
   pub settled : ℕ
   pub past : List Span
   pub latest : Option Span
@@ -88,46 +87,21 @@ all_rest rests = if length rests == 0 then false else list_all (λ b. b) rests
 
 -- ---- what stands, by what stood
 
--- as many marks as there are streams, twice and three times
-abbrev pub two_rows : List StreamEntry → List Bool → List Bool
-two_rows streams old = take (length streams) old ++ take (length streams) (drop (length streams) old)
+-- what stood at a node, where that is known and the node rests, or else what stands there
+abbrev pub kept_or : Bool → Option Standing → Standing → Standing
+kept_or true (Some was) now = was
+kept_or true None now = now
+kept_or false was now = now
 
-abbrev pub three_rows : List StreamEntry → List Bool → List Bool
-three_rows streams old = take (length streams) old ++ two_rows streams (drop (length streams) old)
+-- what stands at the node of a place
+abbrev pub standing_since : List StreamEntry → List Bool → List Standing → ℕ → NodeState → Standing
+standing_since streams rests old x s = kept_or (rests_at rests x) (slice_get old x) (standing_at streams s)
 
--- what a node hears, and what of the old marks is behind its own: its old ones where it rests
-abbrev pub node_since : List StreamEntry → List Bool → List Bool → ℕ → NodeState → List Bool
-node_since streams rests old x s = if rests_at rests x then three_rows streams old else node_marks streams s
-
-abbrev pub behind_node : List StreamEntry → List Bool → List Bool
-behind_node streams old = drop (length streams) (drop (length streams) (drop (length streams) old))
-
--- what some nodes hear, of which the first is at place x
-abbrev pub nodes_since : List StreamEntry → List Bool → List Bool → ℕ → List NodeState → List Bool
-nodes_since streams rests old x [] = []
-nodes_since streams rests old x (s ∷ nodes) =
-    node_since streams rests old x s ++ nodes_since streams rests (behind_node streams old) (x + 1) nodes
-
--- what a port has booked: its old marks where its node rests
-abbrev pub port_since : List StreamEntry → List Bool → WorldState → List Bool → EgressPort → List Bool
-port_since streams rests w old p =
-    if rests_at rests (p.node.0 - 1) then take (length streams) old else port_marks streams w p
-
--- what some ports have
-abbrev pub ports_since : List StreamEntry → List Bool → WorldState → List Bool → List EgressPort → List Bool
-ports_since streams rests w old [] = []
-ports_since streams rests w old (p ∷ ports) =
-    port_since streams rests w old p ++ ports_since streams rests w (drop (length streams) old) ports
-
--- the old marks behind those of nodes
-abbrev pub behind_nodes : List StreamEntry → List Bool → WorldState → List Bool → List Bool
-behind_nodes streams rests w old = drop (length (nodes_since streams rests old 0 w.nodes)) old
-
--- what stands in a network
-abbrev pub marks_since : List StreamEntry → List Bool → List Bool → WorldState → List Bool
-marks_since streams rests old w =
-    nodes_since streams rests old 0 w.nodes
-    ++ ports_since streams rests w (behind_nodes streams rests w old) (link_ports w.tree)
+-- what stands at some nodes, of which the first is at place x
+abbrev pub standings_since : List StreamEntry → List Bool → List Standing → ℕ → List NodeState → List Standing
+standings_since streams rests old x [] = []
+standings_since streams rests old x (s ∷ nodes) =
+    standing_since streams rests old x s ∷ standings_since streams rests old (x + 1) nodes
 
 -- ---- the stretches
 
@@ -144,17 +118,19 @@ ended past (Some span) = past ++ span ∷ []
 -- ---- the end of a tick
 
 -- what stands after tick t, and since when
-abbrev pub marks_seen : Watched → ℕ → WorldState → List Bool
-marks_seen s t w = if all_rest (resting s t) then s.marks else marks_since s.streams (resting s t) s.marks w
+abbrev pub standings_seen : Watched → ℕ → WorldState → List Standing
+standings_seen s t w =
+    if all_rest (resting s t) then s.standings
+    else standings_since s.streams (resting s t) s.standings 0 w.nodes
 
 abbrev pub settled_seen : Watched → ℕ → WorldState → ℕ
 settled_seen s t w =
     if all_rest (resting s t) then s.settled
-    else if are_same_marks s.marks (marks_since s.streams (resting s t) s.marks w) then s.settled
+    else if are_same_standings s.standings (standings_since s.streams (resting s t) s.standings 0 w.nodes) then s.settled
     else t
 
 abbrev pub looked : Watched → ℕ → WorldState → Watched
-looked s t w = record s { marks = marks_seen s t w; settled = settled_seen s t w }
+looked s t w = record s { standings = standings_seen s t w; settled = settled_seen s t w }
 
 -- the watched after the end of a tick, by whether the network is quiet and in step
 abbrev pub after_end : Watched → ℕ → WorldState → Watched
@@ -162,7 +138,7 @@ after_end s t w = record {
   streams = s.streams;
   script = events_past t s.script;
   idle = map is_idle w.nodes;
-  marks = marks_seen s t w;
+  standings = standings_seen s t w;
   settled = settled_seen s t w;
   past = if is_calm w then s.past else ended s.past s.latest;
   latest = if is_calm w then Some (going_on t s.latest) else None;
@@ -171,4 +147,4 @@ after_end s t w = record {
 -- before the first tick
 abbrev pub unwatched : List StreamEntry → List EventEntry → Watched
 unwatched streams script =
-    record { streams = streams; script = script; idle = []; marks = []; settled = 0; past = []; latest = None }
+    record { streams = streams; script = script; idle = []; standings = []; settled = 0; past = []; latest = None }

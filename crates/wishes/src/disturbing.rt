@@ -3,7 +3,7 @@
 ghost use Rattle.std.specs.Prelude.{◌≡◌, IfOk};
 ghost use Rattle.wishes.specs.Watching.{count_to as count_to_spec, disturbs as disturbs_spec, events_past as events_past_spec, events_to as events_to_spec, is_at_place as is_at_place_spec, is_disturbed as is_disturbed_spec, is_talker_at as is_talker_at_spec, undisturbed as undisturbed_spec};
 
-use crate::marks::{behind, front};
+use crate::resting::{behind, front};
 use srp_base::{NoMemory, NodeNo};
 use std::alloc::Global;
 use topology_file::{EventEntry, EventKind, StreamEntry};

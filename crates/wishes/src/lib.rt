@@ -24,8 +24,8 @@
 //! says that in a network at rest a wish is granted exactly where its application hears Ready, and
 //! in any network only where each port of its way has booked; and that `within` is the number of
 //! `delays`. `need_laws` joins wishes with what port_needs asks of the ports for them (`needs_of` of
-//! `specs/Needs.antt`): at rest, where nothing is needed all of them are granted, and a port that is
-//! too small leads to one that isn't.
+//! `specs/Needs.antt`): at rest, where nothing is needed all of them are granted, each port that is
+//! too small has one on its way that isn't, and one that stands under `never` isn't.
 //!
 //! `doubts_text` (`specs/Doubts.antt`) has a line exactly where its fact holds, and `moments_of`
 //! (`specs/RunMoments.antt`) are functions of the networks at the ends of all ticks, of which a run
@@ -38,6 +38,8 @@
 //! `entry_doubts`, `station_doubts` or `doubts_by`, with its writer in `doubt_lines.rt` and its call
 //! in `doubts.rt`. A further moment is a field of `Moments` with its definition in
 //! `specs/RunMoments.antt`, and what has to be kept for it in `specs/Watching.antt` and `watch.rt`.
+//! What `settled` compares more of a node is a field of `Standing` (`standing.rt`) with its part of
+//! `standing_at` and `same_standing`.
 #![tactic(auto)]
 
 pub mod copy_laws;
@@ -47,10 +49,11 @@ mod doubts;
 pub mod laws;
 mod lines;
 mod listeners;
-mod marks;
 mod moments;
 pub mod need_laws;
 mod outlook;
+mod resting;
+mod standing;
 mod text;
 mod watch;
 mod way;

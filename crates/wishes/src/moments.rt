@@ -1,5 +1,5 @@
-//! The moments of a run: since when nothing changes that the stations hear or the ports have booked,
-//! and in which ticks nothing is pending.
+//! The moments of a run: since when nothing changes that the applications hear or the ports have
+//! booked, and in which ticks nothing is pending.
 
 ghost use Rattle.std.specs.Prelude.{◌≡◌, ◌++◌, ℕ, true, None, flat_map, IfOk, OnOk};
 ghost use Rattle.srp_base.specs.declared.mrp.App.{App};
@@ -31,8 +31,9 @@ pub struct Span {
 /// The moments of a run.
 #[derive(Drop)]
 pub struct Moments {
-    /// The first tick from whose end on what the applications hear and what the ports have booked of
-    /// the file's streams stays so up to the run's end.
+    /// The first tick from whose end on, up to the run's end, nothing changes in which of the file's
+    /// streams each application listens to and what it hears of them, nor in what each port has
+    /// booked, of whatever streams: their classes, ranks and slopes, and since when.
     pub settled: u64,
     /// The longest stretches of ticks at whose ends the network is quiet and in step, in order.
     pub quiet: Seq<Span>,

@@ -1,7 +1,7 @@
 //! What it means that a network needs nothing. Each law is a function that does nothing; calling it
 //! brings the law to a proof.
 
-ghost use Rattle.std.specs.Prelude.{◌≡◌, List, []};
+ghost use Rattle.std.specs.Prelude.{◌≡◌, false, Contains, List, []};
 ghost use Rattle.srp_base.specs.declared.numbers.EgressPort.{EgressPort};
 ghost use Rattle.tree_topology.specs.Topology.{HasPort};
 ghost use Rattle.topology_file.specs.{Plan.Plan, Scenario.KeepsRules};
@@ -9,7 +9,9 @@ ghost use Rattle.world_core.specs.declared.journal.Tick.{Tick};
 ghost use Rattle.world_core.specs.{Moments.IsMoment, Ticks.AreLegalTicks, World.WorldState};
 ghost use Rattle.network_laws.specs.Vlans.{IsAtRest};
 ghost use Rattle.port_needs.specs.{Laws.IsLargeEnough, Needs.needs_lines, Needs.never_lines};
-ghost use Rattle.wishes.specs.Needs.{needs_in, AreGranted, AreGrantedBehind};
+ghost use Rattle.wishes.specs.Needs.{needs_in, AreGranted, AreGrantedBehind, HasMissedBehind, HasNeed, IsUnderNever};
+ghost use Rattle.wishes.specs.Wishes.{grants, wishes_in};
+ghost use Rattle.wishes.specs.declared.wish.Wish.{Wish};
 
 use network_laws::cause_laws::{
     caps_are_those_of_the_scenario, each_failure_has_its_cause, edges_are_those_of_the_scenario,
@@ -69,4 +71,42 @@ pub fn where_nothing_is_needed_all_is_granted()
     what_is_allowed_may_happen();
     what_is_wished_is_asked();
     who_misses_a_stream_has_a_failure();
+}
+
+/// At every moment of every legal run of a scenario at which the network is at rest: behind each
+/// port that is too small for all that is wished then, so that it has a line of what it needs, is a
+/// wish that isn't granted, and the port stands on its way from the Talker's station.
+pub fn behind_each_port_that_needs_more_a_wish_is_missed()
+    ensures { (plan : Plan) (ticks : List Tick) (end w : WorldState) (p : EgressPort)
+        → KeepsRules plan → AreLegalTicks plan ticks end → IsMoment plan ticks w → IsAtRest w
+        → HasPort plan.tree p → HasNeed plan w p → HasMissedBehind plan w p }
+{
+    a_ledger_that_booked_all_is_large_enough();
+    a_stream_leaves_by_the_ports_of_its_way();
+    caps_are_those_of_the_scenario();
+    every_moment_keeps_it();
+    every_moment_talks_by_the_plan();
+    what_a_port_keeps_is_wanted_behind();
+    what_is_allowed_may_happen();
+    what_is_wished_is_asked();
+}
+
+/// At every moment of every legal run of a scenario at which the network is at rest: a wish that
+/// stands under `never`, as each port refuses its stream, or as a boundary of the domain of the
+/// stream's class stands on the way, isn't granted.
+pub fn a_wish_under_never_is_missed()
+    ensures { (plan : Plan) (ticks : List Tick) (end w : WorldState) (wish : Wish)
+        → KeepsRules plan → AreLegalTicks plan ticks end → IsMoment plan ticks w → IsAtRest w
+        → Contains (wishes_in plan w) wish → IsUnderNever plan wish
+        → grants wish.answer ≡ false }
+{
+    a_stream_leaves_by_the_ports_of_its_way();
+    caps_are_those_of_the_scenario();
+    edges_are_those_of_the_scenario();
+    every_moment_keeps_it();
+    every_moment_talks_by_the_plan();
+    nothing_is_needed_where_all_are_large_enough();
+    ports();
+    what_a_port_keeps_is_wanted_behind();
+    what_is_allowed_may_happen();
 }

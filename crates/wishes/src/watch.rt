@@ -1,12 +1,13 @@
 //! What is kept of a run while it goes on.
 
 ghost use Rattle.std.specs.Prelude.{◌≡◌, if◌then◌else◌, Some, None, IfOk, OnOk};
-ghost use Rattle.wishes.specs.RunMoments.{are_same_marks as are_same_marks_spec};
+ghost use Rattle.wishes.specs.RunMoments.{are_same_standings as are_same_standings_spec};
 ghost use Rattle.wishes.specs.Watching.{after_end, ended, going_on as going_on_spec};
 
 use crate::disturbing::{events_past, events_to, undisturbed};
-use crate::marks::{all_rest, are_same_marks, idle_nodes, marks_since};
 use crate::moments::{Moments, Span};
+use crate::resting::{all_rest, idle_nodes};
+use crate::standing::{Standing, are_same_standings, standings_since};
 use srp_base::{NoMemory, Seq};
 use srp_schedule::RunWatcher;
 use std::alloc::Global;
@@ -24,7 +25,7 @@ pub(crate) struct Watch<'a> {
     streams: &'a [StreamEntry],
     script: &'a [EventEntry],
     idle: Vec<bool>,
-    marks: Vec<bool>,
+    standings: Vec<Standing>,
     settled: u64,
     past: Vec<Span>,
     latest: Option<Span>,
@@ -39,7 +40,7 @@ impl<'a> Model for Watch<'a> {
       streams = w.streams.now;
       script = w.script.now;
       idle = w.idle.items;
-      marks = w.marks.items;
+      standings = w.standings.items;
       settled = w.settled;
       past = w.past.items;
       latest = w.latest;
@@ -58,7 +59,7 @@ impl<'a> Watch<'a> {
             streams: scenario.streams.as_slice(),
             script: scenario.events.as_slice(),
             idle: Vec::new(alloc),
-            marks: Vec::new(alloc),
+            standings: Vec::new(alloc),
             settled: 0,
             past: Vec::new(alloc),
             latest: None,
@@ -90,20 +91,15 @@ impl<'a> Watch<'a> {
     fn look(&mut self, tick: u64, world: &World) -> Result<(), NoMemory>
         ensures { OnOk result (self.new ≡ looked self.old tick world.now) }
     {
-        let alloc = *self.marks.allocator();
+        let alloc = *self.standings.allocator();
         let rests = self.resting(alloc, tick)?;
         if all_rest(rests.as_slice()) {
             return Ok(());
         }
-        let marks = marks_since(
-            alloc,
-            self.streams,
-            rests.as_slice(),
-            self.marks.as_slice(),
-            world,
-        )?;
-        self.settled = settled_at(self.settled, tick, self.marks.as_slice(), marks.as_slice());
-        self.marks = marks;
+        let before = self.standings.as_slice();
+        let now = standings_since(alloc, self.streams, rests.as_slice(), before, world)?;
+        self.settled = settled_at(self.settled, tick, before, now.as_slice());
+        self.standings = now;
         Ok(())
     }
 }
@@ -114,7 +110,7 @@ impl<'a> RunWatcher for Watch<'a> {
     fn see(&mut self, tick: u64, world: &World) -> Result<(), NoMemory>
         ensures { OnOk result (self.new ≡ after_end self.old tick world.now) }
     {
-        let alloc = *self.marks.allocator();
+        let alloc = *self.standings.allocator();
         self.look(tick, world)?;
         self.script = events_past(self.script, tick);
         self.idle = idle_nodes(alloc, world)?;
@@ -129,10 +125,10 @@ impl<'a> RunWatcher for Watch<'a> {
 }
 
 // Since which tick all stands as it does, by what stood before.
-fn settled_at(settled: u64, tick: u64, before: &[bool], marks: &[bool]) -> u64
-    ensures { result ≡ (if are_same_marks_spec before.now marks.now then settled else tick) }
+fn settled_at(settled: u64, tick: u64, before: &[Standing], now: &[Standing]) -> u64
+    ensures { result ≡ (if are_same_standings_spec before.now now.now then settled else tick) }
 {
-    if are_same_marks(before, marks) {
+    if are_same_standings(before, now) {
         settled
     } else {
         tick

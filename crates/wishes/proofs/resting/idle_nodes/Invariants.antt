@@ -1,6 +1,6 @@
 use Rattle.std.proofs.Common.{◌≡◌, ◌++◌, drop, map}
 use Rattle.wishes.specs.{is_idle}
-use Rattle.wishes.proofs.marks.idle_nodes.Given as goal
+use Rattle.wishes.proofs.resting.idle_nodes.Given as goal
 
 -- the flags so far with those of the nodes that are left are all
 abbrev pub invariant-loop-i : goal.invariant-loop-i

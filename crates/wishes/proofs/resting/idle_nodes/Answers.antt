@@ -1,8 +1,8 @@
 use Rattle.std.proofs.Common.{◌≡◌, ℕ, ◌+◌, ◌-◌, ◌++◌, ◌∷◌, [], Bool, ap, subst, ◌∙◌, arith}
 use Rattle.std.specs.Prelude.{Some, slice_get}
 use Rattle.wishes.specs.{is_idle}
-use Rattle.wishes.proofs.ListLemmas.{next_flag}
-use Rattle.wishes.proofs.marks.idle_nodes.Goals as goal
+use Rattle.wishes.proofs.ListLemmas.{next_mapped}
+use Rattle.wishes.proofs.resting.idle_nodes.Goals as goal
 
 pub loop-i-preserved : goal.loop-i-preserved
 loop-i-preserved c =
@@ -12,5 +12,5 @@ loop-i-preserved c =
     let same : i + 1 - 1 ≡ i = omega arith in
     let at : slice_get nodes i ≡ Some s = subst (λ (k : ℕ). slice_get nodes k ≡ Some s) same c.node.ensures in
     let idle = c.loop-i.idle.items in
-    next_flag is_idle i idle c.push.new.self.items nodes s at (c.in_ok-push.ensures.items ∙ ap (λ (b : Bool). idle ++ b ∷ []) c.is_idle.ensures)
+    next_mapped is_idle i idle c.push.new.self.items nodes s at (c.in_ok-push.ensures.items ∙ ap (λ (b : Bool). idle ++ b ∷ []) c.is_idle.ensures)
     ∙ c.loop-i.invariant
