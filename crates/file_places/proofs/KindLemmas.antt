@@ -1,8 +1,9 @@
 -- The lines of a text, one after the other, and which of them are of a kind.
-use Rattle.std.proofs.Common.{◌≡◌, ℕ, zero, suc, ◌+◌, ◌==◌, ◌<◌, ◌-◌, Bool, true, false, ◌&&◌, cond, List, [], ◌∷◌, length, take, drop, get_or, if◌then◌else◌, refl, sym, ap, ◌∙◌, arith}
+use Rattle.std.proofs.Common.{◌≡◌, ℕ, zero, suc, ◌+◌, ◌<◌, ◌-◌, Bool, true, false, not, ◌&&◌, ◌||◌, cond, Some, List, [], ◌∷◌, length, take, drop, get_or, if◌then◌else◌, refl, sym, ap, ◌∙◌, arith}
 use Rattle.std.specs.Prelude.{count_by}
-use Rattle.std.proofs.lemmas.{List.drop-drop, List.length-drop, List.Sums.count_by_more_yes, List.Sums.count_by_more_no}
-use Rattle.file_places.specs.{LineKind, first_line, is_feed, is_of_kind, is_numbered, lines_of, with_front}
+use Rattle.std.specs.List.{before_first}
+use Rattle.std.proofs.lemmas.{List.drop-drop, List.length-drop, List.length-take-le, List.Sums.count_by_more_yes, List.Sums.count_by_more_no, List.Sums.sum_by-cons, List.Sums.take_while-cons}
+use Rattle.file_places.specs.{Item, LineKind, Opening, Sought, first_line, first_tried, has_opening, is_among, is_begin, is_begun, is_feed, is_of_kind, items_before, items_skipped, lines_of, with_front}
 use Rattle.file_places.proofs.LineLemmas.{line_front}
 
 -- ---- lines
@@ -38,16 +39,20 @@ from_drop {A} (x ∷ xs) (suc n) y ys e =
     let place : suc n + 1 ≡ suc (n + 1) = omega arith in
     record { inside = omega (arith, f.inside); here = f.here; rest = ap (λ (k : ℕ). drop k (x ∷ xs)) place ∙ f.rest }
 
+-- the lines from a place on, of which the first ends here
+pub lines_at : (xs : List ℕ) (at end : ℕ) → at < length xs → end ≡ at + length (first_line (drop at xs))
+    → lines_of (drop at xs) ≡ first_line (drop at xs) ∷ lines_of (drop end xs)
+lines_at xs at end below to =
+    let ys = drop at xs in
+    let l = first_line ys in
+    let place : drop (length l) ys ≡ drop end xs = drop-drop (length l) at xs ∙ ap (λ (k : ℕ). drop k xs) (sym to) in
+    lines_here ys (omega (arith, below, length-drop at xs)) ∙ ap (λ (zs : List ℕ). l ∷ lines_of zs) place
+
 -- the line that begins at a place, and those behind it
 pub line_from : (xs : List ℕ) (n at end : ℕ) → at < length xs → drop n (lines_of xs) ≡ lines_of (drop at xs) → end ≡ at + length (first_line (drop at xs))
     → IsFrom (lines_of xs) n (first_line (drop at xs)) (lines_of (drop end xs))
 line_from xs n at end below rest to =
-    let ys = drop at xs in
-    let l = first_line ys in
-    let place : drop (length l) ys ≡ drop end xs =
-    drop-drop (length l) at xs ∙ ap (λ (k : ℕ). drop k xs) (sym to) in
-    from_drop (lines_of xs) n l (lines_of (drop end xs))
-    (rest ∙ (lines_here ys (omega (arith, below, length-drop at xs)) ∙ ap (λ (zs : List ℕ). l ∷ lines_of zs) place))
+    from_drop (lines_of xs) n (first_line (drop at xs)) (lines_of (drop end xs)) (rest ∙ lines_at xs at end below to)
 
 -- ---- lines of a kind
 
@@ -65,15 +70,57 @@ kind_is kind array xs at end is to said =
     let size : end - at ≡ length (first_line (drop at xs)) = omega (arith, to) in
     said ∙ ap (is_of_kind kind array) (ap (λ (k : ℕ). take k (drop at xs)) size ∙ sym (line_front (drop at xs)))
 
--- the line that ends here is the one of this number or isn't, as it is told of its octets
-pub kind_told : (kind : LineKind) (array : List ℕ) (number : ℕ) (xs : List ℕ) (n found at end : ℕ) (is named : Bool) → at < length xs
+-- what is sought begins with the line that ends here or doesn't, as it is told of its octets
+pub begin_told : (kind : LineKind) (sought : Sought) (word : List ℕ) (skipped number : ℕ) (xs : List ℕ) (n found at end : ℕ) (is tried begun : Bool) → number ≡ first_tried sought → at < length xs
     → drop n (lines_of xs) ≡ lines_of (drop at xs) → end ≡ at + length (first_line (drop at xs))
-    → found ≡ count_by (is_of_kind kind array) (take n (lines_of xs)) → is ≡ is_of_kind kind array (take (end - at) (drop at xs))
-    → named ≡ (is && (found + 1 == number)) → (d : List ℕ) → is_numbered kind array number (take n (lines_of xs)) (get_or (lines_of xs) n d) ≡ named
-kind_told kind array number xs n found at end is named below rest to many said name d =
+    → found ≡ count_by (is_of_kind kind word) (take n (lines_of xs)) → is ≡ is_of_kind kind word (take (end - at) (drop at xs))
+    → tried ≡ (is && is_among number (found + 1 - skipped)) → begun ≡ (tried && is_begun sought word xs (n + 1))
+    → (d : List ℕ) → is_begin kind sought word skipped xs (take n (lines_of xs)) (get_or (lines_of xs) n d) ≡ begun
+begin_told kind sought word skipped number xs n found at end is tried begun from below rest to many said try_is begin_is d =
     let l = first_line (drop at xs) in
+    let earlier = take n (lines_of xs) in
     let f : IsFrom (lines_of xs) n l (lines_of (drop end xs)) = line_from xs n at end below rest to in
-    let told : is ≡ is_of_kind kind array l = kind_is kind array xs at end is to said in
-    ap (is_numbered kind array number (take n (lines_of xs))) (f.here d)
-    ∙ (ap (λ (b : Bool). b && (count_by (is_of_kind kind array) (take n (lines_of xs)) + 1 == number)) (sym told)
-    ∙ (ap (λ (k : ℕ). is && (k + 1 == number)) (sym many) ∙ sym name))
+    let told : is ≡ is_of_kind kind word l = kind_is kind word xs at end is to said in
+    let size : length earlier ≡ n = length-take-le n (lines_of xs) (omega (arith, f.inside)) in
+    ap (is_begin kind sought word skipped xs earlier) (f.here d)
+    ∙ (ap (λ (k : ℕ). (is_of_kind kind word l && is_among k (count_by (is_of_kind kind word) earlier + 1 - skipped)) && is_begun sought word xs (length earlier + 1)) (sym from)
+    ∙ (ap (λ (b : Bool). (b && is_among number (count_by (is_of_kind kind word) earlier + 1 - skipped)) && is_begun sought word xs (length earlier + 1)) (sym told)
+    ∙ (ap (λ (k : ℕ). (is && is_among number (k + 1 - skipped)) && is_begun sought word xs (length earlier + 1)) (sym many)
+    ∙ (ap (λ (k : ℕ). (is && is_among number (found + 1 - skipped)) && is_begun sought word xs (k + 1)) size
+    ∙ (ap (λ (b : Bool). b && is_begun sought word xs (n + 1)) (sym try_is) ∙ sym begin_is)))))
+
+-- ---- the line in which an array opens
+
+-- what the line in front says of all
+pub record OpensBehind (array line : List ℕ) (lines rest : List (List ℕ)) : Type 0 where
+  pub opens : has_opening array lines ≡ has_opening array rest
+  pub items : items_before array lines ≡ cond (is_of_kind Item array line) 1 0 + items_before array rest
+
+pub record OpensHere (array : List ℕ) (lines : List (List ℕ)) : Type 0 where
+  pub opens : has_opening array lines ≡ true
+  pub items : items_before array lines ≡ 0
+
+front_items : (array line : List ℕ) (rest : List (List ℕ))
+    → items_before array (line ∷ rest) ≡ count_by (is_of_kind Item array) (cond (not (is_of_kind Opening array line)) (line ∷ before_first (is_of_kind Opening array) rest) [])
+front_items array line rest = ap (λ (ls : List (List ℕ)). count_by (is_of_kind Item array) ls) (take_while-cons (λ l. not (is_of_kind Opening array l)) line rest)
+
+pub opens_here : (array line : List ℕ) (lines rest : List (List ℕ)) → lines ≡ line ∷ rest → is_of_kind Opening array line ≡ true → OpensHere array lines
+opens_here array line lines rest whole is = record {
+  opens = ap (has_opening array) whole ∙ ap (λ (b : Bool). b || has_opening array rest) is;
+  items = ap (items_before array) whole ∙ front_items array line rest ∙ ap (λ (b : Bool). count_by (is_of_kind Item array) (cond (not b) (line ∷ before_first (is_of_kind Opening array) rest) [])) is;
+}
+
+pub opens_behind : (array line : List ℕ) (lines rest : List (List ℕ)) → lines ≡ line ∷ rest → is_of_kind Opening array line ≡ false → OpensBehind array line lines rest
+opens_behind array line lines rest whole off = record {
+  opens = ap (has_opening array) whole ∙ ap (λ (b : Bool). b || has_opening array rest) off;
+  items = ap (items_before array) whole ∙ front_items array line rest ∙ ap (λ (b : Bool). count_by (is_of_kind Item array) (cond (not b) (line ∷ before_first (is_of_kind Opening array) rest) [])) off
+      ∙ sum_by-cons (λ l. cond (is_of_kind Item array l) 1 0) line (before_first (is_of_kind Opening array) rest);
+}
+
+-- so many are skipped
+pub skipped_here : (array xs : List ℕ) (lines : List (List ℕ)) (found : ℕ) → OpensHere array lines
+    → has_opening array lines ≡ has_opening array (lines_of xs) → found + items_before array lines ≡ items_before array (lines_of xs)
+    → Some found ≡ items_skipped array xs
+skipped_here array xs lines found here opens items =
+    let all : found ≡ items_before array (lines_of xs) = omega (arith, here.items, items) in
+    rw (sym opens ∙ here.opens) (ap Some all)

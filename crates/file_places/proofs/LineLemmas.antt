@@ -1,7 +1,7 @@
 -- The first lines of a text, one line after the other.
 use Rattle.std.proofs.Common.{◌≡◌, ℕ, zero, suc, ◌+◌, ◌<◌, ◌≤◌, Bool, true, false, List, [], ◌∷◌, ◌++◌, length, take, drop, if◌then◌else◌, append-nil, append_assoc, refl, sym, ap, ◌∙◌, arith}
 use Rattle.std.proofs.Math.Seq.{take-add}
-use Rattle.std.proofs.lemmas.{List.length-append, List.length-drop, List.length-take, List.drop-drop}
+use Rattle.std.proofs.lemmas.{List.length-append, List.length-take, List.drop-drop}
 use Rattle.file_places.specs.{first_line, first_lines, is_feed}
 
 -- ---- one line
@@ -64,44 +64,3 @@ next_end n end next xs is to =
 
 pub end_front : (n end : ℕ) (xs : List ℕ) → end ≡ length (first_lines n xs) → take end xs ≡ first_lines n xs
 end_front n end xs is = ap (λ (k : ℕ). take k xs) is ∙ sym (lines_front n xs)
-
--- so many first lines, and so many behind them
-lines_both : (n m : ℕ) (xs : List ℕ) → length (first_lines (n + m) xs) ≡ length (first_lines n xs) + length (first_lines m (drop (length (first_lines n xs)) xs))
-lines_both zero m xs = let e : zero + m ≡ m = omega arith in ap (λ (k : ℕ). length (first_lines k xs)) e ∙ (let z : length (first_lines m xs) ≡ 0 + length (first_lines m xs) = omega arith in z)
-lines_both (suc n) m xs =
-    let l = first_line xs in
-    let ys = drop (length l) xs in
-    let rest = first_lines n ys in
-    let place : drop (length rest) ys ≡ drop (length (l ++ rest)) xs =
-    drop-drop (length rest) (length l) xs
-    ∙ ap (λ (k : ℕ). drop k xs) (sym (length-append l rest)) in
-    let more : suc n + m ≡ suc (n + m) = omega arith in
-    let both = lines_both n m ys in
-    let whole = ap (λ (k : ℕ). length (first_lines k xs)) more ∙ length-append l (first_lines (n + m) ys) in
-    let front = length-append l rest in
-    let behind : length (first_lines m (drop (length rest) ys)) ≡ length (first_lines m (drop (length (l ++ rest)) xs)) =
-    ap (λ (zs : List ℕ). length (first_lines m zs)) place in
-    omega (arith, both, whole, front, behind)
-
--- the end of so many lines of a text that begins behind so many is as far behind the place at which it begins
-pub lines_behind : (n m start place : ℕ) (xs text : List ℕ) → start ≡ length (first_lines n xs) → text ≡ drop start xs → place ≡ length (first_lines m text)
-    → start + place ≡ length (first_lines (n + m) xs)
-lines_behind n m start place xs text is from end =
-    let both = lines_both n m xs in
-    let here_ = end ∙ (ap (λ (t : List ℕ). length (first_lines m t)) from ∙ ap (λ (k : ℕ). length (first_lines m (drop k xs))) is) in
-    omega (arith, both, here_, is)
-
--- each line that there is has an octet at least
-pub few_lines : (n : ℕ) (xs : List ℕ) → length (first_lines n xs) < length xs → n ≤ length (first_lines n xs)
-few_lines zero xs h = omega arith
-few_lines (suc n) [] h = absurd (omega arith)
-few_lines (suc n) (c ∷ cs) h =
-    let xs = c ∷ cs in
-    let l = first_line xs in
-    let ys = drop (length l) xs in
-    let whole = length-append l (first_lines n ys) in
-    let some = line_some xs (omega arith) in
-    let left = length-drop (length l) xs in
-    let within = line_within xs in
-    let rest = few_lines n ys (omega (arith, whole, h, left, within)) in
-    omega (arith, whole, some, rest)

@@ -1,14 +1,15 @@
 -- In which line an entry of an array begins, and in which a key of the file stands.
-use Rattle.std.specs.Prelude.{ℕ, ◌-◌, ◌==◌, Bool, false, not, ◌&&◌, ◌||◌, if◌then◌else◌, List, [], ◌∷◌, ◌++◌, length, codes, Option, Some, None, is_some}
+use Rattle.std.specs.Prelude.{ℕ, ◌+◌, ◌-◌, ◌==◌, Bool, false, not, ◌&&◌, ◌||◌, List, [], ◌∷◌, ◌++◌, length, codes, Option, is_some}
 use Rattle.std.specs.Option.{option_map_or, option_or}
 use Rattle.std.specs.Fmt.{decimal}
-use Rattle.srp_base.specs.Text.{whole_of}
+use Rattle.srp_base.specs.{Firsts.first_where, Text.whole_of}
 use Rattle.toml.specs.Data.{Members, get_member}
-use Rattle.toml_rules.specs.Fields.{tables}
+use Rattle.toml_rules.specs.Fields.{◌>>=◌, tables}
 use Rattle.file_places.specs.declared.entries.Sought.{Sought}
 use Rattle.file_places.specs.declared.entries.Sought.TheVariants.{Tables, Key}
 use Rattle.file_places.specs.declared.lines.LineKind.TheVariants as kinds
-use Rattle.file_places.specs.{Document.document, Lines.first_lines, Lines.item_line, Lines.numbered_line}
+use Rattle.file_places.specs.declared.lines.LineKind.{LineKind}
+use Rattle.file_places.specs.{Document.document, Lines.first_lines, Lines.is_tried, Lines.items_skipped, Lines.lines_of}
 
 -- ---- what the first lines of a file have
 
@@ -33,45 +34,52 @@ is_in sought word octets = option_map_or (is_there sought word) (document octets
 abbrev pub is_so_far : Sought → List ℕ → List ℕ → Bool
 is_so_far sought word octets = is_in sought word octets || is_in sought word (closed octets)
 
--- ---- entries
+-- ---- where it begins
 
--- the first lines, so many, have the array with so many entries, and without the last of them one
--- entry less
-abbrev pub is_begun : List ℕ → ℕ → List ℕ → ℕ → Bool
-is_begun array entry octets n =
+-- the first lines, so many, have what is sought, and without the last of them they don't: an array has
+-- one entry less, or the key isn't there
+abbrev pub is_begun : Sought → List ℕ → List ℕ → ℕ → Bool
+is_begun (Tables entry) array octets n =
     is_so_far (Tables (entry - 1)) array (first_lines (n - 1) octets)
     && is_so_far (Tables entry) array (first_lines n octets)
-
--- the line, where the entry begins with it
-abbrev pub if_begun : List ℕ → ℕ → List ℕ → Option ℕ → Option ℕ
-if_begun array entry octets None = None
-if_begun array entry octets (Some n) = if is_begun array entry octets n then Some n else None
-
--- The line in which an entry of an array begins: that of its header, or its own where the array is
--- written inline, where the entry begins with it
-abbrev pub line_of_entry : List ℕ → ℕ → List ℕ → Option ℕ
-line_of_entry array entry octets =
-    option_or (if_begun array entry octets (numbered_line kinds.Header array entry octets))
-    (if_begun array entry octets (item_line array entry octets))
-
--- ---- keys of the file
-
--- the first lines, so many, have the key, and without the last of them they don't
-abbrev pub is_key_begun : List ℕ → List ℕ → ℕ → Bool
-is_key_begun word octets n =
+is_begun Key word octets n =
     not (is_so_far Key word (first_lines (n - 1) octets)) && is_so_far Key word (first_lines n octets)
 
--- the line, where the key stands in it
-abbrev pub if_key_begun : List ℕ → List ℕ → Option ℕ → Option ℕ
-if_key_begun word octets None = None
-if_key_begun word octets (Some n) = if is_key_begun word octets n then Some n else None
+-- the number from which on lines are tried: that of the entry, or the first for a key
+abbrev pub first_tried : Sought → ℕ
+first_tried (Tables entry) = entry
+first_tried Key = 1
 
--- The line in which a key of the file stands first: its own, or that of the first header that has
--- it
+-- a line is tried, and what is sought begins with it
+abbrev pub is_begin : LineKind → Sought → List ℕ → ℕ → List ℕ → List (List ℕ) → List ℕ → Bool
+is_begin kind sought word skipped octets earlier line =
+    is_tried kind word skipped (first_tried sought) earlier line && is_begun sought word octets (length earlier + 1)
+
+-- the first line that is tried with which it begins
+abbrev pub begin_line : LineKind → Sought → List ℕ → ℕ → List ℕ → Option ℕ
+begin_line kind sought word skipped octets =
+    first_where (is_begin kind sought word skipped octets) [] (lines_of octets)
+
+-- the line of an entry that is written inline: of all that look so, those are skipped that stand before
+-- the line in which the array opens
+abbrev pub line_of_item : List ℕ → ℕ → List ℕ → Option ℕ
+line_of_item array entry octets = do
+  skipped ← items_skipped array octets
+  begin_line kinds.Item (Tables entry) array skipped octets
+
+-- The line in which an entry of an array begins: that of its header, or its own where the array is
+-- written inline. Of the lines of each kind those are tried that have the entry's number or one of the
+-- next, counted in the whole file, or from the line on in which the array opens.
+abbrev pub line_of_entry : List ℕ → ℕ → List ℕ → Option ℕ
+line_of_entry array entry octets =
+    option_or (begin_line kinds.Header (Tables entry) array 0 octets)
+    (line_of_item array entry octets)
+
+-- The line in which a key of the file stands first: its own, or that of a header that has it. Of the
+-- lines of each kind the first are tried.
 abbrev pub line_of_key : List ℕ → List ℕ → Option ℕ
 line_of_key word octets =
-    option_or (if_key_begun word octets (numbered_line kinds.Key word 1 octets))
-    (if_key_begun word octets (numbered_line kinds.Table word 1 octets))
+    option_or (begin_line kinds.Key Key word 0 octets) (begin_line kinds.Table Key word 0 octets)
 
 -- `line: N`
 abbrev pub entry_line : ℕ → List ℕ

@@ -1,8 +1,8 @@
 -- The lines of a file, by what they begin with.
-use Rattle.std.specs.Prelude.{ℕ, zero, suc, ◌+◌, ◌-◌, ◌==◌, Bool, false, ◌&&◌, ◌||◌, nat_eq, if◌then◌else◌, List, [], ◌∷◌, ◌++◌, take, drop, length, codes, count_by, Option, Some, None, is_some, option_map}
+use Rattle.std.specs.Prelude.{ℕ, zero, suc, ◌+◌, ◌-◌, ◌==◌, Bool, false, ◌&&◌, ◌||◌, nat_eq, nat_le, nat_lt, if◌then◌else◌, List, [], ◌∷◌, ◌++◌, take, drop, length, codes, count_by, Option, Some, None, is_some}
+use Rattle.std.specs.List.{before_first, list_any}
 use Rattle.std.specs.Option.{option_map_or, option_or}
 use Rattle.std.specs.Cmp.Lexicographic.{pointwise}
-use Rattle.srp_base.specs.Firsts.{first_where}
 use Rattle.toml_rules.specs.Fields.{◌>>=◌}
 use Rattle.file_places.specs.declared.lines.LineKind.{LineKind}
 use Rattle.file_places.specs.declared.lines.LineKind.TheVariants.{Header, Key, Table, Opening, Item}
@@ -83,9 +83,13 @@ behind_opening array line = do
   value ← behind_key array line
   behind_blanks (codes "[") value
 
--- a text begins with a table that is written inline
+-- a text without the comma in front, and the blanks in front of it, where there is one
+abbrev pub behind_comma : List ℕ → List ℕ
+behind_comma octets = option_map_or (λ end. end) (behind_blanks (codes ",") octets) octets
+
+-- a text begins with a table that is written inline, with a comma in front or without
 abbrev pub has_item : List ℕ → Bool
-has_item octets = is_some (behind_blanks (codes "{") octets)
+has_item octets = is_some (behind_blanks (codes "{") (behind_comma octets))
 
 -- what stands behind the bracket or the two with which a header begins, where a line does
 abbrev pub behind_brackets : List ℕ → Option (List ℕ)
@@ -111,25 +115,32 @@ begins_with Item word line = has_item line || option_map_or has_item (behind_ope
 abbrev pub is_of_kind : LineKind → List ℕ → List ℕ → Bool
 is_of_kind kind word line = begins_with kind word (drop (mark_length line) line)
 
--- the line is of a kind, and of so many with those before it
-abbrev pub is_numbered : LineKind → List ℕ → ℕ → List (List ℕ) → List ℕ → Bool
-is_numbered kind word number earlier line =
-    is_of_kind kind word line && (count_by (is_of_kind kind word) earlier + 1 == number)
+-- ---- lines of a kind, counted
 
--- the line of a kind of this number, both counted from 1
-abbrev pub numbered_line : LineKind → List ℕ → ℕ → List ℕ → Option ℕ
-numbered_line kind word number octets = first_where (is_numbered kind word number) [] (lines_of octets)
+-- how many lines of a kind are tried at most for one in which something begins
+abbrev pub tried_lines : ℕ
+tried_lines = 16
 
--- the text from a line on
-abbrev pub from_line : ℕ → List ℕ → List ℕ
-from_line n octets = drop (length (first_lines (n - 1) octets)) octets
+-- a number is one of so many from another on
+abbrev pub is_among : ℕ → ℕ → Bool
+is_among number n = nat_le number n && nat_lt (n - number) tried_lines
 
--- the line of the entry of this number that is written inline, from the line on in which its array
--- opens
-abbrev pub item_from : List ℕ → ℕ → List ℕ → ℕ → Option ℕ
-item_from array number octets opening =
-    option_map (λ n. opening - 1 + n) (numbered_line Item array number (from_line opening octets))
+-- the line is of a kind, and is tried: counted with those of the kind before it, but for the first of
+-- the file, so many, which are skipped, it is one of the next from a number on
+abbrev pub is_tried : LineKind → List ℕ → ℕ → ℕ → List (List ℕ) → List ℕ → Bool
+is_tried kind word skipped number earlier line =
+    is_of_kind kind word line && is_among number (count_by (is_of_kind kind word) earlier + 1 - skipped)
 
--- the line of the entry of this number of an array that is written inline
-abbrev pub item_line : List ℕ → ℕ → List ℕ → Option ℕ
-item_line array number octets = numbered_line Opening array 1 octets >>= item_from array number octets
+-- some line begins with an array that is written inline, and its bracket
+abbrev pub has_opening : List ℕ → List (List ℕ) → Bool
+has_opening array lines = list_any (is_of_kind Opening array) lines
+
+-- how many lines begin with an entry that is written inline before the first in which the array opens
+abbrev pub items_before : List ℕ → List (List ℕ) → ℕ
+items_before array lines =
+    count_by (is_of_kind Item array) (before_first (is_of_kind Opening array) lines)
+
+-- so many are skipped where it opens
+abbrev pub items_skipped : List ℕ → List ℕ → Option ℕ
+items_skipped array octets =
+    if has_opening array (lines_of octets) then Some (items_before array (lines_of octets)) else None

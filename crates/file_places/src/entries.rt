@@ -1,11 +1,11 @@
 //! In which line an entry begins, and in which a key of the file stands.
 
-ghost use Rattle.std.specs.Prelude.{◌≡◌, ◌≤◌, ◌-◌, ◌++◌, take, length, Some, IfOk, OnOk};
+ghost use Rattle.std.specs.Prelude.{◌≡◌, ◌≤◌, ◌-◌, ◌&&◌, ◌++◌, take, length, Some, IfOk, OnOk};
 ghost use Rattle.toml.specs.View.{table_view};
-ghost use Rattle.file_places.specs.Entries.{closed, entries_are as entries_are_spec, entry_line, if_begun as if_begun_spec, if_key_begun as if_key_begun_spec, is_begun as is_begun_spec, is_in as is_in_spec, is_key_begun as is_key_begun_spec, is_so_far as is_so_far_spec, is_there as is_there_spec, line_of_entry as line_of_entry_spec, line_of_key as line_of_key_spec};
-ghost use Rattle.file_places.specs.Lines.{first_lines, item_line as item_line_spec, numbered_line as numbered_line_spec};
+ghost use Rattle.file_places.specs.Entries.{begin_line as begin_line_spec, closed, entries_are as entries_are_spec, entry_line, first_tried as first_tried_spec, is_begun as is_begun_spec, is_in as is_in_spec, is_so_far as is_so_far_spec, is_there as is_there_spec, line_of_item as line_of_item_spec, line_of_entry as line_of_entry_spec, line_of_key as line_of_key_spec};
+ghost use Rattle.file_places.specs.Lines.{first_lines, items_skipped as items_skipped_spec};
 
-use crate::lines::{Line, LineKind, item_line, numbered_line};
+use crate::lines::{Line, LineKind, counted, is_of_kind, is_tried, items_skipped, line_end};
 use crate::pieces::put;
 use srp_base::NoMemory;
 use std::alloc::Global;
@@ -90,8 +90,38 @@ fn is_so_until(
     is_so_far(alloc, &octets[..end], sought, word)
 }
 
+// Whether the lines before a line are.
+fn is_so_before(
+    alloc: Global,
+    octets: &[u8],
+    line: Line,
+    sought: Sought,
+    word: &str,
+) -> Result<bool, NoMemory>
+    requires { line.start ≡ length (first_lines (line.number - 1) octets.now) }
+    ensures { IfOk result (λ is. is
+        ≡ is_so_far_spec sought word.now (first_lines (line.number - 1) octets.now)) }
+{
+    is_so_until(alloc, octets, line.start, sought, word)
+}
+
+// Whether those up to its end are.
+fn is_so_with(
+    alloc: Global,
+    octets: &[u8],
+    line: Line,
+    sought: Sought,
+    word: &str,
+) -> Result<bool, NoMemory>
+    requires { line.end ≡ length (first_lines line.number octets.now) }
+    ensures { IfOk result (λ is. is
+        ≡ is_so_far_spec sought word.now (first_lines line.number octets.now)) }
+{
+    is_so_until(alloc, octets, line.end, sought, word)
+}
+
 // Whether an entry begins with a line, which reads four documents at most.
-fn is_begun(
+fn is_entry_begun(
     alloc: Global,
     octets: &[u8],
     array: &str,
@@ -100,71 +130,145 @@ fn is_begun(
 ) -> Result<bool, NoMemory>
     requires start { line.start ≡ length (first_lines (line.number - 1) octets.now) }
     requires end { line.end ≡ length (first_lines line.number octets.now) }
-    ensures { IfOk result (λ is. is ≡ is_begun_spec array.now entry octets.now line.number) }
+    ensures { IfOk result (λ is. is
+        ≡ is_begun_spec (Sought.Tables entry) array.now octets.now line.number) }
 {
     let fewer = Sought::Tables(entry.saturating_sub(1));
-    let before = is_so_until(alloc, octets, line.start, fewer, array)?;
-    let with = is_so_until(alloc, octets, line.end, Sought::Tables(entry), array)?;
-    Ok(before & with)
+    if is_so_before(alloc, octets, line, fewer, array)? {
+        is_so_with(alloc, octets, line, Sought::Tables(entry), array)
+    } else {
+        Ok(false)
+    }
 }
 
-// The line, where the entry begins with it.
-fn if_begun(
-    alloc: Global,
-    octets: &[u8],
-    array: &str,
-    entry: usize,
-    line: Line,
-) -> Result<Option<usize>, NoMemory>
+// Whether a key stands first in a line, which reads four documents at most.
+fn is_key_begun(alloc: Global, octets: &[u8], word: &str, line: Line) -> Result<bool, NoMemory>
     requires start { line.start ≡ length (first_lines (line.number - 1) octets.now) }
     requires end { line.end ≡ length (first_lines line.number octets.now) }
-    ensures { IfOk result (λ found. found
-        ≡ if_begun_spec array.now entry octets.now (Some line.number)) }
+    ensures { IfOk result (λ is. is
+        ≡ is_begun_spec Sought.Key word.now octets.now line.number) }
 {
-    if is_begun(alloc, octets, array, entry, line)? {
-        Ok(Some(line.number))
+    if is_so_before(alloc, octets, line, Sought::Key, word)? {
+        Ok(false)
     } else {
-        Ok(None)
+        is_so_with(alloc, octets, line, Sought::Key, word)
     }
 }
 
-// The line of the entry's header, where the entry begins with it.
-fn header_of_entry(
+// Whether what is sought begins with a line.
+fn is_begun(
     alloc: Global,
     octets: &[u8],
-    array: &str,
-    entry: usize,
-) -> Result<Option<usize>, NoMemory>
-    ensures { IfOk result (λ line. line ≡ if_begun_spec array.now entry octets.now
-        (numbered_line_spec LineKind.Header array.now entry octets.now)) }
+    sought: Sought,
+    word: &str,
+    line: Line,
+) -> Result<bool, NoMemory>
+    requires start { line.start ≡ length (first_lines (line.number - 1) octets.now) }
+    requires end { line.end ≡ length (first_lines line.number octets.now) }
+    ensures { IfOk result (λ is. is
+        ≡ is_begun_spec sought word.now octets.now line.number) }
 {
-    match numbered_line(octets, LineKind::Header, array.as_bytes(), entry) {
-        Some(line) => if_begun(alloc, octets, array, entry, line),
-        None => Ok(None),
+    match sought {
+        Sought::Tables(entry) => is_entry_begun(alloc, octets, word, entry, line),
+        Sought::Key => is_key_begun(alloc, octets, word, line),
     }
 }
 
-// The line of an entry that is written inline, where it begins with it.
+// Whether it does, of a line that is tried.
+fn is_begin(
+    alloc: Global,
+    octets: &[u8],
+    sought: Sought,
+    word: &str,
+    tried: bool,
+    line: Line,
+) -> Result<bool, NoMemory>
+    requires start { line.start ≡ length (first_lines (line.number - 1) octets.now) }
+    requires end { line.end ≡ length (first_lines line.number octets.now) }
+    ensures { IfOk result (λ is. is
+        ≡ (tried && is_begun_spec sought word.now octets.now line.number)) }
+{
+    if tried {
+        is_begun(alloc, octets, sought, word, line)
+    } else {
+        Ok(false)
+    }
+}
+
+// The number from which on lines are tried.
+fn first_tried(sought: Sought) -> usize
+    ensures { result ≡ first_tried_spec sought }
+{
+    match sought {
+        Sought::Tables(entry) => entry,
+        Sought::Key => 1,
+    }
+}
+
+// The first line that is tried with which what is sought begins. It reads four documents at most of
+// each line that it tries.
+fn begin_line(
+    alloc: Global,
+    octets: &[u8],
+    kind: LineKind,
+    sought: Sought,
+    word: &str,
+    skipped: usize,
+) -> Result<Option<usize>, NoMemory>
+    ensures { IfOk result (λ line. line
+        ≡ begin_line_spec kind sought word.now skipped octets.now) }
+{
+    let number = first_tried(sought);
+    let mut lines = 0;
+    let mut found = 0;
+    let mut start = 0;
+    while start < octets.len() {
+        let end = line_end(octets, start);
+        let is = is_of_kind(kind, word.as_bytes(), &octets[start..end]);
+        let tried = is_tried(is, found, skipped, number);
+        let line = Line {
+            number: lines + 1,
+            start,
+            end,
+        };
+        if is_begin(alloc, octets, sought, word, tried, line)? {
+            return Ok(Some(lines + 1));
+        }
+        found = counted(found, is);
+        lines += 1;
+        start = end;
+    }
+    Ok(None)
+}
+
+// The line of an entry that is written inline.
 fn line_of_item(
     alloc: Global,
     octets: &[u8],
     array: &str,
     entry: usize,
 ) -> Result<Option<usize>, NoMemory>
-    ensures { IfOk result (λ line. line ≡ if_begun_spec array.now entry octets.now
-        (item_line_spec array.now entry octets.now)) }
+    ensures { IfOk result (λ line. line ≡ line_of_item_spec array.now entry octets.now) }
 {
-    match item_line(octets, array.as_bytes(), entry) {
-        Some(line) => if_begun(alloc, octets, array, entry, line),
+    match items_skipped(octets, array.as_bytes()) {
+        Some(skipped) => begin_line(
+            alloc,
+            octets,
+            LineKind::Item,
+            Sought::Tables(entry),
+            array,
+            skipped,
+        ),
         None => Ok(None),
     }
 }
 
-/// The line in which an entry of an array of tables begins, both counted from 1: the line of its
-/// header `[[..]]`, or where the array is written inline the entry's own, where the lines up to it
-/// are a TOML document in which the array has so many entries, and those before it one in which it
-/// has one entry less, either with the bracket that closes the array where that is open; None where
-/// it isn't so, as where two entries stand in one line. It reads eight documents at most.
+/// The line in which an entry of an array of tables begins, both counted from 1: the first line
+/// with its header `[[..]]`, or where the array is written inline with the entry itself, such that
+/// the lines up to it are a TOML document in which the array has so many entries, and those before
+/// it one in which it has one entry less, either with the bracket that closes the array where that is
+/// open. Of the lines that look so, in a text of several lines too, 16 are tried from the entry's
+/// number on; None where it isn't so of any of them, as where two entries stand in one line.
 pub fn line_of_entry(
     alloc: Global,
     octets: &[u8],
@@ -173,53 +277,23 @@ pub fn line_of_entry(
 ) -> Result<Option<usize>, NoMemory>
     ensures { IfOk result (λ line. line ≡ line_of_entry_spec array.now entry octets.now) }
 {
-    match header_of_entry(alloc, octets, array, entry)? {
+    let sought = Sought::Tables(entry);
+    match begin_line(alloc, octets, LineKind::Header, sought, array, 0)? {
         Some(line) => Ok(Some(line)),
         None => line_of_item(alloc, octets, array, entry),
     }
 }
 
-// Whether a key stands first in a line, which reads four documents at most.
-fn is_key_begun(alloc: Global, octets: &[u8], word: &str, line: Line) -> Result<bool, NoMemory>
-    requires start { line.start ≡ length (first_lines (line.number - 1) octets.now) }
-    requires end { line.end ≡ length (first_lines line.number octets.now) }
-    ensures { IfOk result (λ is. is ≡ is_key_begun_spec word.now octets.now line.number) }
-{
-    let before = is_so_until(alloc, octets, line.start, Sought::Key, word)?;
-    let with = is_so_until(alloc, octets, line.end, Sought::Key, word)?;
-    Ok(!before & with)
-}
-
-// The line of a kind, the first, where the key stands first in it.
-fn if_key_begun(
-    alloc: Global,
-    octets: &[u8],
-    word: &str,
-    kind: LineKind,
-) -> Result<Option<usize>, NoMemory>
-    ensures { IfOk result (λ found. found ≡ if_key_begun_spec word.now octets.now
-        (numbered_line_spec kind word.now 1 octets.now)) }
-{
-    let Some(line) = numbered_line(octets, kind, word.as_bytes(), 1) else {
-        return Ok(None);
-    };
-    if is_key_begun(alloc, octets, word, line)? {
-        Ok(Some(line.number))
-    } else {
-        Ok(None)
-    }
-}
-
-/// The line in which a key of the file stands first, counted from 1: its own, or that of the first
-/// header that has it, where the lines up to it are a TOML document that has the key, and those
-/// before it aren't, either with the bracket that closes an array where that is open; None where it
-/// isn't so. It reads eight documents at most.
+/// The line in which a key of the file stands first, counted from 1: the first line with the key, or
+/// with a header that has it, such that the lines up to it are a TOML document that has the key, and
+/// those before it aren't, either with the bracket that closes an array where that is open. Of the
+/// lines that look so the first 16 of each kind are tried; None where it isn't so of any of them.
 pub fn line_of_key(alloc: Global, octets: &[u8], word: &str) -> Result<Option<usize>, NoMemory>
     ensures { IfOk result (λ line. line ≡ line_of_key_spec word.now octets.now) }
 {
-    match if_key_begun(alloc, octets, word, LineKind::Key)? {
+    match begin_line(alloc, octets, LineKind::Key, Sought::Key, word, 0)? {
         Some(line) => Ok(Some(line)),
-        None => if_key_begun(alloc, octets, word, LineKind::Table),
+        None => begin_line(alloc, octets, LineKind::Table, Sought::Key, word, 0),
     }
 }
 

@@ -6,14 +6,17 @@
 //!                |
 //!                +------> the first octet that isn't -------> there: line 1 column 8: ..     toml_place
 //!
-//!   octets, "node", 3 --> the third line that is a header [[node]] --> line: 9              line_of_entry
-//!                         or that begins with {, from `node = [` on
-//!                         if the lines up to it are a document with 3 tables `node`,
+//!   octets, "node", 3 --> the first line, from the third   --> line: 9                      line_of_entry
+//!                         header [[node]] on, or else from
+//!                         the third { behind `node = [`,
+//!                         such that the lines up to it are
+//!                         a document with 3 tables `node`,
 //!                         and those before it one with 2
 //!
-//!   octets, "ticks"   --> the first line that begins with ticks =  --> line: 2              line_of_key
-//!                         or with the header of a table, [ticks]
-//!                         if the lines up to it are a document with the key,
+//!   octets, "ticks"   --> the first line with ticks =, or  --> line: 2                      line_of_key
+//!                         else with the header of a table,
+//!                         [ticks], such that the lines up
+//!                         to it are a document with the key,
 //!                         and those before it aren't
 //! ```
 //!
@@ -26,12 +29,16 @@
 //!
 //! The line of an entry is that of its header, or where the array is written inline its own
 //! (`specs/Lines.antt`), where the lines up to it are a document in which the array has so many
-//! entries, and those before it one in which it has one entry less (`specs/Entries.antt`): a line that
-//! only looks like one, as in a text of several lines, isn't taken for it. Lines that end within an
-//! array are a document with the bracket that closes it. So it is with the line of a key of the file.
-//! A name stands bare or between quotes of either kind, and in front of the first line there may be
-//! a byte order mark, which toml's reader passes over. No line is told of the second of several
-//! entries that stand in one line, nor of a name that is written with an escape (`"n\u006fde"`).
+//! entries, and those before it one in which it has one entry less (`specs/Entries.antt`). A line that
+//! only looks like one, as in a text of several lines, isn't taken for it: such lines make the number
+//! of the true one higher, and so lines are tried one after the other from the entry's number on, 16
+//! of each kind at most, since each costs up to four documents. Lines that end within an array are a
+//! document with the bracket that closes it. So it is with the line of a key of the file, from the
+//! first line of the kind on. A name stands bare or between quotes of either kind, an entry that is
+//! written inline may stand behind a comma, and in front of the first line there may be a byte order
+//! mark, which toml's reader passes over. No line is told of the second of several entries that stand
+//! in one line, of an entry that is written inline and whose table goes on over several lines, nor of
+//! a name that is written with an escape (`"n\u006fde"`).
 //!
 //! A further word of a place is a field of `Place` with a line of `IsPlaceOf`, and a piece of
 //! `place_line`. A further spelling of a line is a variant of `LineKind` with its case in

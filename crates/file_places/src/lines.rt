@@ -2,7 +2,7 @@
 
 ghost use Rattle.std.specs.Prelude.{◌≡◌, ◌≤◌, ◌<◌, ◌+◌, ◌-◌, ◌^◌, ◌==◌, ◌&&◌, ◌||◌, codes, cond, drop, is_some, length, option_map, IfSome};
 ghost use Rattle.std.specs.Option.{option_or};
-ghost use Rattle.file_places.specs.Lines.{begins_with as begins_with_spec, behind as behind_spec, behind_blanks as behind_blanks_spec, behind_brackets as behind_brackets_spec, behind_header as behind_header_spec, behind_key as behind_key_spec, behind_name as behind_name_spec, behind_opening as behind_opening_spec, behind_quoted as behind_quoted_spec, first_line, first_lines, has_item as has_item_spec, has_name as has_name_spec, is_blank as is_blank_spec, is_of_kind as is_of_kind_spec, item_from as item_from_spec, item_line as item_line_spec, numbered_line as numbered_line_spec, unblanked as unblanked_spec};
+ghost use Rattle.file_places.specs.Lines.{begins_with as begins_with_spec, behind as behind_spec, behind_blanks as behind_blanks_spec, behind_brackets as behind_brackets_spec, behind_header as behind_header_spec, behind_key as behind_key_spec, behind_name as behind_name_spec, behind_opening as behind_opening_spec, behind_quoted as behind_quoted_spec, behind_comma as behind_comma_spec, first_line, has_item as has_item_spec, has_name as has_name_spec, is_blank as is_blank_spec, is_of_kind as is_of_kind_spec, is_among as is_among_spec, items_skipped as items_skipped_spec, unblanked as unblanked_spec};
 
 use crate::place::mark_length;
 
@@ -121,11 +121,21 @@ fn behind_opening<'a>(array: &[u8], line: &'a [u8]) -> Option<&'a [u8]>
     behind_blanks(b"[", value)
 }
 
-// Whether a text begins with a table that is written inline.
+// A text without the comma in front, and the blanks in front of it, where there is one.
+fn behind_comma(octets: &[u8]) -> &[u8]
+    ensures { result.now ≡ behind_comma_spec octets.now }
+{
+    match behind_blanks(b",", octets) {
+        Some(end) => end,
+        None => octets,
+    }
+}
+
+// Whether a text begins with a table that is written inline, with a comma in front or without.
 fn has_item(octets: &[u8]) -> bool
     ensures { result ≡ has_item_spec octets.now }
 {
-    behind_blanks(b"{", octets).is_some()
+    behind_blanks(b"{", behind_comma(octets)).is_some()
 }
 
 // Whether a line begins with an entry that is written inline.
@@ -192,15 +202,15 @@ fn begins_with(kind: LineKind, word: &[u8], line: &[u8]) -> bool
     }
 }
 
-// Whether it does without the byte order mark, which the first line of a file may have in front.
-fn is_of_kind(kind: LineKind, word: &[u8], line: &[u8]) -> bool
+/// Whether it does without the byte order mark, which the first line of a file may have in front.
+pub(crate) fn is_of_kind(kind: LineKind, word: &[u8], line: &[u8]) -> bool
     ensures { result ≡ is_of_kind_spec kind word.now line.now }
 {
     begins_with(kind, word, &line[mark_length(line)..])
 }
 
-// The end of the line that begins at a place.
-fn line_end(octets: &[u8], from: usize) -> usize
+/// The end of the line that begins at a place.
+pub(crate) fn line_end(octets: &[u8], from: usize) -> usize
     requires { from < length octets.now }
     ensures end { result ≡ from + length (first_line (drop from octets.now)) }
     ensures further { from < result }
@@ -214,8 +224,8 @@ fn line_end(octets: &[u8], from: usize) -> usize
     octets.len()
 }
 
-// One more where it is so.
-fn counted(count: usize, is: bool) -> usize
+/// One more where it is so.
+pub(crate) fn counted(count: usize, is: bool) -> usize
     requires { count + 1 < 2 ^ 64 }
     ensures count { result ≡ count + cond is 1 0 }
     ensures most { result ≤ count + 1 }
@@ -223,100 +233,40 @@ fn counted(count: usize, is: bool) -> usize
     if is { count + 1 } else { count }
 }
 
-// Whether a line that is of a kind, or isn't, is the one of this number behind so many.
-fn is_numbered(is: bool, found: usize, number: usize) -> bool
-    requires { found + 1 < 2 ^ 64 }
-    ensures { result ≡ (is && (found + 1 == number)) }
+/// How many lines of a kind are tried at most for one in which something begins.
+const TRIED_LINES: usize = 16;
+
+// Whether a number is one of so many from another on.
+fn is_among(number: usize, n: usize) -> bool
+    ensures { result ≡ is_among_spec number n }
 {
-    is && found + 1 == number
+    number <= n && n - number < TRIED_LINES
 }
 
-/// The line of a kind of this number, both counted from 1.
-pub(crate) fn numbered_line(
-    octets: &[u8],
-    kind: LineKind,
-    word: &[u8],
-    number: usize,
-) -> Option<Line>
-    ensures number { option_map (λ line. line.number) result
-        ≡ numbered_line_spec kind word.now number octets.now }
-    ensures start { IfSome result (λ line. line.start
-        ≡ length (first_lines (line.number - 1) octets.now)) }
-    ensures end { IfSome result (λ line. line.end
-        ≡ length (first_lines line.number octets.now)) }
-    ensures some { IfSome result (λ line. 0 < line.number) }
-    ensures within { IfSome result (λ line. line.number ≤ length octets.now) }
+/// Whether a line that is of a kind, or isn't, is tried from a number on, behind so many of the
+/// kind, of which the first are skipped.
+pub(crate) fn is_tried(is: bool, found: usize, skipped: usize, number: usize) -> bool
+    requires { found + 1 < 2 ^ 64 }
+    ensures { result ≡ (is && is_among_spec number (found + 1 - skipped)) }
 {
-    let mut lines = 0;
+    is && is_among(number, (found + 1).saturating_sub(skipped))
+}
+
+/// How many lines begin with an entry that is written inline before the first in which the array
+/// opens; None where it doesn't open.
+pub(crate) fn items_skipped(octets: &[u8], array: &[u8]) -> Option<usize>
+    ensures { result ≡ items_skipped_spec array.now octets.now }
+{
     let mut found = 0;
     let mut start = 0;
     while start < octets.len() {
         let end = line_end(octets, start);
-        let is = is_of_kind(kind, word, &octets[start..end]);
-        if is_numbered(is, found, number) {
-            return Some(Line {
-                number: lines + 1,
-                start,
-                end,
-            });
+        let line = &octets[start..end];
+        if is_of_kind(LineKind::Opening, array, line) {
+            return Some(found);
         }
-        found = counted(found, is);
-        lines += 1;
+        found = counted(found, is_of_kind(LineKind::Item, array, line));
         start = end;
     }
     None
-}
-
-// A text from a place on.
-fn octets_from(octets: &[u8], start: usize) -> &[u8]
-    requires { start ≤ length octets.now }
-    ensures { result.now ≡ drop start octets.now }
-{
-    &octets[start..]
-}
-
-// A place in a text, so much behind another.
-fn place_behind(octets: &[u8], place: usize, more: usize) -> usize
-    requires { place + more ≤ length octets.now }
-    ensures { result ≡ place + more }
-{
-    place + more
-}
-
-// The line of an entry of an array that is written inline, from the line on in which the array opens.
-fn item_from(octets: &[u8], array: &[u8], number: usize, opening: Line) -> Option<Line>
-    requires start { opening.start ≡ length (first_lines (opening.number - 1) octets.now) }
-    requires some { 0 < opening.number }
-    requires within { opening.number ≤ length octets.now }
-    ensures number { option_map (λ line. line.number) result
-        ≡ item_from_spec array.now number octets.now opening.number }
-    ensures start { IfSome result (λ line. line.start
-        ≡ length (first_lines (line.number - 1) octets.now)) }
-    ensures end { IfSome result (λ line. line.end
-        ≡ length (first_lines line.number octets.now)) }
-{
-    let line = numbered_line(
-        octets_from(octets, opening.start),
-        LineKind::Item,
-        array,
-        number,
-    )?;
-    Some(Line {
-        number: place_behind(octets, opening.number - 1, line.number),
-        start: place_behind(octets, opening.start, line.start),
-        end: place_behind(octets, opening.start, line.end),
-    })
-}
-
-/// The line of the entry of this number of an array that is written inline, both counted from 1.
-pub(crate) fn item_line(octets: &[u8], array: &[u8], number: usize) -> Option<Line>
-    ensures number { option_map (λ line. line.number) result
-        ≡ item_line_spec array.now number octets.now }
-    ensures start { IfSome result (λ line. line.start
-        ≡ length (first_lines (line.number - 1) octets.now)) }
-    ensures end { IfSome result (λ line. line.end
-        ≡ length (first_lines line.number octets.now)) }
-{
-    let opening = numbered_line(octets, LineKind::Opening, array, 1)?;
-    item_from(octets, array, number, opening)
 }

@@ -1,5 +1,5 @@
 -- The first key of a table that passes, seen from the map that holds them.
-use Rattle.std.proofs.Common.{◌≡◌, ℕ, Bool, true, false, cond, List, [], ◌∷◌, map, refl, Option, Some, None, option_map, string_bytes, String}
+use Rattle.std.proofs.Common.{◌≡◌, ℕ, Bool, true, false, cond, List, [], ◌∷◌, map, refl, Option, Some, option_map, string_bytes, String}
 use Rattle.std.specs.{List.find, declared.alloc.Global.Global}
 use Rattle.toml.specs.View.{members_view}
 use Rattle.toml.specs.declared.value.Value.{Value}

@@ -4,7 +4,7 @@ use Rattle.std.specs.{Cmp.Lexicographic.pointwise, List.list_any, Option.is_none
 use Rattle.toml.specs.Data.{Data, Members, get_member}
 use Rattle.toml_rules.specs.Fields.{member_keys}
 use Rattle.rule_words.specs.declared.{keys.Key.Key, tables.TableForm.TableForm}
-use Rattle.rule_words.specs.{Forms.has_form, Keys.word_of, Keys.form_of, Keys.is_needed, Tables.keys_of, Tables.is_closed}
+use Rattle.rule_words.specs.{Forms.has_form, Keys.word_of, Keys.form_of, Keys.is_needed, Tables.keys_apart, Tables.keys_of, Tables.is_closed}
 
 -- the word is that of one of these keys
 abbrev pub is_key_of : List Key → List ℕ → Bool
@@ -30,6 +30,10 @@ wrong_key keys ms = find (λ key. not (is_right key ms)) keys
 -- the first key of a table that it may not have
 abbrev pub stray_key : TableForm → Members → Option (List ℕ)
 stray_key form ms = if is_closed form then unknown_key (keys_of form) ms else None
+
+-- the key of this word that goes with the other form of a plan's stream
+abbrev pub apart_key : TableForm → List ℕ → Option Key
+apart_key form word = find (λ key. pointwise nat_eq word (word_of key)) (keys_apart form)
 
 -- a table has no other keys than those of its form, and there is what has to be at each
 abbrev pub is_faultless : TableForm → Members → Bool

@@ -1,12 +1,14 @@
 -- Lines of what is said of a file.
-use Rattle.std.specs.Prelude.{ℕ, ◌-◌, List, [], ◌∷◌, ◌++◌, codes, Option, Some, None}
+use Rattle.std.specs.Prelude.{ℕ, ◌-◌, if◌then◌else◌, List, [], ◌∷◌, ◌++◌, codes, Option, Some, None}
 use Rattle.std.specs.Fmt.{decimal}
+use Rattle.std.specs.Option.{option_map_or}
 use Rattle.srp_base.specs.Text.{whole_of}
 use Rattle.toml.specs.Data.{Data, Members, get_member, at, as_table}
 use Rattle.toml_rules.specs.Fields.{◌>>=◌, text}
 use Rattle.file_places.specs.Entries.{entry_line as begin_line, line_of_entry}
 use Rattle.rule_words.specs.declared.{kinds.FileKind.FileKind, keys.Key.Key}
-use Rattle.rule_words.specs.{Asked.what_rule_asks, Keys.word_of, Values.quoted, Values.value_words}
+use Rattle.topology_file.specs.Entries.{is_name}
+use Rattle.rule_words.specs.{Asked.what_rule_asks, Keys.word_of, Values.quoted, Values.text_words, Values.value_words}
 
 -- `rule R entry E`
 abbrev pub rule_line : ℕ → ℕ → List ℕ
@@ -43,9 +45,32 @@ line_words (Some n) = begin_line n
 abbrev pub line_at : Key → ℕ → List ℕ → List ℕ
 line_at array entry octets = line_words (line_of_entry (word_of array) entry octets)
 
--- the table that is the entry of this number, from 1 on, of an array
-abbrev pub entry_of : Key → ℕ → Members → Option Members
-entry_of array entry ms = do
-  d ← get_member (word_of array) ms
+-- the table that is the entry of this number, from 1 on, of the array at a key
+abbrev pub entry_at : List ℕ → ℕ → Members → Option Members
+entry_at array entry ms = do
+  d ← get_member array ms
   x ← at (entry - 1) d
   as_table x
+
+-- of an array that is known
+abbrev pub entry_of : Key → ℕ → Members → Option Members
+entry_of array entry ms = entry_at (word_of array) entry ms
+
+-- ---- entries of any array
+
+-- the word of an array, as it may stand in a header: bare where it is a name, else between quotes
+abbrev pub header_word : List ℕ → List ℕ
+header_word array = if is_name array then array else text_words array
+
+-- `[[node]] 3`
+abbrev pub header_words : List ℕ → ℕ → List ℕ
+header_words array entry = whole_of (codes "[[" ∷ header_word array ∷ codes "]] " ∷ decimal entry ∷ [])
+
+-- `line: 12 of [[link]] 1`
+abbrev pub begin_words : List ℕ → ℕ → ℕ → List ℕ
+begin_words array entry line =
+    whole_of (codes "line: " ∷ decimal line ∷ codes " of " ∷ header_words array entry ∷ codes "\n" ∷ [])
+
+-- the line in which another entry than the one that breaks a rule begins, where that is known
+abbrev pub line_beside : List ℕ → ℕ → List ℕ → List ℕ
+line_beside array entry octets = option_map_or (begin_words array entry) (line_of_entry array entry octets) []

@@ -1,5 +1,5 @@
 -- What a rule is about in its table: the form of the table, or the values at some keys.
-use Rattle.std.specs.Prelude.{ℕ, Bool, true, false, nat_eq, ◌==◌, ◌&&◌, ◌||◌, nat_le, if◌then◌else◌, List, [], ◌∷◌, codes, Option, Some, None}
+use Rattle.std.specs.Prelude.{ℕ, Bool, true, false, not, nat_eq, ◌==◌, ◌&&◌, ◌||◌, nat_le, if◌then◌else◌, List, [], ◌∷◌, codes, Option, Some, None}
 use Rattle.std.specs.{Cmp.Lexicographic.pointwise, Option.is_some}
 use Rattle.toml.specs.Data.{Members, get_member}
 use Rattle.toml_rules.specs.Fields.{text, truth_or}
@@ -50,10 +50,15 @@ group_form_by_kind (Some word) = group_form_of_kind word
 abbrev pub group_event_form : Members → TableForm
 group_event_form ms = group_form_by_kind (text (codes "kind") ms)
 
--- a plan's stream says what its audio is
+-- a table has a key
+abbrev pub has : List ℕ → Members → Bool
+has word ms = is_some (get_member word ms)
+
+-- a plan's stream says what its audio is: by its channels, or in place of its octets by what goes with
+-- channels
 abbrev pub is_audio : Members → Bool
 is_audio ms =
-    is_some (get_member (codes "channels") ms) || is_some (get_member (codes "rate_khz") ms) || is_some (get_member (codes "bits") ms)
+    has (codes "channels") ms || not (has (codes "octets") ms) && (has (codes "rate_khz") ms || has (codes "bits") ms)
 
 -- the form of a plan's stream
 abbrev pub plan_stream_form : Members → TableForm

@@ -1,15 +1,16 @@
 -- The other side of a refusal: what stands elsewhere in the file, and what the entry doesn't go
 -- with.
 use Rattle.std.specs.Prelude.{ℕ, ◌+◌, ◌-◌, ◌==◌, Bool, false, ◌&&◌, ◌||◌, nat_le, if◌then◌else◌, List, [], ◌∷◌, ◌++◌, take, codes, flat_map, Option, Some, None, is_some}
+use Rattle.std.specs.List.{filter}
 use Rattle.std.specs.Option.{is_none}
 use Rattle.std.specs.Fmt.{decimal}
 use Rattle.srp_base.specs.Text.{whole_of}
 use Rattle.toml.specs.Data.{Members, get_member}
-use Rattle.toml_rules.specs.Fields.{◌>>=◌, number, number_or, text}
+use Rattle.toml_rules.specs.Fields.{◌>>=◌, member_keys, number, number_or, text}
 use Rattle.topology_file.specs.{Frames.count_at, Frames.last_copy, Frames.run_end, Scenario.ticks_at}
 use Rattle.rule_words.specs.declared.{lines.Broken.Broken, keys.Key.Key}
-use Rattle.rule_words.specs.declared.keys.Key.TheVariants.{Nodes, Links, Streams, Events, Frames, Wants, Ticks, PortRate, Tick}
-use Rattle.rule_words.specs.{Alike.alike_words, Alike.earlier_alike, Alike.is_same_text, Asked.array_of, Joined.all_ends, Joined.ends_at, Joined.joined_line, Keys.word_of, Lines.entry_of, Lines.line_at, Lines.name_words, Lines.there_words, Matters.keys_asked, Named.first_called, Listeners.listeners_of, Listeners.nameless_lines, Named.is_called, Named.name_lines, Search.entries_of, Search.first_entry}
+use Rattle.rule_words.specs.declared.keys.Key.TheVariants.{Nodes, Links, Streams, Ticks, PortRate, Tick}
+use Rattle.rule_words.specs.{Alike.alike_words, Alike.earlier_alike, Alike.is_same_text, Asked.array_of, Joined.all_ends, Joined.ends_at, Joined.joined_line, Keys.word_of, Lines.entry_of, Lines.entry_at, Lines.header_words, Lines.line_beside, Lines.name_words, Lines.there_words, Matters.keys_asked, Named.first_called, Listeners.listeners_of, Listeners.nameless_lines, Named.is_called, Named.name_lines, Search.entries_at, Search.entries_of, Search.first_entry}
 
 -- ---- an entry by its number
 
@@ -106,22 +107,40 @@ has_key word x = is_some (get_member word x)
 abbrev pub first_with : List ℕ → List Members → Option ℕ
 first_with word entries = first_entry (λ n x. has_key word x) entries
 
+-- the first entry of the array at a key that has it
+abbrev pub first_at : List ℕ → Members → List ℕ → Option ℕ
+first_at word ms array = first_with word (entries_at array ms)
+
+-- the arrays of tables of a file in which an entry has it, in the order of their own keys
+abbrev pub arrays_with : List ℕ → Members → List (List ℕ)
+arrays_with word ms = filter (λ array. is_some (first_at word ms array)) (member_keys ms)
+
+-- of how many arrays it is told at most
+abbrev pub most_told : ℕ
+most_told = 5
+
+-- `other: [[event]] 3`, of an entry of any array
+abbrev pub any_words : List ℕ → ℕ → Members → List ℕ
+any_words array n ms = whole_of (codes "other: " ∷ header_words array n ∷ name_of_entry (entry_at array n ms) ∷ [])
+
 -- a key behind a header belongs to its entry
 abbrev pub misplaced_words : Key → List ℕ
 misplaced_words key = whole_of (codes " has " ∷ word_of key ∷ codes ": a key behind a line [[..]] belongs to that entry\n" ∷ [])
 
 -- of an entry that has a key of the file, with the line in which it begins
-abbrev pub misplaced_line : Key → Key → Members → List ℕ → Option ℕ → List ℕ
+abbrev pub misplaced_line : Key → List ℕ → Members → List ℕ → Option ℕ → List ℕ
 misplaced_line key array ms octets None = []
-misplaced_line key array ms octets (Some n) = numbered_words array n ms ++ misplaced_words key ++ line_at array n octets
+misplaced_line key array ms octets (Some n) = any_words array n ms ++ misplaced_words key ++ line_beside array n octets
 
--- of the first entry of each of these arrays that has it
-abbrev pub misplaced_in : Key → Members → List ℕ → Key → List ℕ
-misplaced_in key ms octets array = misplaced_line key array ms octets (first_with (word_of key) (entries_of array ms))
+-- of the first entry of an array that has it
+abbrev pub misplaced_in : Key → Members → List ℕ → List ℕ → List ℕ
+misplaced_in key ms octets array = misplaced_line key array ms octets (first_at (word_of key) ms array)
 
--- where the file doesn't have it itself
-abbrev pub misplaced_lines : Key → Members → List ℕ → List Key → List ℕ
-misplaced_lines key ms octets arrays = if has_key (word_of key) ms then [] else flat_map (misplaced_in key ms octets) arrays
+-- of each array of tables that has such an entry, where the file doesn't have it itself
+abbrev pub misplaced_lines : Key → Members → List ℕ → List ℕ
+misplaced_lines key ms octets =
+    if has_key (word_of key) ms then []
+    else flat_map (misplaced_in key ms octets) (take most_told (arrays_with (word_of key) ms))
 
 -- words of an entry that has a key
 abbrev pub if_has : List ℕ → Members → List ℕ → List ℕ
@@ -218,7 +237,7 @@ links_line links name = whole_of (codes "other: its links are [[link]]" ∷ numb
 
 -- the line in which a link begins, where it has such an end
 abbrev pub link_begin : List ℕ → List ℕ → ℕ → Members → List ℕ
-link_begin octets name n l = if has_end name l then line_at Links n octets else []
+link_begin octets name n l = if has_end name l then line_beside (word_of Links) n octets else []
 
 -- those of these links, the first of them of number n
 abbrev pub link_begins : List ℕ → List ℕ → ℕ → List Members → List ℕ
@@ -273,8 +292,8 @@ others_in_array broken ms octets (Some array) = others_of_entry broken array ms 
 -- of a file as a whole
 abbrev pub others_of_file : ℕ → Members → List ℕ → List ℕ
 others_of_file rule ms octets =
-    if rule == 1 then misplaced_lines Ticks ms octets (Nodes ∷ Links ∷ Streams ∷ Events ∷ Frames ∷ [])
-    else if rule == 31 then misplaced_lines PortRate ms octets (Wants ∷ [])
+    if rule == 1 then misplaced_lines Ticks ms octets
+    else if rule == 31 then misplaced_lines PortRate ms octets
     else []
 
 -- the other side of a refusal, where there is one

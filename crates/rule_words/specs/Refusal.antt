@@ -8,7 +8,8 @@ use Rattle.srp_base.specs.Text.{whole_of}
 use Rattle.toml.specs.Data.{Members}
 use Rattle.file_places.specs.Entries.{line_of_key}
 use Rattle.rule_words.specs.declared.{kinds.FileKind.FileKind, lines.Broken.Broken, keys.Key.Key, tables.TableForm.TableForm}
-use Rattle.rule_words.specs.{Asked.array_of, Faults.stray_key, Faults.wrong_key, Forms.form_words, Keys.word_of, Keys.form_of, Lines.asks_line, Lines.entry_line, Lines.entry_of, Lines.line_at, Lines.line_words, Lines.rule_line, Lines.there_line, Matters.has_domains, Matters.form_asked, Matters.keys_asked, Others.other_lines, Tables.keys_of, Tables.keys_together, Values.quoted}
+use Rattle.rule_words.specs.declared.tables.TableForm.TheVariants as tables
+use Rattle.rule_words.specs.{Asked.array_of, Faults.apart_key, Faults.stray_key, Faults.wrong_key, Forms.form_words, Keys.word_of, Keys.form_of, Lines.asks_line, Lines.entry_line, Lines.entry_of, Lines.line_at, Lines.line_words, Lines.rule_line, Lines.there_line, Matters.has_domains, Matters.form_asked, Matters.keys_asked, Others.other_lines, Tables.keys_of, Tables.keys_together, Values.quoted}
 
 -- ---- lines
 
@@ -32,7 +33,23 @@ known_words known = whole_of (codes " is unknown; known are" ∷ flat_map listed
 abbrev pub unknown_line : List ℕ → List Key → List ℕ
 unknown_line word known = stray_words word ++ known_words known
 
+-- what a key goes with that a plan's stream of this form may not have
+abbrev pub apart_words : TableForm → List ℕ
+apart_words tables.AudioStream = codes " doesn't go with channels"
+apart_words _ = codes " goes with channels, and not with octets"
+
+-- `key: bits goes with channels, and not with octets: a stream has either octets, or channels with rate_khz`
+abbrev pub apart_line : TableForm → Key → List ℕ
+apart_line form key = whole_of (
+    codes "key: " ∷ word_of key ∷ apart_words form ∷ codes ": a stream has either octets, or channels with rate_khz\n" ∷ [])
+
 -- ---- what is wrong
+
+-- a key that the table may not have: one that goes with the other form of a plan's stream, with what
+-- stands at it, or one that is unknown
+abbrev pub stray_lines : TableForm → Members → List ℕ → Option Key → List ℕ
+stray_lines form ms word (Some key) = apart_line form key ++ there_line ms key
+stray_lines form ms word None = unknown_line word (keys_of form)
 
 -- what stands at the key that isn't right; where each is right by itself, at those that may be
 -- wrong together
@@ -42,7 +59,7 @@ value_lines form ms None = flat_map (there_line ms) (keys_together form)
 
 -- the key that the table may not have, or else the one whose value isn't right
 abbrev pub fault_lines : TableForm → Members → Option (List ℕ) → List ℕ
-fault_lines form ms (Some word) = unknown_line word (keys_of form)
+fault_lines form ms (Some word) = stray_lines form ms word (apart_key form word)
 fault_lines form ms None = value_lines form ms (wrong_key (keys_of form) ms)
 
 -- of a rule that asks a form of its table, or else of the values that break it

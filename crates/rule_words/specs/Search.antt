@@ -12,9 +12,13 @@ abbrev pub or_none : {A : Type 0} → Option (List A) → List A
 or_none None = []
 or_none (Some xs) = xs
 
--- the entries of an array; none where it is missing, or isn't an array of tables
+-- the entries of the array at a key; none where it is missing, or isn't an array of tables
+abbrev pub entries_at : List ℕ → Members → List Members
+entries_at array ms = or_none (tables array ms)
+
+-- of an array that is known
 abbrev pub entries_of : Key → Members → List Members
-entries_of array ms = or_none (tables (word_of array) ms)
+entries_of array ms = entries_at (word_of array) ms
 
 -- the number, counted from 1, of the first entry that a test passes, which is told its number too
 abbrev pub first_entry : (ℕ → Members → Bool) → List Members → Option ℕ

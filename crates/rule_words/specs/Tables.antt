@@ -35,6 +35,12 @@ keys_of tables.PlanDomains = Domains ∷ []
 keys_of tables.SizedStream = Name ∷ Talker ∷ Listeners ∷ FrameOctets ∷ PlanFrames ∷ PlanClass ∷ StreamVid ∷ Rank ∷ NodeId ∷ PlanDest ∷ []
 keys_of tables.AudioStream = Name ∷ Talker ∷ Listeners ∷ Channels ∷ RateKhz ∷ Bits ∷ PlanFrames ∷ PlanClass ∷ StreamVid ∷ Rank ∷ NodeId ∷ PlanDest ∷ []
 
+-- the keys that go with the other form of a plan's stream
+abbrev pub keys_apart : TableForm → List Key
+keys_apart tables.SizedStream = RateKhz ∷ Bits ∷ []
+keys_apart tables.AudioStream = FrameOctets ∷ []
+keys_apart _ = []
+
 -- whether a table of this form has no other keys; of the others only a part is looked at
 abbrev pub is_closed : TableForm → Bool
 is_closed tables.Times = false

@@ -4,10 +4,11 @@
 ghost use Rattle.std.specs.Prelude.{◌≡◌, not, option_map, string_bytes, find, IfOk};
 ghost use Rattle.std.specs.{Option.option_copied, BTreeMap.keys};
 ghost use Rattle.toml.specs.View.{table_view};
-ghost use Rattle.rule_words.specs.Faults.{is_key_of as is_key_of_spec, is_right as is_right_spec, unknown_key as unknown_key_spec, wrong_key as wrong_key_spec};
+ghost use Rattle.rule_words.specs.Faults.{apart_key as apart_key_spec, is_key_of as is_key_of_spec, is_right as is_right_spec, unknown_key as unknown_key_spec, wrong_key as wrong_key_spec};
 
 use crate::forms::has_form;
 use crate::keys::{Key, form_of, is_needed, word_of};
+use crate::tables::{TableForm, keys_apart};
 use srp_base::NoMemory;
 use std::alloc::Global;
 use toml::Table;
@@ -58,4 +59,16 @@ pub(crate) fn wrong_key(alloc: Global, table: &Table, keys: &[Key]) -> Result<Op
         }
     }
     Ok(None)
+}
+
+/// The key of this word that goes with the other form of a plan's stream.
+pub(crate) fn apart_key(form: TableForm, word: &str) -> Option<Key>
+    ensures { result ≡ apart_key_spec form word.now }
+{
+    for key in keys_apart(form) {
+        if word == word_of(*key) {
+            return Some(*key);
+        }
+    }
+    None
 }

@@ -18,8 +18,10 @@
 //! rule asks of its table, or at which keys the values break it. `others` has the other side: the
 //! earlier entry that is like it (`alike`), the links that join two nodes already (`joined`), what is
 //! named and isn't there, or stands twice (`named`, `events`, `listeners`), the ticks beside which a
-//! moment doesn't stand (`moments`), the entry that has a key of the file (`misplaced`); `search`
-//! goes through the entries of an array. `lines` and `numbered` have lines that several of them put.
+//! moment doesn't stand (`moments`), the entries that have a key of the file, of any array of tables
+//! that the file has (`misplaced`); `search` goes through the entries of an array. `lines` and
+//! `numbered` have lines that several of them put; a line in which another entry begins says of which
+//! it is: `line: 12 of [[link]] 1`.
 //! `refusal_text` has the whole text as its contract: which rule fails, and at which entry, is for
 //! the readers of the files to say. The line in which an entry begins, and the place at which octets
 //! aren't TOML, are those of `file_places`.

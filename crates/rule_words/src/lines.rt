@@ -5,14 +5,15 @@ ghost use Rattle.toml.specs.Data.{get_member};
 ghost use Rattle.toml.specs.View.{table_view, view};
 ghost use Rattle.toml_rules.specs.Fields.{text as text_spec};
 ghost use Rattle.rule_words.specs.Keys.{word_of as word_of_spec};
-ghost use Rattle.rule_words.specs.Lines.{rule_line, asks_line, name_words, entry_line, there_words, there_line, line_at, entry_of as entry_of_spec};
+ghost use Rattle.rule_words.specs.Lines.{rule_line, asks_line, name_words, entry_line, there_words, there_line, line_at, line_beside, begin_words, header_word, header_words, entry_at as entry_at_spec, entry_of as entry_of_spec};
 ghost use Rattle.rule_words.specs.Values.{quoted};
 
 use crate::asked::what_rule_asks;
 use crate::keys::{Key, word_of};
 use crate::kinds::FileKind;
+use crate::names::is_name;
 use crate::pieces::{put, put_number};
-use crate::values::{put_quoted, put_value};
+use crate::values::{put_quoted, put_text, put_value};
 use file_places::{line_of_entry, put_line};
 use srp_base::NoMemory;
 use std::alloc::AllocError;
@@ -152,11 +153,69 @@ pub(crate) fn put_line_at(
     }
 }
 
-/// The table that is the entry of this number of an array.
+/// The table that is the entry of this number of the array at a key.
+pub(crate) fn entry_at<'a>(array: &str, entry: usize, table: &'a Table) -> Option<&'a Table>
+    requires { 1 ≤ entry }
+    ensures { option_map (λ t. table_view t.now) result
+        ≡ entry_at_spec array.now entry (table_view table.now) }
+{
+    value_at(table, array)?.get(entry - 1)?.as_table()
+}
+
+/// The table that is the entry of this number of an array that is known.
 pub(crate) fn entry_of(array: Key, entry: usize, table: &Table) -> Option<&Table>
     requires { 1 ≤ entry }
     ensures { option_map (λ t. table_view t.now) result
         ≡ entry_of_spec array entry (table_view table.now) }
 {
-    value_at(table, word_of(array))?.get(entry - 1)?.as_table()
+    entry_at(word_of(array), entry, table)
+}
+
+// The word of an array, as it may stand in a header.
+fn put_header_word(out: &mut Vec<u8>, array: &str) -> Result<(), NoMemory>
+    ensures { OnOk result (out.new.items ≡ out.old.items ++ header_word array.now) }
+{
+    if is_name(array.as_bytes()) {
+        Ok(put(out, array)?)
+    } else {
+        put_text(out, array.as_bytes())
+    }
+}
+
+/// An entry of any array by its header and its number.
+pub(crate) fn put_header(out: &mut Vec<u8>, array: &str, entry: usize) -> Result<(), NoMemory>
+    ensures { OnOk result (out.new.items ≡ out.old.items ++ header_words array.now entry) }
+{
+    put(out, "[[")?;
+    put_header_word(out, array)?;
+    put(out, "]] ")?;
+    Ok(put_number(out, entry as u64)?)
+}
+
+// The line in which an entry begins, and which entry it is.
+fn put_begin(out: &mut Vec<u8>, array: &str, entry: usize, line: usize) -> Result<(), NoMemory>
+    ensures { OnOk result (out.new.items ≡ out.old.items ++ begin_words array.now entry line) }
+{
+    put(out, "line: ")?;
+    put_number(out, line as u64)?;
+    put(out, " of ")?;
+    put_header(out, array, entry)?;
+    Ok(put(out, "\n")?)
+}
+
+/// The line in which another entry than the one that breaks a rule begins, where it is known.
+pub(crate) fn put_line_beside(
+    out: &mut Vec<u8>,
+    array: &str,
+    entry: usize,
+    octets: &[u8],
+) -> Result<(), NoMemory>
+    ensures { OnOk result (out.new.items
+        ≡ out.old.items ++ line_beside array.now entry octets.now) }
+{
+    let alloc = *out.allocator();
+    match line_of_entry(alloc, octets, array, entry)? {
+        Some(line) => put_begin(out, array, entry, line),
+        None => Ok(()),
+    }
 }

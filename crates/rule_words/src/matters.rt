@@ -2,7 +2,7 @@
 
 ghost use Rattle.std.specs.Prelude.{◌≡◌};
 ghost use Rattle.toml.specs.View.{table_view};
-ghost use Rattle.rule_words.specs.Matters.{arrays_form as arrays_form_spec, timers_form as timers_form_spec, plan_stream_form as plan_stream_form_spec, group_form_of_kind as group_form_of_kind_spec, group_event_form as group_event_form_spec, size_keys as size_keys_spec, is_audio as is_audio_spec, form_of_kind as form_of_kind_spec, has_domains as has_domains_spec, node_form as node_form_spec, event_form as event_form_spec, frame_form as frame_form_spec, form_asked as form_asked_spec, want_form as want_form_spec, names_in as names_in_spec, keys_asked as keys_asked_spec};
+ghost use Rattle.rule_words.specs.Matters.{arrays_form as arrays_form_spec, timers_form as timers_form_spec, plan_stream_form as plan_stream_form_spec, group_form_of_kind as group_form_of_kind_spec, group_event_form as group_event_form_spec, size_keys as size_keys_spec, has as has_spec, is_audio as is_audio_spec, form_of_kind as form_of_kind_spec, has_domains as has_domains_spec, node_form as node_form_spec, event_form as event_form_spec, frame_form as frame_form_spec, form_asked as form_asked_spec, want_form as want_form_spec, names_in as names_in_spec, keys_asked as keys_asked_spec};
 
 use crate::keys::Key;
 use crate::kinds::FileKind;
@@ -55,13 +55,20 @@ fn group_event_form(table: &Table) -> TableForm
     }
 }
 
-// Whether a plan's stream says what its audio is.
+// Whether a table has a key.
+fn has(table: &Table, word: &str) -> bool
+    ensures { result ≡ has_spec word.now (table_view table.now) }
+{
+    value_at(table, word).is_some()
+}
+
+// Whether a plan's stream says what its audio is: by its channels, or in place of its octets by what
+// goes with channels.
 fn is_audio(table: &Table) -> bool
     ensures { result ≡ is_audio_spec (table_view table.now) }
 {
-    value_at(table, "channels").is_some()
-        || value_at(table, "rate_khz").is_some()
-        || value_at(table, "bits").is_some()
+    has(table, "channels")
+        || !has(table, "octets") && (has(table, "rate_khz") || has(table, "bits"))
 }
 
 // The form of a plan's stream.

@@ -24,8 +24,8 @@ fn has_name_chars(word: &[u8]) -> bool
     word.iter().all(|c| is_name_char(*c))
 }
 
-// 1 to 32 such characters.
-fn is_name(word: &[u8]) -> bool
+/// 1 to 32 such characters.
+pub(crate) fn is_name(word: &[u8]) -> bool
     ensures { result ≡ is_name_spec word.now }
 {
     1 <= word.len() && word.len() <= 32 && has_name_chars(word)

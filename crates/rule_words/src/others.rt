@@ -14,8 +14,8 @@ use crate::alike::{alike_words, earlier_alike, is_same_text};
 use crate::asked::array_of;
 use crate::events::{put_event, put_unknown};
 use crate::joined::put_already;
-use crate::keys::Key;
-use crate::lines::{Broken, entry_of, put_line_at};
+use crate::keys::{Key, word_of};
+use crate::lines::{Broken, entry_of, put_line_beside};
 use crate::listeners::{put_nameless, put_plan_stream};
 use crate::misplaced::{put_all_misplaced, put_stream, put_want};
 use crate::moments::{put_before, put_copy, put_past};
@@ -104,7 +104,7 @@ fn put_link_begin(
         ≡ out.old.items ++ link_begin octets.now name.now number (table_view link.now)) }
 {
     if has_end(name, link) {
-        put_line_at(out, Key::Links, number, octets)
+        put_line_beside(out, word_of(Key::Links), number, octets)
     } else {
         Ok(())
     }
@@ -228,16 +228,6 @@ fn put_others_in_array(
     }
 }
 
-const ARRAYS: [Key; 5] = [
-    Key::Nodes,
-    Key::Links,
-    Key::Streams,
-    Key::Events,
-    Key::Frames,
-];
-
-const WANTS: [Key; 1] = [Key::Wants];
-
 // That of a file as a whole.
 fn put_others_of_file(
     out: &mut Vec<u8>,
@@ -249,8 +239,8 @@ fn put_others_of_file(
         ≡ out.old.items ++ others_of_file rule (table_view table.now) octets.now) }
 {
     match rule {
-        1 => put_all_misplaced(out, Key::Ticks, table, octets, ARRAYS.as_slice()),
-        31 => put_all_misplaced(out, Key::PortRate, table, octets, WANTS.as_slice()),
+        1 => put_all_misplaced(out, Key::Ticks, table, octets),
+        31 => put_all_misplaced(out, Key::PortRate, table, octets),
         _ => Ok(()),
     }
 }

@@ -5,15 +5,15 @@ ghost use Rattle.std.specs.Option.{option_copied, option_or};
 ghost use Rattle.toml.specs.View.{table_view};
 ghost use Rattle.file_places.specs.Entries.{line_of_key as line_of_key_spec};
 ghost use Rattle.rule_words.specs.Asked.{array_of as array_of_spec};
-ghost use Rattle.rule_words.specs.Faults.{stray_key as stray_key_spec, wrong_key as wrong_key_spec};
+ghost use Rattle.rule_words.specs.Faults.{apart_key as apart_key_spec, stray_key as stray_key_spec, wrong_key as wrong_key_spec};
 ghost use Rattle.rule_words.specs.Keys.{word_of as word_of_spec};
 ghost use Rattle.rule_words.specs.Lines.{line_words, there_line, entry_of as entry_of_spec};
 ghost use Rattle.rule_words.specs.Matters.{form_asked as form_asked_spec};
 ghost use Rattle.rule_words.specs.Tables.{keys_of as keys_of_spec};
-ghost use Rattle.rule_words.specs.Refusal.{broken_text, fault_line, file_lines, first_word as first_word_spec, word_at_fault as word_at_fault_spec, wrong_line, listed, stray_words, known_words, unknown_line, value_lines, fault_lines, table_lines, lines_of_entry, lines_in_array, place_lines, refusal_text as refusal_text_spec};
+ghost use Rattle.rule_words.specs.Refusal.{apart_line, apart_words as apart_words_spec, broken_text, fault_line, file_lines, first_word as first_word_spec, word_at_fault as word_at_fault_spec, wrong_line, listed, stray_lines, stray_words, known_words, unknown_line, value_lines, fault_lines, table_lines, lines_of_entry, lines_in_array, place_lines, refusal_text as refusal_text_spec};
 
 use crate::asked::array_of;
-use crate::faults::{unknown_key, wrong_key};
+use crate::faults::{apart_key, unknown_key, wrong_key};
 use crate::forms::put_form;
 use crate::keys::{Key, form_of, word_of};
 use crate::kinds::FileKind;
@@ -83,6 +83,59 @@ fn put_unknown(out: &mut Vec<u8>, word: &str, known: &[Key]) -> Result<(), NoMem
     Ok(put_known(out, known)?)
 }
 
+// What a key goes with that a plan's stream of this form may not have.
+fn apart_words(form: TableForm) -> &'static str
+    ensures { result.now ≡ apart_words_spec form }
+{
+    match form {
+        TableForm::AudioStream => " doesn't go with channels",
+        _ => " goes with channels, and not with octets",
+    }
+}
+
+// Such a key.
+fn put_apart(out: &mut Vec<u8>, form: TableForm, key: Key) -> Result<(), AllocError>
+    ensures { OnOk result (out.new.items ≡ out.old.items ++ apart_line form key) }
+{
+    put(out, "key: ")?;
+    put(out, word_of(key))?;
+    put(out, apart_words(form))?;
+    put(
+        out,
+        ": a stream has either octets, or channels with rate_khz\n",
+    )
+}
+
+// Such a key, and what stands there.
+fn put_apart_value(
+    out: &mut Vec<u8>,
+    form: TableForm,
+    table: &Table,
+    key: Key,
+) -> Result<(), NoMemory>
+    ensures { OnOk result (out.new.items ≡ out.old.items
+        ++ apart_line form key ++ there_line (table_view table.now) key) }
+{
+    put_apart(out, form, key)?;
+    put_there(out, table, key)
+}
+
+// A key that a table of this form may not have, and why.
+fn put_stray_key(
+    out: &mut Vec<u8>,
+    form: TableForm,
+    table: &Table,
+    word: &str,
+) -> Result<(), NoMemory>
+    ensures { OnOk result (out.new.items ≡ out.old.items
+        ++ stray_lines form (table_view table.now) word.now (apart_key_spec form word.now)) }
+{
+    match apart_key(form, word) {
+        Some(key) => put_apart_value(out, form, table, key),
+        None => put_unknown(out, word, keys_of(form)),
+    }
+}
+
 // The first key of a table that it may not have.
 fn stray_key(form: TableForm, table: &Table) -> Option<&str>
     ensures { option_copied result ≡ stray_key_spec form (table_view table.now) }
@@ -122,7 +175,7 @@ fn put_fault(out: &mut Vec<u8>, form: TableForm, table: &Table) -> Result<(), No
         ++ fault_lines form (table_view table.now) (stray_key_spec form (table_view table.now))) }
 {
     match stray_key(form, table) {
-        Some(word) => put_unknown(out, word, keys_of(form)),
+        Some(word) => put_stray_key(out, form, table, word),
         None => put_values(out, form, table),
     }
 }

@@ -1,7 +1,7 @@
 //! The tables of the files: which keys each may have.
 
 ghost use Rattle.std.specs.Prelude.{◌≡◌};
-ghost use Rattle.rule_words.specs.Tables.{keys_of as keys_of_spec, is_closed as is_closed_spec, keys_together as keys_together_spec};
+ghost use Rattle.rule_words.specs.Tables.{keys_apart as keys_apart_spec, keys_of as keys_of_spec, is_closed as is_closed_spec, keys_together as keys_together_spec};
 
 use crate::keys::Key;
 
@@ -260,6 +260,21 @@ pub(crate) fn is_closed(form: TableForm) -> bool
         | TableForm::AnyGroupEvent
         | TableForm::PlanDomains => false,
         _ => true,
+    }
+}
+
+const AUDIO_KEYS: [Key; 2] = [Key::RateKhz, Key::Bits];
+
+const SIZE_KEYS: [Key; 1] = [Key::FrameOctets];
+
+/// The keys that go with the other form of a plan's stream.
+pub(crate) fn keys_apart(form: TableForm) -> &'static [Key]
+    ensures { result.now ≡ keys_apart_spec form }
+{
+    match form {
+        TableForm::SizedStream => AUDIO_KEYS.as_slice(),
+        TableForm::AudioStream => SIZE_KEYS.as_slice(),
+        _ => NONE.as_slice(),
     }
 }
 

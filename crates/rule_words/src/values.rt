@@ -66,8 +66,8 @@ pub(crate) fn put_quoted(out: &mut Vec<u8>, text: &[u8]) -> Result<(), NoMemory>
 /// The most octets of a text that is printed itself.
 const MOST_SHOWN: usize = 80;
 
-// A text, or how long it is.
-fn put_text(out: &mut Vec<u8>, text: &[u8]) -> Result<(), NoMemory>
+/// A text between quotes, or how long it is.
+pub(crate) fn put_text(out: &mut Vec<u8>, text: &[u8]) -> Result<(), NoMemory>
     ensures { OnOk result (out.new.items ≡ out.old.items ++ text_words text.now) }
 {
     if text.len() <= MOST_SHOWN {

@@ -1,4 +1,4 @@
-use Rattle.std.proofs.Common.{◌≡◌, ℕ, ◌+◌, Bool, List, [], map, take, drop, length}
+use Rattle.std.proofs.Common.{◌≡◌, ℕ, ◌+◌, Bool, map, take, drop, length}
 use Rattle.srp_base.specs.Firsts.{first_where}
 use Rattle.toml.specs.Data.{Members}
 use Rattle.toml.specs.View.{table_view}
