@@ -68,6 +68,8 @@ mod settling;
 mod side;
 mod stream;
 mod talker_keys;
+#[cfg(test)]
+mod tests;
 mod told;
 mod view;
 

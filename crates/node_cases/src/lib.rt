@@ -3,7 +3,6 @@
 //! ```text
 //! propagation        attribute_propagation: what a port declares of others' registrations
 //! vlans              mvrp: a node's MVRP
-//! streams            msrp: a node's MSRP
 //! node               node_core: MVRP and MSRP together
 //! counter, threads   turn_lock: a counter behind a lock (sum)
 //! hub                bridge_book: a node behind a lock
@@ -23,8 +22,6 @@ mod hub;
 mod node;
 #[cfg(test)]
 mod propagation;
-#[cfg(test)]
-mod streams;
 mod sum;
 mod threads;
 #[cfg(test)]

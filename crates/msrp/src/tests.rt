@@ -7,7 +7,7 @@
 ghost use Rattle.std.specs.Prelude.{◌≡◌, ◌≤◌, ◌+◌, length, IfSome};
 ghost use Rattle.attribute_propagation.specs.Ports.{IsLinkPort};
 
-use msrp::{DomainSet, MsrpSide, SrpRequest};
+use crate::{DomainSet, MsrpSide, SrpRequest};
 use msrp_codec::{DecodeErr, MsrpContent, MsrpKey};
 use srp_base::{
     BridgeId, Cs, Failure, ListenerKind, Mac, Percent, PortNo, PortSetup, Priority, Rank, Rate,
