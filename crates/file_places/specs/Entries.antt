@@ -6,7 +6,7 @@ use Rattle.srp_base.specs.{Firsts.first_where, Text.whole_of}
 use Rattle.toml.specs.Data.{Members, get_member}
 use Rattle.toml_rules.specs.Fields.{◌>>=◌, tables}
 use Rattle.file_places.specs.declared.entries.Sought.{Sought}
-use Rattle.file_places.specs.declared.entries.Sought.TheVariants.{Tables, Key}
+use Rattle.file_places.specs.declared.entries.Sought.TheVariants.{Tables, Key, NoKey}
 use Rattle.file_places.specs.declared.lines.LineKind.TheVariants as kinds
 use Rattle.file_places.specs.declared.lines.LineKind.{LineKind}
 use Rattle.file_places.specs.{Document.document, Lines.first_lines, Lines.is_tried, Lines.items_skipped, Lines.lines_of}
@@ -21,10 +21,11 @@ closed octets = octets ++ codes "]"
 abbrev pub entries_are : List ℕ → ℕ → Members → Bool
 entries_are array n ms = option_map_or (λ entries. length entries == n) (tables array ms) false
 
--- whether a document has what is sought at a key: an array of so many tables, or the key
+-- whether a document has what is sought at a key: an array of so many tables, the key, or no key
 abbrev pub is_there : Sought → List ℕ → Members → Bool
 is_there (Tables n) word ms = entries_are word n ms
 is_there Key word ms = is_some (get_member word ms)
+is_there NoKey word ms = not (is_some (get_member word ms))
 
 -- whether octets are a document that has it
 abbrev pub is_in : Sought → List ℕ → List ℕ → Bool
@@ -36,19 +37,24 @@ is_so_far sought word octets = is_in sought word octets || is_in sought word (cl
 
 -- ---- where it begins
 
--- the first lines, so many, have what is sought, and without the last of them they don't: an array has
--- one entry less, or the key isn't there
+-- what the lines before the one have with which it begins: an array one entry less, and a key isn't
+-- there
+abbrev pub before : Sought → Sought
+before (Tables entry) = Tables (entry - 1)
+before Key = NoKey
+before NoKey = NoKey
+
+-- the first lines, so many, are a document that has what is sought, and those without the last of them
+-- one that doesn't have it yet
 abbrev pub is_begun : Sought → List ℕ → List ℕ → ℕ → Bool
-is_begun (Tables entry) array octets n =
-    is_so_far (Tables (entry - 1)) array (first_lines (n - 1) octets)
-    && is_so_far (Tables entry) array (first_lines n octets)
-is_begun Key word octets n =
-    not (is_so_far Key word (first_lines (n - 1) octets)) && is_so_far Key word (first_lines n octets)
+is_begun sought word octets n =
+    is_so_far (before sought) word (first_lines (n - 1) octets) && is_so_far sought word (first_lines n octets)
 
 -- the number from which on lines are tried: that of the entry, or the first for a key
 abbrev pub first_tried : Sought → ℕ
 first_tried (Tables entry) = entry
 first_tried Key = 1
+first_tried NoKey = 1
 
 -- a line is tried, and what is sought begins with it
 abbrev pub is_begin : LineKind → Sought → List ℕ → ℕ → List ℕ → List (List ℕ) → List ℕ → Bool

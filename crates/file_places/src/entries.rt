@@ -2,7 +2,7 @@
 
 ghost use Rattle.std.specs.Prelude.{◌≡◌, ◌≤◌, ◌-◌, ◌&&◌, ◌++◌, take, length, Some, IfOk, OnOk};
 ghost use Rattle.toml.specs.View.{table_view};
-ghost use Rattle.file_places.specs.Entries.{begin_line as begin_line_spec, closed, entries_are as entries_are_spec, entry_line, first_tried as first_tried_spec, is_begun as is_begun_spec, is_in as is_in_spec, is_so_far as is_so_far_spec, is_there as is_there_spec, line_of_item as line_of_item_spec, line_of_entry as line_of_entry_spec, line_of_key as line_of_key_spec};
+ghost use Rattle.file_places.specs.Entries.{before as before_spec, begin_line as begin_line_spec, closed, entries_are as entries_are_spec, entry_line, first_tried as first_tried_spec, is_begun as is_begun_spec, is_in as is_in_spec, is_so_far as is_so_far_spec, is_there as is_there_spec, line_of_item as line_of_item_spec, line_of_entry as line_of_entry_spec, line_of_key as line_of_key_spec};
 ghost use Rattle.file_places.specs.Lines.{first_lines, items_skipped as items_skipped_spec};
 
 use crate::lines::{Line, LineKind, counted, is_of_kind, is_tried, items_skipped, line_end};
@@ -19,6 +19,8 @@ pub(crate) enum Sought {
     Tables(usize),
     /// The key itself.
     Key,
+    /// That it isn't there.
+    NoKey,
 }
 
 // Whether a document has an array of so many tables at a key.
@@ -38,6 +40,7 @@ fn is_there(alloc: Global, table: &Table, sought: Sought, word: &str) -> Result<
     match sought {
         Sought::Tables(count) => entries_are(alloc, table, word, count),
         Sought::Key => Ok(value_at(table, word).is_some()),
+        Sought::NoKey => Ok(value_at(table, word).is_none()),
     }
 }
 
@@ -120,42 +123,17 @@ fn is_so_with(
     is_so_until(alloc, octets, line.end, sought, word)
 }
 
-// Whether an entry begins with a line, which reads four documents at most.
-fn is_entry_begun(
-    alloc: Global,
-    octets: &[u8],
-    array: &str,
-    entry: usize,
-    line: Line,
-) -> Result<bool, NoMemory>
-    requires start { line.start ≡ length (first_lines (line.number - 1) octets.now) }
-    requires end { line.end ≡ length (first_lines line.number octets.now) }
-    ensures { IfOk result (λ is. is
-        ≡ is_begun_spec (Sought.Tables entry) array.now octets.now line.number) }
+// What the lines before the one have with which it begins.
+fn before(sought: Sought) -> Sought
+    ensures { result ≡ before_spec sought }
 {
-    let fewer = Sought::Tables(entry.saturating_sub(1));
-    if is_so_before(alloc, octets, line, fewer, array)? {
-        is_so_with(alloc, octets, line, Sought::Tables(entry), array)
-    } else {
-        Ok(false)
+    match sought {
+        Sought::Tables(entry) => Sought::Tables(entry.saturating_sub(1)),
+        Sought::Key | Sought::NoKey => Sought::NoKey,
     }
 }
 
-// Whether a key stands first in a line, which reads four documents at most.
-fn is_key_begun(alloc: Global, octets: &[u8], word: &str, line: Line) -> Result<bool, NoMemory>
-    requires start { line.start ≡ length (first_lines (line.number - 1) octets.now) }
-    requires end { line.end ≡ length (first_lines line.number octets.now) }
-    ensures { IfOk result (λ is. is
-        ≡ is_begun_spec Sought.Key word.now octets.now line.number) }
-{
-    if is_so_before(alloc, octets, line, Sought::Key, word)? {
-        Ok(false)
-    } else {
-        is_so_with(alloc, octets, line, Sought::Key, word)
-    }
-}
-
-// Whether what is sought begins with a line.
+// Whether what is sought begins with a line, which reads four documents at most.
 fn is_begun(
     alloc: Global,
     octets: &[u8],
@@ -168,9 +146,10 @@ fn is_begun(
     ensures { IfOk result (λ is. is
         ≡ is_begun_spec sought word.now octets.now line.number) }
 {
-    match sought {
-        Sought::Tables(entry) => is_entry_begun(alloc, octets, word, entry, line),
-        Sought::Key => is_key_begun(alloc, octets, word, line),
+    if is_so_before(alloc, octets, line, before(sought), word)? {
+        is_so_with(alloc, octets, line, sought, word)
+    } else {
+        Ok(false)
     }
 }
 
@@ -201,7 +180,7 @@ fn first_tried(sought: Sought) -> usize
 {
     match sought {
         Sought::Tables(entry) => entry,
-        Sought::Key => 1,
+        Sought::Key | Sought::NoKey => 1,
     }
 }
 
